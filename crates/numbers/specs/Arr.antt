@@ -1,0 +1,81 @@
+-- Vectors and matrices over flat lists (arr.rs), and what the public calls answer. Definitions only.
+use Prim.Native.Nat.{ℕ, zero, suc, _+_, _*_}
+use mathlib.Core.Bool.{Bool, true, false, not, _&&_, _||_}
+use mathlib.Core.List.{List, [], _∷_, _++_}
+use lib.Dec.{leb, eqb}
+use lib.ListN.{length, take, drop, getD, set, replicate}
+use lib.Ieee.{Float, nan}
+use Rattle.numbers.specs.F64.{_⊕_, _⊗_, 0ᶠ, −0ᶠ, 1ᶠ}
+use Rattle.numbers.specs.Pick.{pick}
+use Rattle.numbers.specs.declared.refusal.Refusal.the-variants.{Dimension, Length}
+use Rattle.numbers.specs.declared.arr.Number.{Number}
+use Rattle.numbers.specs.declared.arr.Number.the-variants.{Value, Refused}
+use Rattle.numbers.specs.declared.arr.Written.{Written}
+use Rattle.numbers.specs.declared.arr.Written.the-variants.{Done, Refused as NotWritten}
+
+-- a point's dimension is 2 to 32
+abbrev pub isDimension : ℕ → Bool
+isDimension n = leb 2 n && leb n 32
+
+-- s, and the products of what the two lists have in common, added left to right
+unfoldable pub dotFrom : Float → List Float → List Float → Float
+dotFrom s [] b = s
+dotFrom s (x ∷ a) [] = s
+dotFrom s (x ∷ a) (y ∷ b) = dotFrom (s ⊕ x ⊗ y) a b
+
+-- `dot`: from the first product on; −0, the sum of no products, where there is none
+unfoldable pub dotOf : List Float → List Float → Float
+dotOf [] b = −0ᶠ
+dotOf (x ∷ a) [] = −0ᶠ
+dotOf (x ∷ a) (y ∷ b) = dotFrom (x ⊗ y) a b
+
+-- row i of a flat table of rows of n
+abbrev pub rowOf : List Float → ℕ → ℕ → List Float
+rowOf table n i = take n (drop (i * n) table)
+
+-- f 0, f 1, .. f (n - 1)
+unfoldable pub tab {ℓ} : {X : Type ℓ} → (ℕ → X) → ℕ → List X
+tab f zero = []
+tab f (suc n) = tab f n ++ (f n ∷ [])
+
+-- matrix times vector: each row's sum begins at plus zero
+unfoldable pub mvOf : ℕ → List Float → List Float → List Float
+unfolding tab
+mvOf n mat x = tab (λ i. dotFrom 0ᶠ (rowOf mat n i) x) n
+
+-- the entries (i, i) for i below k set to v's
+unfoldable pub setDiag : ℕ → List Float → ℕ → List Float → List Float
+setDiag n v zero mat = mat
+setDiag n v (suc i) mat = set (setDiag n v i mat) (i * n + i) (getD v i nan)
+
+-- zeros, and v on the diagonal
+unfoldable pub diagOf : ℕ → List Float → List Float
+unfolding setDiag
+diagOf n v = setDiag n v n (replicate (n * n) 0ᶠ)
+
+-- ---- the public calls: refusal 1, then 2, and nothing written
+
+unfoldable pub dot-answer : ℕ → List Float → List Float → Number
+dot-answer n a b =
+    pick (not (isDimension n)) (Refused Dimension)
+    (pick (not (eqb (length a) n && eqb (length b) n)) (Refused Length)
+    (Value (dotOf a b)))
+
+-- A call that fills `out`: its answer, and `out` as it leaves it. `fit` says that every length is right.
+unfoldable pub fills : ℕ → Bool → List Float → List Float → Written × List Float
+fills n fit filled out =
+    pick (not (isDimension n)) (NotWritten Dimension, out)
+    (pick (not fit) (NotWritten Length, out)
+    (Done, filled))
+
+abbrev pub dot-mv-into-answer : ℕ → List Float → List Float → List Float → Written × List Float
+dot-mv-into-answer n mat x out = fills n (eqb (length mat) (n * n) && eqb (length x) n && eqb (length out) n) (mvOf n mat x) out
+
+abbrev pub copy-from-answer : ℕ → List Float → List Float → Written × List Float
+copy-from-answer n dst src = fills n (eqb (length dst) n && eqb (length src) n) src dst
+
+abbrev pub eye-answer : ℕ → List Float → Written × List Float
+eye-answer n out = fills n (eqb (length out) (n * n)) (diagOf n (replicate n 1ᶠ)) out
+
+abbrev pub from-diag-answer : ℕ → List Float → List Float → Written × List Float
+from-diag-answer n v out = fills n (eqb (length v) n && eqb (length out) (n * n)) (diagOf n v) out

@@ -1,0 +1,23 @@
+-- What a calculator answers: a status with the three numbers that document 01 gives with it. Definitions only.
+use Prim.Native.Nat.{ℕ}
+use Rattle.numbers.specs.F64.{0ᶠ, 1ᶠ}
+use Rattle.numbers.specs.declared.cut.CutStatus.{CutStatus}
+use Rattle.numbers.specs.declared.cut.CutStatus.the-variants.{Success, NoSoln, NoEffect}
+use Rattle.numbers.specs.declared.cut.Params.{Params}
+use Rattle.numbers.specs.declared.cut.Answer.{Answer}
+
+-- Success carries the numbers worked out, NoSoln (0, 0, 0), NoEffect (0, 0, 1).
+abbrev pub success : Params → Answer
+success p = record { status = Success; params = p }
+
+abbrev pub no-soln : Answer
+no-soln = record { status = NoSoln; params = record { rho = 0ᶠ; sigma = 0ᶠ; delta = 0ᶠ } }
+
+abbrev pub no-effect : Answer
+no-effect = record { status = NoEffect; params = record { rho = 0ᶠ; sigma = 0ᶠ; delta = 1ᶠ } }
+
+-- a status as the word that stands for it in a list
+abbrev pub statusNumber : CutStatus → ℕ
+statusNumber Success = 0
+statusNumber NoSoln = 1
+statusNumber NoEffect = 2

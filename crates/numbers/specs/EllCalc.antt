@@ -1,0 +1,81 @@
+-- The calculators (ell_calc.rs, `EllCalc`), in the Rust's order of tests. A test with a NaN in it is false. Definitions only.
+use Prim.Native.Nat.{ℕ}
+use mathlib.Core.Bool.{Bool, true, false, not, _&&_, _||_}
+use lib.IntN.{pos}
+use lib.Ieee.{Float, binary64, lt, le, ofInt}
+use Rattle.numbers.specs.F64.{_⊕_, _⊗_, 0ᶠ}
+use Rattle.numbers.specs.Pick.{pick}
+use Rattle.numbers.specs.Arr.{isDimension}
+use Rattle.numbers.specs.Sqrt.{sqrtOf}
+use Rattle.numbers.specs.Cut.{success, no-soln, no-effect}
+use Rattle.numbers.specs.EllCalcCore.{core-new, core-parallel-bias-cut-fast, core-parallel-central-cut, core-bias-cut-fast, core-bias-cut, core-central-cut}
+use Rattle.numbers.specs.declared.cut.Answer.{Answer}
+use Rattle.numbers.specs.declared.cut.CutChoice.{CutChoice}
+use Rattle.numbers.specs.declared.cut.CutChoice.the-variants.{Single, Parallel}
+use Rattle.numbers.specs.declared.refusal.Refusal.the-variants.{Dimension}
+use Rattle.numbers.specs.declared.ell_calc.EllCalc.{EllCalc}
+use Rattle.numbers.specs.declared.ell_calc.NewEllCalc.{NewEllCalc}
+use Rattle.numbers.specs.declared.ell_calc.NewEllCalc.the-variants.{Made, Refused}
+
+-- the calculators of dimension n, with parallel cuts in use
+unfoldable pub made : ℕ → EllCalc
+made n = record { «n_f» = ofInt binary64 (pos n); helper = core-new (ofInt binary64 (pos n)); «use_parallel_cut» = true }
+
+-- `EllCalc::new`
+unfoldable pub new-answer : ℕ → NewEllCalc
+new-answer n = pick (not (isDimension n)) (Refused Dimension) (Made (made n))
+
+unfoldable pub calc-bias-cut : EllCalc → Float → Float → Answer
+calc-bias-cut c beta tsq =
+    pick (lt tsq (beta ⊗ beta)) no-soln
+    (success (core-bias-cut (c .helper) beta (sqrtOf tsq)))
+
+unfoldable pub calc-bias-cut-q : EllCalc → Float → Float → Answer
+calc-bias-cut-q c beta tsq =
+    let tau = sqrtOf tsq in
+    let eta = tau ⊕ c .«n_f» ⊗ beta in
+    pick (lt tau beta) no-soln
+    (pick (le eta 0ᶠ) no-effect
+    (success (core-bias-cut-fast (c .helper) beta tau eta)))
+
+unfoldable pub calc-central-cut : EllCalc → Float → Answer
+calc-central-cut c tsq = success (core-central-cut (c .helper) tsq)
+
+-- beta1 lies at or beyond the ellipsoid's end, or is not to be used
+abbrev pub single-instead : EllCalc → Float → Float → Bool
+single-instead c beta1 tsq = lt 0ᶠ beta1 && le tsq (beta1 ⊗ beta1) || not (c .«use_parallel_cut»)
+
+-- `discrete` is the q form: it falls back on `calc-bias-cut-q` and tests eta
+unfoldable pub calc-parallel-impl : EllCalc → Float → Float → Float → Bool → Answer
+calc-parallel-impl c beta0 beta1 tsq discrete =
+    let b0b1 = beta0 ⊗ beta1 in
+    let eta = tsq ⊕ c .«n_f» ⊗ b0b1 in
+    pick (lt beta1 beta0) no-soln
+    (pick (single-instead c beta1 tsq) (pick discrete (calc-bias-cut-q c beta0 tsq) (calc-bias-cut c beta0 tsq))
+    (pick (discrete && le eta 0ᶠ) no-effect
+    (success (core-parallel-bias-cut-fast (c .helper) beta0 beta1 tsq b0b1 eta))))
+
+unfoldable pub calc-parallel-bias-cut : EllCalc → Float → Float → Float → Answer
+calc-parallel-bias-cut c beta0 beta1 tsq = calc-parallel-impl c beta0 beta1 tsq false
+
+unfoldable pub calc-parallel-q : EllCalc → Float → Float → Float → Answer
+calc-parallel-q c beta0 beta1 tsq = calc-parallel-impl c beta0 beta1 tsq true
+
+unfoldable pub calc-parallel-central-cut : EllCalc → Float → Float → Answer
+calc-parallel-central-cut c beta1 tsq =
+    pick (lt beta1 0ᶠ) no-soln
+    (pick (le tsq (beta1 ⊗ beta1) || not (c .«use_parallel_cut»)) (calc-central-cut c tsq)
+    (success (core-parallel-central-cut (c .helper) beta1 tsq)))
+
+-- a choice taken apart
+unfoldable pub calc-single-or-parallel-bias-cut : EllCalc → CutChoice → Float → Answer
+calc-single-or-parallel-bias-cut c (Single beta0) tsq = calc-bias-cut c beta0 tsq
+calc-single-or-parallel-bias-cut c (Parallel beta0 beta1) tsq = calc-parallel-bias-cut c beta0 beta1 tsq
+
+unfoldable pub calc-single-or-parallel-central-cut : EllCalc → CutChoice → Float → Answer
+calc-single-or-parallel-central-cut c (Single beta0) tsq = calc-central-cut c tsq
+calc-single-or-parallel-central-cut c (Parallel beta0 beta1) tsq = calc-parallel-central-cut c beta1 tsq
+
+unfoldable pub calc-single-or-parallel-q : EllCalc → CutChoice → Float → Answer
+calc-single-or-parallel-q c (Single beta0) tsq = calc-bias-cut-q c beta0 tsq
+calc-single-or-parallel-q c (Parallel beta0 beta1) tsq = calc-parallel-q c beta0 beta1 tsq

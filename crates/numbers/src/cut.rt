@@ -1,0 +1,76 @@
+// What a cut is, and what a calculator answers (cutting_plane.rs, ell_calc.rs).
+ghost use mathlib.Core.Path.{_≡_};
+ghost use Rattle.numbers.specs.Cut.{success, no-soln, no-effect, statusNumber};
+
+// The bounds of a cut: one number or two.
+pub enum CutChoice {
+    Single(f64),
+    Parallel(f64, f64),
+}
+
+pub enum CutStatus {
+    Success,
+    NoSoln,
+    NoEffect,
+}
+
+impl CutStatus {
+    pub fn number(self) -> u64
+        ensures { λ r. ⌜ r ≡ statusNumber self ⌝ }
+    {
+        match self {
+            CutStatus::Success => 0,
+            CutStatus::NoSoln => 1,
+            CutStatus::NoEffect => 2,
+        }
+    }
+}
+
+// The step, the weight of the rank-one update and the factor of kappa.
+pub struct Params {
+    pub rho: f64,
+    pub sigma: f64,
+    pub delta: f64,
+}
+
+pub struct Answer {
+    pub status: CutStatus,
+    pub params: Params,
+}
+
+impl Answer {
+    pub fn success(params: Params) -> Answer
+        ensures { λ r. ⌜ r ≡ success params ⌝ }
+    {
+        Answer {
+            status: CutStatus::Success,
+            params: params,
+        }
+    }
+
+    pub fn no_soln() -> Answer
+        ensures { λ r. ⌜ r ≡ no-soln ⌝ }
+    {
+        Answer {
+            status: CutStatus::NoSoln,
+            params: Params {
+                rho: 0.0,
+                sigma: 0.0,
+                delta: 0.0,
+            },
+        }
+    }
+
+    pub fn no_effect() -> Answer
+        ensures { λ r. ⌜ r ≡ no-effect ⌝ }
+    {
+        Answer {
+            status: CutStatus::NoEffect,
+            params: Params {
+                rho: 0.0,
+                sigma: 0.0,
+                delta: 1.0,
+            },
+        }
+    }
+}

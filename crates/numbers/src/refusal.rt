@@ -1,0 +1,39 @@
+// Why a call says no. One enum serves the whole project; its numbers are document 01's.
+ghost use mathlib.Core.Path.{_≡_};
+ghost use Rattle.numbers.specs.Refusal.{numberOf};
+
+pub enum Refusal {
+    Dimension,
+    Length,
+    Band,
+    Cursor,
+    Position,
+    NoStopValue,
+    CutShort,
+    ForeignTag,
+    RepeatedTag,
+    MissingTag,
+    Room,
+    Outcome,
+}
+
+impl Refusal {
+    pub fn number(self) -> u8
+        ensures { λ r. ⌜ r ≡ numberOf self ⌝ }
+    {
+        match self {
+            Refusal::Dimension => 1,
+            Refusal::Length => 2,
+            Refusal::Band => 3,
+            Refusal::Cursor => 4,
+            Refusal::Position => 5,
+            Refusal::NoStopValue => 6,
+            Refusal::CutShort => 7,
+            Refusal::ForeignTag => 8,
+            Refusal::RepeatedTag => 9,
+            Refusal::MissingTag => 10,
+            Refusal::Room => 11,
+            Refusal::Outcome => 12,
+        }
+    }
+}
