@@ -124,12 +124,7 @@ pub mod ell_stable {
 
         /// The four scratch vectors, in the order of the fields.
         pub fn scratch(&self) -> [&Arr; 4] {
-            [
-                &self.inv_ml_g,
-                &self.inv_md_inv_ml_g,
-                &self.gg_t,
-                &self.g_t,
-            ]
+            [&self.inv_ml_g, &self.inv_md_inv_ml_g, &self.gg_t, &self.g_t]
         }
     }
 }

@@ -87,7 +87,9 @@ impl Source {
 
     /// The ends of the normal range and their neighbours.
     fn border(&mut self) -> f64 {
-        let at = self.rng.pick(&[LEAST_NORMAL, LARGEST - 1, 2 * LEAST_NORMAL]);
+        let at = self
+            .rng
+            .pick(&[LEAST_NORMAL, LARGEST - 1, 2 * LEAST_NORMAL]);
         self.neighbour(f64::from_bits(at))
     }
 
@@ -101,7 +103,9 @@ impl Source {
     /// Small whole numbers and simple fractions.
     pub fn simple(&mut self) -> f64 {
         let top = self.rng.below(33) as f64;
-        let bottom = self.rng.pick(&[1.0, 1.0, 2.0, 3.0, 4.0, 5.0, 8.0, 10.0, 100.0]);
+        let bottom = self
+            .rng
+            .pick(&[1.0, 1.0, 2.0, 3.0, 4.0, 5.0, 8.0, 10.0, 100.0]);
         top / bottom
     }
 
@@ -146,6 +150,10 @@ impl Source {
         f64::from_bits(word(signed))
     }
 
+    pub fn pick_of_two(&mut self, a: f64, b: f64) -> f64 {
+        self.rng.pick(&[a, b])
+    }
+
     /// The number itself, or the next one on either side.
     pub fn neighbour(&mut self, x: f64) -> f64 {
         match self.rng.below(3) {
@@ -187,8 +195,7 @@ impl Source {
     /// The floats just below and just above the square of a midpoint of two floats.
     fn square_of_midpoint(&mut self) -> f64 {
         let s = (1 << 52) | (self.rng.next() >> 12);
-        let t = 2 * s as u128 + 1;
-        let t_sq = t * t;
+        let t_sq = square(2 * s + 1);
         let cut = 128 - t_sq.leading_zeros() - 53;
         let below = (t_sq >> cut) as u64; // t is odd, so the square is not a float
         let m = if self.rng.coin() { below } else { below + 1 };
@@ -196,24 +203,33 @@ impl Source {
         scale(m, cut as i32 - 2 + 2 * k)
     }
 
-    /// The hardest inputs: an odd t of 54 bits whose square is a float plus a small c.
-    /// Its root is t / 2 less almost nothing, and t / 2 is a midpoint.
+    /// The hardest inputs: t / 2 is a midpoint of two floats and the root is t / 2 less almost nothing.
     fn hard_square(&mut self) -> f64 {
-        let c = 8 * self.rng.range(-64, 64) + 1;
-        let low = odd_root(c as u64);
-        let t = match self.rng.below(4) {
-            0 => low,
-            1 => low.wrapping_neg(),
-            2 => low.wrapping_add(1 << 54),
-            _ => low.wrapping_neg().wrapping_add(1 << 54),
-        } & ((1 << 54) - 1)
-            | (1 << 53);
-        let t_sq = (t as u128) * (t as u128);
-        let cut = 128 - t_sq.leading_zeros() - 53;
-        let m = ((t_sq as i128 - c as i128) >> cut) as u64;
+        let size = 1 << self.rng.below(20);
+        let c = 8 * self.rng.range(-size, size) + 1;
+        let (_, m, cut) = hard_pair(c, self.rng.coin());
         let k = self.rng.range(-590, 458) as i32;
         scale(m, cut as i32 - 2 + 2 * k)
     }
+}
+
+/// An odd t of 54 bits, an m of 53 bits and a cut with t² = m × 2^cut + c.
+fn hard_pair(c: i64, second: bool) -> (u64, u64, u32) {
+    let low = odd_root(c as u64) & ((1 << 54) - 1);
+    let first = low.max((1 << 54) - low); // its square is c modulo 2^55
+    let other = (1 << 54) - first + (1 << 53); // its square is c modulo 2^54 only
+    let t = if second && square(other) >> 107 == 0 {
+        other
+    } else {
+        first
+    };
+    let cut = 128 - square(t).leading_zeros() - 53;
+    let m = ((square(t) as i128 - c as i128) >> cut) as u64;
+    (t, m, cut)
+}
+
+fn square(t: u64) -> u128 {
+    t as u128 * t as u128
 }
 
 /// The t with t² = c modulo 2^56, for c = 1 modulo 8; each round makes more low bits right.
@@ -232,18 +248,16 @@ mod tests {
     use super::*;
 
     #[test]
-    fn hard_squares_are_hard() {
-        let mut src = Source::new(3);
-        let mut close = 0;
-        for _ in 0..1000 {
-            let x = src.hard_square();
-            assert!(x > 0.0 && x.is_finite());
-            let m = (x.to_bits() & FRACTION) | LEAST_NORMAL;
-            let t = 2.0 * (x.sqrt());
-            let _ = (m, t);
-            close += 1;
+    fn hard_pairs_are_exact() {
+        for k in -1000..1000 {
+            for second in [false, true] {
+                let c = 8 * k + 1;
+                let (t, m, cut) = hard_pair(c, second);
+                assert_eq!(t >> 53, 1);
+                assert_eq!(m >> 52, 1);
+                assert_eq!(((m as i128) << cut) + c as i128, square(t) as i128);
+            }
         }
-        assert_eq!(close, 1000);
     }
 
     #[test]
