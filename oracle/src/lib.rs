@@ -3,7 +3,8 @@
 //! A file whose private fields the lists need is `include!`d, so that code beside it can
 //! read and set them. The others are `#[path]` modules; those that begin with an inner
 //! attribute or comment could not be `include!`d. Lints are switched off for these
-//! modules only, since nothing in them is ours to change.
+//! modules only, since nothing in them is ours to change, and `rustfmt::skip` keeps
+//! `cargo fmt` from rewriting the files of the `#[path]` modules.
 
 /// Stands for the file ell_common.rs, which is not among the published ones.
 mod ell_common {
@@ -55,15 +56,18 @@ mod ell_common {
 
 #[allow(warnings, clippy::all)]
 #[path = "../../docs/src/src/arr.rs"]
+#[rustfmt::skip]
 pub mod arr;
 
 #[allow(warnings, clippy::all)]
 #[path = "../../docs/src/src/cutting_plane.rs"]
+#[rustfmt::skip]
 pub mod cutting_plane;
 
 // Every legal cursor is reached from a fresh one by `advance`, so no private field is needed.
 #[allow(warnings, clippy::all)]
 #[path = "../../docs/src/src/round_robin.rs"]
+#[rustfmt::skip]
 pub mod round_robin;
 
 #[allow(warnings, clippy::all)]
@@ -162,6 +166,7 @@ pub mod oracles {
     }
 
     #[allow(warnings, clippy::all)]
+    #[rustfmt::skip]
     pub mod lmi_oracle_base;
 
     #[allow(warnings, clippy::all)]
@@ -218,7 +223,7 @@ pub mod oracles {
             scan_band(spectrum, x, rr, band.0, band.1, lower, upper)
         }
     }
-
     #[allow(warnings, clippy::all)]
+    #[rustfmt::skip]
     pub mod profit_oracle;
 }
