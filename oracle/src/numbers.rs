@@ -353,7 +353,16 @@ fn single(src: &mut Source, n: usize) -> (f64, f64) {
             (src.either_sign(beta), src.neighbour(tsq))
         }
         11 => (src.ordinary(), src.pick_of_two(0.0, -1.0)),
-        12 => (src.zero(), src.positive()),
+        12 => (src.zero(), src.pick_of_two(0.0, 1.0)),
+        13 => {
+            // Just one of the two is a zero, an infinity or NaN.
+            let (beta, tsq) = within(src);
+            if src.rng.coin() {
+                (src.special(), tsq)
+            } else {
+                (beta, src.special())
+            }
+        }
         _ => within(src),
     }
 }
@@ -403,10 +412,17 @@ fn choice(src: &mut Source, n: usize) -> (f64, Option<f64>, f64) {
     }
 }
 
-/// Two betas and a tsq. A pair of ordinary ones stands in half of the cases.
+/// Two betas and a tsq. Betas as an oracle gives them stand in half of the cases.
 fn parallel(src: &mut Source, n: usize) -> (f64, f64, f64) {
     if src.rng.coin() {
-        return band(src, n);
+        let (b0, b1, tsq) = band(src, n);
+        // Sometimes just one of the three is a zero, an infinity or NaN.
+        return match src.rng.below(40) {
+            0 => (src.special(), b1, tsq),
+            1 => (b0, src.special(), tsq),
+            2 => (b0, b1, src.special()),
+            _ => (b0, b1, tsq),
+        };
     }
     let (b0, tsq) = single(src, n);
     let b1 = match src.rng.below(12) {
@@ -654,4 +670,146 @@ fn ell_calc_new(src: &mut Source, case: &mut Case) {
     case.give_floats(&[calc.own_n_f()]);
     case.give_floats(&calc.helper.six());
     case.give(calc.use_parallel_cut as u64);
+}
+
+#[cfg(test)]
+mod tests {
+    use super::*;
+
+    /// A calculator's case, taken apart again.
+    struct Seen {
+        n: f64,
+        parallel: bool,
+        b0: f64,
+        b1: f64,
+        tsq: f64,
+    }
+
+    /// The cases of one calculator; an operation of one beta has it in both places.
+    fn seen(op: u64, count: usize) -> Vec<Seen> {
+        let mut src = Source::new(op);
+        let mut case = Case::default();
+        let mut all = Vec::new();
+        for _ in 0..count {
+            fill(op, &mut src, &mut case);
+            let floats: Vec<f64> = case.input[2..].iter().map(|&w| f64::from_bits(w)).collect();
+            all.push(Seen {
+                n: case.input[0] as f64,
+                parallel: case.input[1] == 1,
+                b0: floats[0],
+                b1: floats[floats.len() - 2],
+                tsq: floats[floats.len() - 1],
+            });
+        }
+        all
+    }
+
+    /// Each of these must stand in at least one of 500 cases.
+    fn must_be_common(op: u64, tests: &[(&str, fn(&Seen) -> bool)]) {
+        let all = seen(op, 100_000);
+        for (name, test) in tests {
+            let found = all.iter().filter(|s| test(s)).count();
+            println!("{op} {name}: {found}");
+            assert!(found >= 200, "{op} {name}: {found}");
+        }
+    }
+
+    #[test]
+    fn single_relations_are_common() {
+        let tests: &[(&str, fn(&Seen) -> bool)] = &[
+            ("tsq < beta²", |s| s.tsq < s.b0 * s.b0),
+            ("tsq = beta²", |s| s.tsq == s.b0 * s.b0),
+            ("tau < beta", |s| s.tsq.sqrt() < s.b0),
+            ("tau = beta", |s| s.tsq.sqrt() == s.b0),
+            ("tau < beta, not tsq < beta²", |s| {
+                s.tsq.sqrt() < s.b0 && !(s.tsq < s.b0 * s.b0)
+            }),
+            ("tsq < beta², not tau < |beta|", |s| {
+                s.tsq < s.b0 * s.b0 && !(s.tsq.sqrt() < s.b0.abs())
+            }),
+            ("eta = 0", |s| {
+                s.tsq.sqrt() + s.n * s.b0 == 0.0 && s.b0 != 0.0
+            }),
+            ("eta = 0 = beta", |s| s.tsq == 0.0 && s.b0 == 0.0),
+            ("eta < 0", |s| s.tsq.sqrt() + s.n * s.b0 < 0.0),
+            ("beta NaN", |s| s.b0.is_nan() && !s.tsq.is_nan()),
+            ("tsq NaN", |s| s.tsq.is_nan() && !s.b0.is_nan()),
+            ("tsq below zero", |s| s.tsq < 0.0),
+            ("tsq infinite", |s| s.tsq == f64::INFINITY),
+            ("beta² overflows", |s| {
+                s.b0.is_finite() && (s.b0 * s.b0).is_infinite()
+            }),
+            ("beta² underflows", |s| s.b0 != 0.0 && s.b0 * s.b0 == 0.0),
+            ("beta minus zero", |s| {
+                s.b0 == 0.0 && s.b0.is_sign_negative()
+            }),
+        ];
+        for op in 25..=27 {
+            must_be_common(op, tests);
+        }
+    }
+
+    #[test]
+    fn parallel_relations_are_common() {
+        let tests: &[(&str, fn(&Seen) -> bool)] = &[
+            ("beta1 < beta0", |s| s.b1 < s.b0),
+            ("beta1 = beta0", |s| s.b1 == s.b0),
+            ("back to one beta", |s| {
+                s.b0 <= s.b1 && s.b1 > 0.0 && s.tsq <= s.b1 * s.b1
+            }),
+            ("tsq = beta1²", |s| {
+                s.b0 <= s.b1 && s.b1 > 0.0 && s.tsq == s.b1 * s.b1
+            }),
+            ("beta1 below zero, tsq <= beta1²", |s| {
+                s.b0 <= s.b1 && s.b1 <= 0.0 && s.tsq <= s.b1 * s.b1
+            }),
+            ("no parallel cuts, though one is due", |s| {
+                !s.parallel && s.b0 <= s.b1 && s.tsq > s.b1 * s.b1
+            }),
+            ("parallel form", |s| {
+                s.parallel && s.b0 < s.b1 && s.tsq > s.b1 * s.b1
+            }),
+            ("eta < 0", |s| {
+                s.parallel && s.b0 <= s.b1 && s.tsq > s.b1 * s.b1 && eta(s) < 0.0
+            }),
+            ("eta = 0", |s| {
+                s.parallel && s.b0 <= s.b1 && s.tsq > s.b1 * s.b1 && eta(s) == 0.0
+            }),
+            ("beta0 NaN", |s| {
+                s.b0.is_nan() && !s.b1.is_nan() && !s.tsq.is_nan()
+            }),
+            ("beta1 NaN", |s| {
+                s.b1.is_nan() && !s.b0.is_nan() && !s.tsq.is_nan()
+            }),
+            ("tsq NaN", |s| {
+                s.tsq.is_nan() && !s.b0.is_nan() && !s.b1.is_nan()
+            }),
+            ("beta1 zero", |s| s.b1 == 0.0 && s.b0 < 0.0),
+            ("beta1² overflows", |s| {
+                s.b1.is_finite() && (s.b1 * s.b1).is_infinite()
+            }),
+            ("beta1² underflows", |s| s.b1 != 0.0 && s.b1 * s.b1 == 0.0),
+        ];
+        for op in [23, 24] {
+            must_be_common(op, tests);
+        }
+    }
+
+    fn eta(s: &Seen) -> f64 {
+        s.tsq + s.n * (s.b0 * s.b1)
+    }
+
+    #[test]
+    fn known_values() {
+        let calc = EllCalc::new(2);
+        let none = (CutStatus::NoSoln, (0.0, 0.0, 0.0));
+        assert_eq!(calc.calc_bias_cut(1.0, 0.25), none);
+        let cut = (CutStatus::Success, (2.0, 1.0, 0.0));
+        assert_eq!(calc.calc_bias_cut(2.0, 4.0), cut);
+        let idle = (CutStatus::NoEffect, (0.0, 0.0, 1.0));
+        assert_eq!(calc.calc_bias_cut_q(-1.0, 4.0), idle);
+        assert_eq!(calc.calc_parallel_bias_cut(1.0, 0.5, 4.0), none);
+        let cut = (CutStatus::Success, (1.0, 1.0, 1.5));
+        assert_eq!(calc.calc_parallel_bias_cut(1.0, 1.0, 4.0), cut);
+    }
 }
