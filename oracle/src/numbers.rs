@@ -1,7 +1,7 @@
 //! The cases of the first layer: root, vectors and matrices, calculators, and their refusals.
 
 use crate::lists::{Case, ABSENT};
-use crate::words::Source;
+use crate::words::{scale, Source};
 use ellalgo_rs::arr::Arr;
 use ellalgo_rs::cutting_plane::{CutStatus, ParallelCut};
 use ellalgo_rs::ell_calc::{EllCalc, EllCalcCore};
@@ -378,11 +378,24 @@ fn tiny(src: &mut Source) -> (f64, f64) {
     (src.either_sign(beta), tsq)
 }
 
-/// An ordinary cut: beta between minus tau and tau, or a little outside.
+/// An ordinary cut: beta between minus tau and tau, or a little outside. Sometimes it is made
+/// larger or smaller as a whole, so that a square or a product of two squares leaves the range.
 fn within(src: &mut Source) -> (f64, f64) {
-    let tsq = src.positive();
-    let part = src.rng.range(-1100, 1100) as f64 / 1000.0;
-    (part * tsq.sqrt(), tsq)
+    let k = if src.rng.once_in(4) { size(src) } else { 0 };
+    let tsq = scale(src.positive(), 2 * k);
+    (part(src) * tsq.sqrt(), tsq)
+}
+
+/// The power of two of a beta whose square, or the square's square, is near an end of the range.
+fn size(src: &mut Source) -> i32 {
+    let ends = [(-540, -500), (-275, -245), (245, 258), (500, 513)];
+    let (lo, hi) = src.rng.pick(&ends);
+    src.rng.range(lo, hi) as i32
+}
+
+/// From −1.1 to 1.1.
+fn part(src: &mut Source) -> f64 {
+    src.rng.range(-1100, 1100) as f64 / 1000.0
 }
 
 /// A beta and a tau for the helper, which tests nothing.
@@ -444,7 +457,7 @@ fn parallel(src: &mut Source, n: usize) -> (f64, f64, f64) {
 
 /// Betas as an oracle gives them, and the same with an eta that is exactly zero.
 fn band(src: &mut Source, n: usize) -> (f64, f64, f64) {
-    match src.rng.below(6) {
+    match src.rng.below(8) {
         0 => {
             // tsq = n p q and the betas are -p and q, all exact.
             let p = src.short();
@@ -457,10 +470,14 @@ fn band(src: &mut Source, n: usize) -> (f64, f64, f64) {
             let (b0, tsq) = (-src.positive(), src.positive());
             (b0, b0 + src.positive() * 0.1, tsq)
         }
+        2 => {
+            // beta1 is zero and tsq is at most beta1²: no way back to one beta.
+            let (b0, tsq) = (-src.positive(), src.pick_of_two(0.0, -1.0));
+            (b0, src.zero(), tsq * src.positive())
+        }
         _ => {
             let (a, tsq) = within(src);
-            let part = src.rng.range(-1100, 1100) as f64 / 1000.0;
-            let b = part * tsq.sqrt();
+            let b = part(src) * tsq.sqrt();
             if src.rng.once_in(8) {
                 (a, b, tsq)
             } else {

@@ -18,9 +18,13 @@ pub fn word(x: f64) -> u64 {
     }
 }
 
-/// m × 2^e for a whole m below 2^53; the steps are exact where the result is a normal number.
-pub fn scale(m: u64, e: i32) -> f64 {
-    let mut x = m as f64;
+/// m × 2^e for a whole m below 2^53.
+fn whole(m: u64, e: i32) -> f64 {
+    scale(m as f64, e)
+}
+
+/// x × 2^e; the steps are exact where the result is a normal number.
+pub fn scale(mut x: f64, e: i32) -> f64 {
     let mut left = e;
     while left != 0 {
         let step = left.clamp(-1000, 1000);
@@ -96,7 +100,7 @@ impl Source {
     /// A power of two of any exponent, or its neighbour.
     pub fn near_power(&mut self) -> f64 {
         let e = self.rng.range(-1074, 1023) as i32;
-        let x = scale(1, e);
+        let x = whole(1, e);
         self.neighbour(x)
     }
 
@@ -118,7 +122,7 @@ impl Source {
     pub fn wide(&mut self, lo: i64, hi: i64) -> f64 {
         let m = (1 << 52) | (self.rng.next() >> 12);
         let e = self.rng.range(lo, hi);
-        scale(m, (e - 52) as i32)
+        whole(m, (e - 52) as i32)
     }
 
     /// 0.01 to 10, positive.
@@ -142,7 +146,7 @@ impl Source {
     pub fn short(&mut self) -> f64 {
         let m = 1 + self.rng.below(1 << 20);
         let e = self.rng.range(-30, 10) as i32;
-        scale(m, e)
+        whole(m, e)
     }
 
     pub fn either_sign(&mut self, x: f64) -> f64 {
@@ -182,7 +186,7 @@ impl Source {
     fn perfect_square(&mut self) -> f64 {
         let s = 1 + (self.rng.next() >> 38 >> self.rng.below(26));
         let k = self.rng.range(-537, 485) as i32;
-        let x = scale(s * s, 2 * k);
+        let x = whole(s * s, 2 * k);
         self.neighbour(x)
     }
 
@@ -200,7 +204,7 @@ impl Source {
         let below = (t_sq >> cut) as u64; // t is odd, so the square is not a float
         let m = if self.rng.coin() { below } else { below + 1 };
         let k = self.rng.range(-590, 458) as i32;
-        scale(m, cut as i32 - 2 + 2 * k)
+        whole(m, cut as i32 - 2 + 2 * k)
     }
 
     /// The hardest inputs: t / 2 is a midpoint of two floats and the root is t / 2 less almost nothing.
@@ -209,7 +213,7 @@ impl Source {
         let c = 8 * self.rng.range(-size, size) + 1;
         let (_, m, cut) = hard_pair(c, self.rng.coin());
         let k = self.rng.range(-590, 458) as i32;
-        scale(m, cut as i32 - 2 + 2 * k)
+        whole(m, cut as i32 - 2 + 2 * k)
     }
 }
 
