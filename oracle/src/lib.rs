@@ -227,3 +227,66 @@ pub mod oracles {
     #[rustfmt::skip]
     pub mod profit_oracle;
 }
+
+/// The scope's known values of the upper layers, which also try the code beside the included files.
+#[cfg(test)]
+mod tests {
+    use crate::arr::Arr;
+    use crate::cutting_plane::{cutting_plane_feas, Options, OracleFeas, ParallelCut};
+    use crate::ell::Ell;
+    use crate::oracles::ldlt_mgr::LDLTMgr;
+    use crate::oracles::lowpass_oracle::LowpassOracle;
+    use crate::round_robin::RoundRobin;
+
+    #[test]
+    fn matrix_with_a_witness() {
+        let mat = Arr::from_shape_vec(2, 2, vec![1.0, 2.0, 2.0, 1.0]);
+        let mut mgr = LDLTMgr::new(2);
+        assert!(!mgr.factorize(&mat));
+        assert_eq!(mgr.pos, (0, 2));
+        assert_eq!(mgr.witness(), 3.0);
+        assert_eq!(mgr.wit.data(), [-2.0, 1.0]);
+        assert_eq!(mgr.sym_quad(&mat), -3.0);
+        assert_eq!(mgr.sym_quad(&Arr::eye(2)), 5.0);
+        assert_eq!(mgr.storage()[3], -3.0);
+    }
+
+    #[test]
+    fn matrix_of_one_zero() {
+        let mut mgr = LDLTMgr::new(1);
+        assert!(!mgr.factorize(&Arr::zeros(1, 1)));
+        assert_eq!(mgr.witness().to_bits(), (-0.0f64).to_bits());
+    }
+
+    fn oracle(rows: &[[f64; 2]], bands: (i32, i32), limits: (f64, f64, f64)) -> LowpassOracle {
+        let spectrum: Vec<Arr> = rows.iter().map(|r| Arr::from(r.to_vec())).collect();
+        let cursors = [(0, bands.0), bands, (bands.1, rows.len() as i32)]
+            .map(|(lo, hi)| RoundRobin::new_range(lo, hi));
+        let idx = [-1, bands.0 - 1, bands.1 - 1];
+        let peak = (f64::NEG_INFINITY, -1);
+        LowpassOracle::with_table(spectrum, bands, limits, cursors, idx, peak, true)
+    }
+
+    #[test]
+    fn three_rows() {
+        let rows = [[1.0, 0.0], [1.0, 1.0], [0.0, 1.0]];
+        let mut omega = oracle(&rows, (1, 2), (1.0, 2.0, 4.0));
+        assert!(omega.assess_feas(&Arr::from(vec![1.5, 1.0])).is_none());
+        assert_eq!((omega.fmax, omega.kmax), (1.0, 2));
+        let (_, beta) = omega.assess_feas(&Arr::from(vec![3.0, 1.0])).unwrap();
+        assert_eq!((omega.idx1, beta), (0, ParallelCut(1.0, Some(2.0))));
+        let (_, beta) = omega.assess_feas(&Arr::from(vec![1.5, -1.0])).unwrap();
+        assert_eq!((omega.idx3, beta), (2, ParallelCut(1.0, Some(5.0))));
+        assert_eq!(omega.cursors().map(RoundRobin::current), [0, 1, 2]);
+    }
+
+    #[test]
+    fn job_of_one_row() {
+        let mut omega = oracle(&[[1.0, 0.0]], (1, 1), (1.0, 2.0, 1.0));
+        let mut space = Ell::new_with_matrix(0.25, Arr::eye(2), Arr::new(2));
+        let (found, steps) = cutting_plane_feas(&mut omega, &mut space, &Options::new(10, 0.0));
+        assert_eq!((found, steps), (None, 0));
+        assert_eq!(space.grad_t().data(), [-1.0, 0.0]);
+        assert_eq!((space.kappa, space.tsq), (0.25, 0.25));
+    }
+}

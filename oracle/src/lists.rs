@@ -58,11 +58,12 @@ impl Case {
         };
         self.start(op);
         for part in [&mut self.input, &mut self.output] {
-            for _ in 0..inner(from)? {
-                part.push(inner(from)?);
+            let count = inner(from)?;
+            if count > MOST as u64 {
+                return Err(io::Error::new(ErrorKind::InvalidData, "a case is too long"));
             }
-            if part.len() > MOST {
-                return Err(ErrorKind::InvalidData.into());
+            for _ in 0..count {
+                part.push(inner(from)?);
             }
         }
         Ok(true)
@@ -75,7 +76,11 @@ fn put(to: &mut impl Write, w: u64) -> io::Result<()> {
 
 /// A word inside a case, where the list may not end.
 fn inner(from: &mut impl Read) -> io::Result<u64> {
-    get(from)?.ok_or_else(|| ErrorKind::UnexpectedEof.into())
+    get(from)?.ok_or_else(cut_short)
+}
+
+fn cut_short() -> io::Error {
+    io::Error::new(ErrorKind::UnexpectedEof, "the list ends inside a case")
 }
 
 /// The next word, or none at the end; an end inside a word is an error.
@@ -85,7 +90,7 @@ fn get(from: &mut impl Read) -> io::Result<Option<u64>> {
     while have < 8 {
         match from.read(&mut bytes[have..])? {
             0 if have == 0 => return Ok(None),
-            0 => return Err(ErrorKind::UnexpectedEof.into()),
+            0 => return Err(cut_short()),
             more => have += more,
         }
     }

@@ -702,6 +702,9 @@ mod tests {
         tsq: f64,
     }
 
+    /// A relation between the numbers of a case, and its name.
+    type Relation = (&'static str, fn(&Seen) -> bool);
+
     /// The cases of one calculator; an operation of one beta has it in both places.
     fn seen(op: u64, count: usize) -> Vec<Seen> {
         let mut src = Source::new(op);
@@ -722,7 +725,7 @@ mod tests {
     }
 
     /// Each of these must stand in at least one of 500 cases.
-    fn must_be_common(op: u64, tests: &[(&str, fn(&Seen) -> bool)]) {
+    fn must_be_common(op: u64, tests: &[Relation]) {
         let all = seen(op, 100_000);
         for (name, test) in tests {
             let found = all.iter().filter(|s| test(s)).count();
@@ -733,16 +736,16 @@ mod tests {
 
     #[test]
     fn single_relations_are_common() {
-        let tests: &[(&str, fn(&Seen) -> bool)] = &[
+        let tests: &[Relation] = &[
             ("tsq < beta²", |s| s.tsq < s.b0 * s.b0),
             ("tsq = beta²", |s| s.tsq == s.b0 * s.b0),
             ("tau < beta", |s| s.tsq.sqrt() < s.b0),
             ("tau = beta", |s| s.tsq.sqrt() == s.b0),
             ("tau < beta, not tsq < beta²", |s| {
-                s.tsq.sqrt() < s.b0 && !(s.tsq < s.b0 * s.b0)
+                s.tsq.sqrt() < s.b0 && s.tsq >= s.b0 * s.b0
             }),
             ("tsq < beta², not tau < |beta|", |s| {
-                s.tsq < s.b0 * s.b0 && !(s.tsq.sqrt() < s.b0.abs())
+                s.tsq < s.b0 * s.b0 && s.tsq.sqrt() >= s.b0.abs()
             }),
             ("eta = 0", |s| {
                 s.tsq.sqrt() + s.n * s.b0 == 0.0 && s.b0 != 0.0
@@ -768,7 +771,7 @@ mod tests {
 
     #[test]
     fn parallel_relations_are_common() {
-        let tests: &[(&str, fn(&Seen) -> bool)] = &[
+        let tests: &[Relation] = &[
             ("beta1 < beta0", |s| s.b1 < s.b0),
             ("beta1 = beta0", |s| s.b1 == s.b0),
             ("back to one beta", |s| {
