@@ -5,8 +5,8 @@
  *
  * The cases of operation 1 are checked and the others passed over. MPFR's range of exponents
  * is far wider than f64's, and the root of every positive finite f64 is a normal f64, so a
- * root rounded to 53 bits is the f64 nearest to the true root. A NaN counts as wrong where
- * none is due, whatever its bits, and is written as 7FF8000000000000.
+ * root rounded to 53 bits is the f64 nearest to the true root. All NaNs count as one, which
+ * lists write as 7FF8000000000000.
  */
 #include <inttypes.h>
 #include <math.h>
