@@ -4,5 +4,9 @@ pub mod Pick
 pub mod Arr
 pub mod Cut
 pub mod Sqrt
+pub mod Isqrt
+pub mod Rounded
+pub mod Units
+pub mod Nearest
 pub mod EllCalcCore
 pub mod EllCalc
