@@ -6,3 +6,4 @@ pub mod Cut
 pub mod Sqrt
 pub mod EllCalcCore
 pub mod EllCalc
+pub mod Known
