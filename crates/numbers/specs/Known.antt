@@ -4,7 +4,7 @@
 use Prim.Native.Nat.{ℕ}
 use mathlib.Core.Path.{_≡_, refl}
 use mathlib.Core.List.{List, [], _∷_, map}
-use lib.Ieee.{binary64, span, climb, size, odd, units, round, neg, sum, add, sub, mul, div, lt, eq, le, ofInt, ofFields, ofBits, toBits}
+use lib.Ieee.{binary64, sub, mul, div, le, ofInt, ofBits, toBits}
 use Rattle.numbers.specs.Pick.{pick}
 use Rattle.numbers.specs.Sqrt.{isqrtTo, isqrt, rounded, sqrtOf}
 use Rattle.numbers.specs.Cut.{statusNumber}
@@ -54,5 +54,5 @@ rows =
     []
 
 pub known : map (λ r. r .got) rows ≡ map (λ r. r .expected) rows
-unfolding span climb size odd units round neg sum add sub mul div lt eq le ofInt ofFields ofBits toBits pick isqrtTo isqrt rounded sqrtOf core-new core-parallel-bias-cut-fast core-bias-cut-fast core-bias-cut made calc-bias-cut calc-bias-cut-q calc-parallel-impl calc-parallel-bias-cut
+unfolding sub mul div le ofInt ofBits toBits pick isqrtTo isqrt rounded sqrtOf core-new core-parallel-bias-cut-fast core-bias-cut-fast core-bias-cut made calc-bias-cut calc-bias-cut-q calc-parallel-impl calc-parallel-bias-cut
 known = refl
