@@ -10,3 +10,4 @@ pub mod Units
 pub mod Nearest
 pub mod EllCalcCore
 pub mod EllCalc
+pub mod Known
