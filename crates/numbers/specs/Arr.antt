@@ -55,18 +55,16 @@ diagOf n v = setDiag n v n (replicate (n * n) 0ᶠ)
 
 -- ---- the public calls: refusal 1, then 2, and nothing written
 
-unfoldable pub dot-answer : ℕ → List Float → List Float → Number
-dot-answer n a b =
-    pick (not (isDimension n)) (Refused Dimension)
-    (pick (not (eqb (length a) n && eqb (length b) n)) (Refused Length)
-    (Value (dotOf a b)))
+-- What a call answers that tests the dimension n and then its lengths, of which `fit` says that they are right.
+unfoldable pub tested {ℓ} : {X : Type ℓ} → ℕ → Bool → X → X → X → X
+tested n fit dimension length done = pick (not (isDimension n)) dimension (pick (not fit) length done)
 
--- A call that fills `out`: its answer, and `out` as it leaves it. `fit` says that every length is right.
-unfoldable pub fills : ℕ → Bool → List Float → List Float → Written × List Float
-fills n fit filled out =
-    pick (not (isDimension n)) (NotWritten Dimension, out)
-    (pick (not fit) (NotWritten Length, out)
-    (Done, filled))
+abbrev pub dot-answer : ℕ → List Float → List Float → Number
+dot-answer n a b = tested n (eqb (length a) n && eqb (length b) n) (Refused Dimension) (Refused Length) (Value (dotOf a b))
+
+-- A call that fills `out`: its answer, and `out` as it leaves it.
+abbrev pub fills : ℕ → Bool → List Float → List Float → Written × List Float
+fills n fit filled out = tested n fit (NotWritten Dimension, out) (NotWritten Length, out) (Done, filled)
 
 abbrev pub dot-mv-into-answer : ℕ → List Float → List Float → List Float → Written × List Float
 dot-mv-into-answer n mat x out = fills n (eqb (length mat) (n * n) && eqb (length x) n && eqb (length out) n) (mvOf n mat x) out

@@ -1,0 +1,203 @@
+-- Laws of the definitions of Arr, for the proofs here and in the crates above. Assumes nothing.
+use mathlib.Core.Path.{_≡_, refl, sym, ap, _∙_}
+use mathlib.Core.Bool.{Bool, true, false, not}
+use mathlib.Core.List.{List, [], _∷_, _++_, append-nil}
+use mathlib.Core.Logic.{⊎-elim}
+use Prim.Native.Nat.{ℕ, zero, suc, _≤_, _<_, _+_, _*_, min}
+use native.Mathlib.Nat.{le-of-suc-le-suc, eq-or-lt-of-le, suc-mul, mul-le-mul-right}
+use native.Mathlib.Numerals.{add-one}
+use native.Mathlib.Omega.{arith}
+use borrow.Author.Tests.{ltb-true, ltb-false, leb-true, leb-false, eqb-true, eqb-false}
+use lib.Dec.{leb, ltb, eqb}
+use lib.ListN.{length, take, drop, getD, set, replicate, length-append, length-take, length-drop, length-set, length-replicate, drop-of-length-le, getD-replicate, replicate-append-replicate, List·getD-append}
+use lib.Seq.{drop-cons, take-suc, set-at, getD-at, append-snoc, getD-set-same, getD-set-other}
+use lib.Ieee.{Float, nan}
+use Rattle.numbers.specs.F64.{_⊕_, _⊗_, 0ᶠ, 1ᶠ}
+use Rattle.numbers.specs.Pick.{pick, hit, skip}
+use Rattle.numbers.specs.Arr.{isDimension, dotFrom, rowOf, tab, mvOf, setDiag, diagOf, tested}
+
+-- ---- sums of products
+
+dot-nil : (s : Float) (a : List Float) → dotFrom s a [] ≡ s
+unfolding dotFrom
+dot-nil s [] = refl
+dot-nil s (x ∷ a) = refl
+
+-- one product more
+pub dot-step : (s : Float) (a b : List Float) (i : ℕ) → i < length a → i < length b
+    → dotFrom (s ⊕ getD a i nan ⊗ getD b i nan) (drop (i + 1) a) (drop (i + 1) b) ≡ dotFrom s (drop i a) (drop i b)
+unfolding dotFrom
+dot-step s a b i h k = rw (add-one, drop-cons a i nan, drop-cons b i nan)
+
+-- none left
+pub dot-end : (s : Float) (a b : List Float) (i : ℕ) → min (length a) (length b) ≤ i → dotFrom s (drop i a) (drop i b) ≡ s
+unfolding dotFrom
+dot-end s a b i h = go (leb (length a) i) refl
+  where
+    go : (t : Bool) → leb (length a) i ≡ t → dotFrom s (drop i a) (drop i b) ≡ s
+    go true e = rw (drop-of-length-le a (leb-true (length a) i e))
+    go false e =
+        let l : length b ≤ i = omega (arith, leb-false (length a) i e) in
+        rw (drop-of-length-le b l) (dot-nil s (drop i a))
+
+-- ---- tables
+
+module _ {ℓ} {X : Type ℓ} (f : ℕ → X) where
+  pub length-tab : (n : ℕ) → length (tab f n) ≡ n
+  unfolding tab
+  length-tab zero = refl
+  length-tab (suc n) = simp (length-append, length-tab n) (add-one n)
+
+  pub getD-tab : (n i : ℕ) (d : X) → i < n → getD (tab f n) i d ≡ f i
+  unfolding tab
+  getD-tab zero i d h = absurd (omega arith)
+  getD-tab (suc n) i d h =
+      ⊎-elim (λ e. rw e (getD-at (tab f n) (f n) [] d n (length-tab n)))
+      (λ l. List·getD-append (tab f n) (f n ∷ []) d i (rw (length-tab n) l) ∙ getD-tab n i d l)
+      (eq-or-lt-of-le (le-of-suc-le-suc h))
+
+  pub tab-same : (g : ℕ → X) (n : ℕ) → ((i : ℕ) → i < n → f i ≡ g i) → tab f n ≡ tab g n
+  unfolding tab
+  tab-same g zero h = refl
+  tab-same g (suc n) h = rw (tab-same g n (λ i l. h i (omega arith)), h n (omega arith))
+
+-- the table of a list's elements is the list
+pub tab-getD {ℓ} : {X : Type ℓ} (xs : List X) (d : X) (n : ℕ) → n ≤ length xs → tab (λ i. getD xs i d) n ≡ take n xs
+unfolding tab
+tab-getD xs d zero h = refl
+tab-getD xs d (suc n) h = rw (tab-getD xs d n (omega arith), take-suc xs n d)
+
+pub tab-replicate {ℓ} : {X : Type ℓ} (v : X) (n : ℕ) → tab (λ i. v) n ≡ replicate n v
+unfolding tab
+tab-replicate v zero = refl
+tab-replicate v (suc n) = rw (tab-replicate v n, replicate-append-replicate n 1 v, add-one)
+
+-- ---- a loop that fills a list from the front with f 0, f 1, ..: `xs` before turn i, `xs₀` before the loop
+
+pub record Half {ℓ} {X : Type ℓ} (f : ℕ → X) (xs₀ xs : List X) (i : ℕ) : Type ℓ where
+  pub within : i ≤ length xs₀
+  pub long : length xs ≡ length xs₀
+  pub is : xs ≡ tab f i ++ drop i xs₀
+
+module _ {ℓ} {X : Type ℓ} (f : ℕ → X) (xs₀ : List X) where
+  pub half-start : Half f xs₀ xs₀ 0
+  unfolding tab
+  half-start = record { within = omega arith; long = refl; is = refl }
+
+  stored : (i : ℕ) (v : X) → i < length xs₀ → set (tab f i ++ drop i xs₀) i v ≡ tab f i ++ (v ∷ []) ++ drop (suc i) xs₀
+  stored i v l =
+      rw (drop-cons xs₀ i v, set-at (tab f i) (getD xs₀ i v) (drop (suc i) xs₀) v i (length-tab f i))
+      (sym (append-snoc (tab f i) v (drop (suc i) xs₀)))
+
+  pub half-turn : (xs : List X) (i : ℕ) (v : X) → Half f xs₀ xs i → i < length xs₀ → v ≡ f i → Half f xs₀ (set xs i v) (i + 1)
+  unfolding tab
+  half-turn xs i v h l e = record {
+    within = omega arith;
+    long = simp length-set (h .long);
+    is = rw (h .is, add-one, ← e) (stored i v l);
+  }
+
+  pub half-done : (xs : List X) (i : ℕ) → Half f xs₀ xs i → length xs₀ ≤ i → xs ≡ tab f (length xs₀)
+  half-done xs i h l =
+      let e : i ≡ length xs₀ = omega (arith, h .within) in
+      h .is ∙ rw (drop-of-length-le xs₀ l, append-nil, e)
+
+-- ---- rows
+
+-- row i of m rows of n ends within the table
+pub row-in : (n i m : ℕ) → i < m → i * n + n ≤ m * n
+row-in n i m h = omega (arith, suc-mul i n, mul-le-mul-right n h)
+
+-- an index below n in a row tells the row
+row-le : (n i j k l : ℕ) → l < n → i * n + j ≡ k * n + l → i ≤ k
+row-le n i j k l g e = go (ltb k i) refl
+  where
+    go : (t : Bool) → ltb k i ≡ t → i ≤ k
+    go true q = absurd (omega (arith, row-in n k i (ltb-true k i q)))
+    go false q = ltb-false k i q
+
+pub row-unique : (n i j k l : ℕ) → j < n → l < n → i * n + j ≡ k * n + l → i ≡ k
+row-unique n i j k l h g e = omega (arith, row-le n i j k l g e, row-le n k l i j h (sym e))
+
+pub length-row : (table : List Float) (n i : ℕ) → i * n + n ≤ length table → length (rowOf table n i) ≡ n
+length-row table n i h = simp (length-take, length-drop) (omega arith)
+
+-- ---- matrix times vector
+
+module _ (n : ℕ) (mat x : List Float) where
+  pub length-mv : length (mvOf n mat x) ≡ n
+  unfolding mvOf
+  length-mv = length-tab (λ i. dotFrom 0ᶠ (rowOf mat n i) x) n
+
+  pub mv-at : (i : ℕ) → i < n → getD (mvOf n mat x) i nan ≡ dotFrom 0ᶠ (rowOf mat n i) x
+  unfolding mvOf
+  mv-at i h = getD-tab (λ i. dotFrom 0ᶠ (rowOf mat n i) x) n i nan h
+
+-- ---- the diagonal
+
+module _ (n : ℕ) (v : List Float) where
+  pub length-setDiag : (k : ℕ) (mat : List Float) → length (setDiag n v k mat) ≡ length mat
+  unfolding setDiag
+  length-setDiag zero mat = refl
+  length-setDiag (suc k) mat = simp length-set (length-setDiag k mat)
+
+  pub length-diag : length (diagOf n v) ≡ n * n
+  unfolding diagOf
+  length-diag = length-setDiag n (replicate (n * n) 0ᶠ) ∙ length-replicate (n * n) 0ᶠ
+
+  on : (k : ℕ) (mat : List Float) (i : ℕ) → k ≤ n → n * n ≤ length mat → i < k → getD (setDiag n v k mat) (i * n + i) nan ≡ getD v i nan
+  unfolding setDiag
+  on zero mat i l g h = absurd (omega (arith, h))
+  on (suc k) mat i l g h =
+      ⊎-elim
+      (λ (e : i ≡ k). rw e
+      (getD-set-same (setDiag n v k mat) (k * n + k) (getD v k nan) nan (rw (length-setDiag k mat) (omega (arith, row-in n k n (omega arith))))))
+      (λ (lt : i < k).
+      getD-set-other (setDiag n v k mat) (k * n + k) (i * n + i) (getD v k nan) nan
+      (λ q. absurd (omega (arith, row-unique n i i k k (omega arith) (omega arith) q)))
+      ∙ on k mat i (omega arith) g lt)
+      (eq-or-lt-of-le (le-of-suc-le-suc h))
+
+  off : (k : ℕ) (mat : List Float) (i j : ℕ) → k ≤ n → j < n → (i ≡ j → ⊥) → getD (setDiag n v k mat) (i * n + j) nan ≡ getD mat (i * n + j) nan
+  unfolding setDiag
+  off zero mat i j l h g = refl
+  off (suc k) mat i j l h g =
+      getD-set-other (setDiag n v k mat) (k * n + k) (i * n + j) (getD v k nan) nan
+      (λ q.
+      let e : i ≡ k = row-unique n i j k k h (omega arith) q in
+      let p : i * n ≡ k * n = ap (λ (z : ℕ). z * n) e in
+      g (omega arith))
+      ∙ off k mat i j (omega arith) h g
+
+  -- what from_diag writes, by row and column
+  pub diag-at : (i j : ℕ) → i < n → j < n → getD (diagOf n v) (i * n + j) nan ≡ pick (eqb i j) (getD v i nan) 0ᶠ
+  unfolding diagOf
+  diag-at i j h g = go (eqb i j) refl
+    where
+      go : (t : Bool) → eqb i j ≡ t → getD (setDiag n v n (replicate (n * n) 0ᶠ)) (i * n + j) nan ≡ pick (eqb i j) (getD v i nan) 0ᶠ
+      go true e =
+          hit (eqb i j) (getD v i nan) 0ᶠ _ e
+          (rw (← eqb-true i j e) (on n (replicate (n * n) 0ᶠ) i (omega arith) (rw (length-replicate (n * n) 0ᶠ) (omega arith)) h))
+      go false e =
+          skip (eqb i j) (getD v i nan) 0ᶠ _ e
+          (off n (replicate (n * n) 0ᶠ) i j (omega arith) g (eqb-false i j e)
+          ∙ getD-replicate (n * n) (i * n + j) 0ᶠ nan (omega (arith, row-in n i n h)))
+
+-- what eye writes
+pub eye-at : (n i j : ℕ) → i < n → j < n → getD (diagOf n (replicate n 1ᶠ)) (i * n + j) nan ≡ pick (eqb i j) 1ᶠ 0ᶠ
+eye-at n i j h g = diag-at n (replicate n 1ᶠ) i j h g ∙ rw (getD-replicate n i 1ᶠ nan h)
+
+-- ---- the answers of the public calls, by what the tests say
+
+module _ {ℓ} {X : Type ℓ} (n : ℕ) (fit : Bool) (one two done : X) where
+  pub wrong-dimension : isDimension n ≡ false → one ≡ tested n fit one two done
+  unfolding tested
+  wrong-dimension h = hit _ _ _ _ (ap not h) refl
+
+  pub wrong-length : isDimension n ≡ true → fit ≡ false → two ≡ tested n fit one two done
+  unfolding tested
+  wrong-length h k = skip _ _ _ _ (ap not h) (hit _ _ _ _ (ap not k) refl)
+
+  pub right : isDimension n ≡ true → fit ≡ true → done ≡ tested n fit one two done
+  unfolding tested
+  right h k = skip _ _ _ _ (ap not h) (skip _ _ _ _ (ap not k) refl)
