@@ -1,6 +1,6 @@
 -- Vectors and matrices over flat lists (arr.rs), and what the public calls answer. Definitions only.
 use Prim.Native.Nat.{ℕ, zero, suc, _+_, _*_}
-use mathlib.Core.Bool.{Bool, true, false, not, _&&_, _||_}
+use mathlib.Core.Bool.{Bool, not, _&&_}
 use mathlib.Core.List.{List, [], _∷_, _++_}
 use lib.Dec.{leb, eqb}
 use lib.ListN.{length, take, drop, getD, set, replicate}
@@ -55,9 +55,9 @@ diagOf n v = setDiag n v n (replicate (n * n) 0ᶠ)
 
 -- ---- the public calls: refusal 1, then 2, and nothing written
 
--- What a call answers that tests the dimension n and then its lengths, of which `fit` says that they are right.
+-- What a call answers that tests the dimension n, and then its lengths, which are right where `fit` is true.
 unfoldable pub tested {ℓ} : {X : Type ℓ} → ℕ → Bool → X → X → X → X
-tested n fit dimension length done = pick (not (isDimension n)) dimension (pick (not fit) length done)
+tested n fit one two done = pick (not (isDimension n)) one (pick (not fit) two done)
 
 abbrev pub dot-answer : ℕ → List Float → List Float → Number
 dot-answer n a b = tested n (eqb (length a) n && eqb (length b) n) (Refused Dimension) (Refused Length) (Value (dotOf a b))

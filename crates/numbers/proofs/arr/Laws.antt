@@ -11,7 +11,7 @@ use lib.Dec.{leb}
 use lib.ListN.{length, take, drop, getD, set, replicate, length-replicate}
 use lib.Seq.{take-all}
 use lib.Ieee.{Float, nan, neg, ofBits}
-use Rattle.numbers.specs.F64.{_⊕_, _⊗_, 0ᶠ, 1ᶠ}
+use Rattle.numbers.specs.F64.{_⊕_, _⊗_, 0ᶠ}
 use Rattle.numbers.specs.Arr.{isDimension, dotFrom, dotOf, rowOf, tab, mvOf, setDiag, diagOf}
 use Rattle.numbers.specs.ArrLaws.{dot-step, dot-end, tab-getD, row-in}
 
@@ -26,16 +26,11 @@ module _ (a b : List Float) (s : Float) (i : ℕ) {d : Float} (e : dotFrom s (dr
 
 -- ---- `dotOf` by the tests of the code
 
-pub none-left : (a b : List Float) → length a ≡ 0 → neg 0ᶠ ≡ dotOf a b
+pub none : (a b : List Float) → min (length a) (length b) ≡ 0 → neg 0ᶠ ≡ dotOf a b
 unfolding dotOf neg ofBits
-none-left [] b h = refl
-none-left (x ∷ a) b h = absurd (omega (arith, h))
-
-pub none-right : (a b : List Float) → length b ≡ 0 → neg 0ᶠ ≡ dotOf a b
-unfolding dotOf neg ofBits
-none-right [] b h = refl
-none-right (x ∷ a) [] h = refl
-none-right (x ∷ a) (y ∷ b) h = absurd (omega (arith, h))
+none [] b h = refl
+none (x ∷ a) [] h = refl
+none (x ∷ a) (y ∷ b) h = absurd (omega (arith, h))
 
 pub first-on : (a b : List Float) → 0 < length a → 0 < length b → dotFrom (getD a 0 nan ⊗ getD b 0 nan) (drop 1 a) (drop 1 b) ≡ dotOf a b
 unfolding dotOf
@@ -98,15 +93,12 @@ no-right s t h k = rw (h, k)
 pub both : (s t : Bool) → s ≡ true → t ≡ true → (s && t) ≡ true
 both s t h k = rw (h, k)
 
--- ---- the ones that eye puts on the diagonal
+-- ---- a part of one value many times
 
 pub take-replicate {ℓ} : {X : Type ℓ} (n m : ℕ) (v : X) → n ≤ m → take n (replicate m v) ≡ replicate n v
 take-replicate zero m v h = refl
 take-replicate (suc n) zero v h = absurd (omega (arith, h))
 take-replicate {X} (suc n) (suc m) v h = ap (λ (l : List X). v ∷ l) (take-replicate n m v (le-of-suc-le-suc h))
 
-pub ones : (n : ℕ) → n ≤ 32 → take n (replicate 32 1ᶠ) ≡ replicate n 1ᶠ
-ones n h = take-replicate n 32 1ᶠ h
-
-pub ones-long : (n : ℕ) → n ≤ 32 → n ≡ length (take n (replicate 32 1ᶠ))
-ones-long n h = sym (length-replicate n 1ᶠ) ∙ ap length (sym (ones n h))
+pub same-long {ℓ} : {X : Type ℓ} (v : X) (n : ℕ) → n ≤ 32 → n ≡ length (take n (replicate 32 v))
+same-long v n h = sym (length-replicate n v) ∙ ap length (sym (take-replicate n 32 v h))

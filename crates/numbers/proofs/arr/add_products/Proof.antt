@@ -9,10 +9,10 @@ use Rattle.numbers.proofs.arr.add_products.Statement.{statement}
 use Rattle.numbers.proofs.arr.add_products.Tie as tie
 
 abbrev Inv-loop : tie.InvT-loop
-Inv-loop start a b from n s₀ i₀ s i = dotFrom s (drop i a) (drop i b) ≡ dotFrom start (drop from a) (drop from b)
+Inv-loop start a b from common s₀ i₀ s i = dotFrom s (drop i a) (drop i b) ≡ dotFrom start (drop from a) (drop from b)
 
 abbrev μ-loop : tie.MeasureT-loop
-μ-loop start a b from n s₀ i₀ s i = n - i
+μ-loop start a b from common s₀ i₀ s i = common - i
 
 shorter-requires : tie.Need-shorter-requires Inv-loop μ-loop
 shorter-requires c κs = search needs

@@ -19,13 +19,15 @@ returns-2 : tie.Need-returns-2
 returns-2 c =
     let n = c .before .before .before .before .before .args .n in
     let d = c .before .before .is-dimension in
-    wrong-length _ _ _ _ _ (a-dimension n (d .result) (d .ensures) (c .before .if1 .left)) (no-left _ _ (ne-eqb _ _ (c .if2 .taken)))
+    wrong-length _ _ _ _ _ (a-dimension n (d .result) (d .ensures) (c .before .if1 .left))
+    (no-left _ _ (ne-eqb _ _ (c .if2 .taken)))
 
 returns-3 : tie.Need-returns-3
 returns-3 c =
     let n = c .before .before .before .before .before .before .args .n in
     let d = c .before .before .before .is-dimension in
-    wrong-length _ _ _ _ _ (a-dimension n (d .result) (d .ensures) (c .before .before .if1 .left)) (no-right _ _ (eq-eqb _ _ (c .before .if2 .left)) (ne-eqb _ _ (c .if3 .taken)))
+    wrong-length _ _ _ _ _ (a-dimension n (d .result) (d .ensures) (c .before .before .if1 .left))
+    (no-right _ _ (eq-eqb _ _ (c .before .if2 .left)) (ne-eqb _ _ (c .if3 .taken)))
 
 copy-all-requires : tie.Need-copy-all-requires
 copy-all-requires c κs = search needs
@@ -35,9 +37,12 @@ same-length c = search needs
 
 returns-4 : tie.Need-returns-4
 returns-4 c =
-    let n = c .before .before .before .before .before .before .before .before .before .before .args .n in
-    let d = c .before .before .before .before .before .before .before .is-dimension in
-    rw (c .before .before .copy-all .ensures) (right _ _ _ _ _ (a-dimension n (d .result) (d .ensures) (c .before .before .before .before .before .before .if1 .left)) (both _ _ (eq-eqb _ _ (c .before .before .before .before .before .if2 .left)) (eq-eqb _ _ (c .before .before .before .before .if3 .left))))
+    let e = c .before .before .before .before in
+    let n = e .before .before .before .before .before .before .args .n in
+    let d = e .before .before .before .is-dimension in
+    let known = a-dimension n (d .result) (d .ensures) (e .before .before .if1 .left) in
+    let fit = both _ _ (eq-eqb _ _ (e .before .if2 .left)) (eq-eqb _ _ (e .if3 .left)) in
+    rw (c .before .before .copy-all .ensures) (right _ _ _ _ _ known fit)
 
 pub copy-from-spec : {M : Type 1} → statement M
 copy-from-spec =

@@ -4,9 +4,10 @@ use Prim.Native.Nat.{_≤_}
 use native.Mathlib.Omega.{arith}
 use borrow.Author.Tests.{ne-eqb, eq-eqb}
 use borrow.Author.Needs.{needs}
+use Rattle.numbers.specs.F64.{1ᶠ}
 use Rattle.numbers.specs.Arr.{diagOf}
 use Rattle.numbers.specs.ArrLaws.{wrong-dimension, wrong-length, right}
-use Rattle.numbers.proofs.arr.Laws.{ones, ones-long, no-dimension, a-dimension, small, square}
+use Rattle.numbers.proofs.arr.Laws.{same-long, take-replicate, no-dimension, a-dimension, small, square}
 use Rattle.numbers.proofs.arr.eye.Statement.{statement}
 use Rattle.numbers.proofs.arr.eye.Tie as tie
 
@@ -29,7 +30,8 @@ returns-2 : tie.Need-returns-2
 returns-2 c =
     let n = c .before .before .before .before .args .n in
     let d = c .before .before .is-dimension in
-    wrong-length _ _ _ _ _ (a-dimension n (d .result) (d .ensures) (c .before .if1 .left)) (ne-eqb _ _ (c .if2 .taken))
+    wrong-length _ _ _ _ _ (a-dimension n (d .result) (d .ensures) (c .before .if1 .left))
+    (ne-eqb _ _ (c .if2 .taken))
 
 array-share-prefix-ones : tie.Need-array-share-prefix-ones
 array-share-prefix-ones c =
@@ -41,14 +43,14 @@ slice-aggregate-diagonal-into : tie.Need-slice-aggregate-diagonal-into
 slice-aggregate-diagonal-into c =
     let n = c .before .before .before .before .before .args .n in
     let d = c .before .before .before .is-dimension in
-    ones-long n (small n (d .result) (d .ensures) (c .before .before .if1 .left))
+    same-long _ n (small n (d .result) (d .ensures) (c .before .before .if1 .left))
 
 diagonal-into-requires : tie.Need-diagonal-into-requires
 diagonal-into-requires c κs =
     let n = c .before .before .before .before .before .before .args .n in
     let d = c .before .before .before .before .is-dimension in
     let h : n ≤ 32 = small n (d .result) (d .ensures) (c .before .before .before .if1 .left) in
-    (h, sym (ones-long n h), search needs)
+    (h, sym (same-long _ n h), search needs)
 
 same-length : tie.Need-same-length
 same-length c = search needs
@@ -58,7 +60,7 @@ returns-3 c =
     let n = c .before .before .before .before .before .before .before .before .before .args .n in
     let d = c .before .before .before .before .before .before .before .is-dimension in
     let h = c .before .before .before .before .before .before .if1 .left in
-    rw (c .before .before .diagonal-into .ensures ∙ ap (diagOf n) (ones n (small n (d .result) (d .ensures) h)))
+    rw (c .before .before .diagonal-into .ensures ∙ ap (diagOf n) (take-replicate n 32 1ᶠ (small n (d .result) (d .ensures) h)))
     (right _ _ _ _ _ (a-dimension n (d .result) (d .ensures) h) (eq-eqb _ _ (c .before .before .before .before .before .if2 .left)))
 
 pub eye-spec : {M : Type 1} → statement M
