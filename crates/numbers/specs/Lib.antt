@@ -2,6 +2,7 @@ pub mod Refusal
 pub mod F64
 pub mod Pick
 pub mod Arr
+pub mod ArrLaws
 pub mod Cut
 pub mod Sqrt
 pub mod Isqrt
