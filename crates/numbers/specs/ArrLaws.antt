@@ -1,27 +1,22 @@
 -- Laws of the definitions of Arr, for the proofs here and in the crates above. Assumes nothing.
-use mathlib.Core.Bool.{_&&_, cond, Bool, true, false, not}
+use mathlib.Core.Bool.{Bool, true, false, not}
 use mathlib.Core.Path.{_≡_, refl, sym, ap, _∙_}
 use mathlib.Core.List.{List, [], _∷_, _++_, append-nil}
 use mathlib.Core.Logic.{⊎-elim}
-use Prim.Native.Nat.{_-_, _/_, _%_, _^_, ℕ, zero, suc, _≤_, _<_, _+_, _*_, min}
-use native.Mathlib.Nat.{mul-assoc, mul-comm, mul-right-comm, mul-one, one-mul, zero-mul, zero-add, sub-zero, mul-lt-mul-of-pos-right, lt-of-mul-lt-mul-right, le-of-suc-le-suc, eq-or-lt-of-le, suc-mul, mul-le-mul-right}
+use Prim.Native.Nat.{ℕ, zero, suc, _≤_, _<_, _+_, _*_, min}
+use native.Mathlib.Nat.{le-of-suc-le-suc, eq-or-lt-of-le, suc-mul, mul-le-mul-right}
 use native.Mathlib.Numerals.{add-one}
 use native.Mathlib.Omega.{arith}
 use borrow.Author.Tests.{ltb-true, ltb-false, leb-true, leb-false, eqb-true, eqb-false}
-use lib.IntN.{ℤ, pos, negsuc}
-use lib.Pow.{pow-lt, pow-add, pow-pos}
-use lib.Dec.{T, ltb→lt, leb→le, leb, ltb, eqb}
-use lib.Ieee.{inf, fin, Format, binary64, prec, emax, low, up, down, size, hid, top, round, sum, add, fits, toBits, ofBits, Float, nan}
-use lib.Ieee.Digits.{back}
-use lib.Ieee.Exact.{HasValue, round-exact}
-use lib.Ieee.Nearest.{div-same}
-use lib.Ieee.Fits.{down-pos, and-l, and-r, round-fits, mul-fits}
-use lib.Ieee.Bits.{ofBits-toBits}
+use lib.Dec.{leb, ltb, eqb}
+use lib.Ieee.{binary64, Float, nan}
+use lib.Ieee.Fits.{mul-fits}
 use lib.ListN.{length, take, drop, getD, set, replicate, length-append, length-take, length-drop, length-set, length-replicate, drop-of-length-le, getD-replicate, replicate-append-replicate, List·getD-append}
 use lib.Seq.{drop-cons, take-suc, set-at, getD-at, append-snoc, getD-set-same, getD-set-other}
 use Rattle.numbers.specs.F64.{−0ᶠ, _⊕_, _⊗_, 0ᶠ, 1ᶠ}
 use Rattle.numbers.specs.Arr.{dotOf, isDimension, dotFrom, rowOf, tab, mvOf, setDiag, diagOf, tested}
 use Rattle.numbers.specs.Pick.{pick, hit, skip}
+use Rattle.numbers.specs.Values.{minus-zero-adds}
 
 -- ---- sums of products
 
@@ -209,79 +204,7 @@ module _ {ℓ} {X : Type ℓ} (n : ℕ) (fit : Bool) (one two done : X) where
   unfolding tested
   right h k = skip _ _ _ _ (ap not h) (skip _ _ _ _ (ap not k) refl)
 
--- ---- minus zero adds nothing, so that a sum from the first product on is one begun at minus zero
-
-pow-back : (a b : ℕ) → 2 ^ a ≤ 2 ^ b → a ≤ b
-pow-back a b h = go (ltb b a) refl
-  where
-    go : (t : Bool) → ltb b a ≡ t → a ≤ b
-    go true e = absurd (omega (arith, pow-lt (ltb-true b a e)))
-    go false e = ltb-false b a e
-
--- 2 ^ e in units of 2 ^ -l
-in-units : (l : ℕ) (e : ℤ) → down e ≤ 2 ^ l → (j : ℕ) × (up e * 2 ^ l ≡ 2 ^ j * down e)
-in-units l (pos k) h = (k + l, sym (pow-add 2 k l) ∙ sym (mul-one (2 ^ (k + l))))
-in-units l (negsuc k) h =
-    (l - suc k, one-mul (2 ^ l) ∙ ap (λ (z : ℕ). 2 ^ z) (sym (back l (suc k) (pow-back (suc k) l h))) ∙ pow-add 2 (l - suc k) (suc k))
-
--- a value of the format is rounded to the same value
-rounds : (f : Format) (s : Bool) (m : ℕ) (e : ℤ) → m < 2 ^ prec f → down e ≤ 2 ^ low f → m * up e < 2 ^ suc (emax f) * down e
-    → HasValue (round f s (m * up e) (down e)) s (m * up e) (down e)
-rounds f s m e B C D =
-    let j = in-units (low f) e C .0 in
-    let v : m * up e * 2 ^ low f ≡ m * 2 ^ j * down e =
-    mul-assoc m (up e) (2 ^ low f) ∙ ap (λ (z : ℕ). m * z) (in-units (low f) e C .1) ∙ sym (mul-assoc m (2 ^ j) (down e)) in
-    let w : 2 ^ suc (emax f) * down e * 2 ^ low f ≡ 2 ^ (low f + suc (emax f)) * down e =
-    mul-right-comm (2 ^ suc (emax f)) (down e) (2 ^ low f) ∙ ap (λ (z : ℕ). z * down e) (mul-comm (2 ^ suc (emax f)) (2 ^ low f) ∙ sym (pow-add 2 (low f) (suc (emax f)))) in
-    round-exact f s (m * up e) (down e) m j (down-pos e) B (lt-of-mul-lt-mul-right (down e) (rw (← v, ← w) (mul-lt-mul-of-pos-right D (pow-pos (low f))))) v
-
-zero-rounds : (f : Format) (s : Bool) (e : ℤ) → HasValue (round f s (0 * up e) (down e)) s (0 * up e) (down e)
-zero-rounds f s e = round-exact f s (0 * up e) (down e) 0 0 (down-pos e) (pow-pos (prec f)) (pow-pos (low f + suc (emax f))) (rw (zero-mul, zero-mul, zero-mul))
-
-own-value : (f : Format) (s : Bool) (m : ℕ) (e : ℤ) → T (fits f (fin s m e)) → HasValue (round f s (m * up e) (down e)) s (m * up e) (down e)
-unfolding fits
-own-value f s zero e t = zero-rounds f s e
-own-value f s (suc m) e t =
-    let A = eqb (suc m % 2) 1 in
-    let B = ltb (suc m) (2 ^ prec f) in
-    let C = leb (down e) (2 ^ low f) in
-    let D = ltb (suc m * up e) (2 ^ suc (emax f) * down e) in
-    rounds f s (suc m) e
-    (ltb→lt (suc m) (2 ^ prec f) (and-r A B (and-l (A && B) C (and-l (A && B && C) D t))))
-    (leb→le (down e) (2 ^ low f) (and-r (A && B) C (and-l (A && B && C) D t)))
-    (ltb→lt (suc m * up e) (2 ^ suc (emax f) * down e) (and-r (A && B && C) D t))
-
-same-bits : (f : Format) (s : Bool) (n : ℕ) (d : ℤ) (m : ℕ) (e : ℤ) → n * up d * down e ≡ m * up e * down d → toBits f (fin s n d) ≡ toBits f (fin s m e)
-unfolding toBits
-same-bits f s n d m e h =
-    ap (λ (u : ℕ). cond s (top f) 0 + (size u - prec f) * hid f + u / 2 ^ (size u - prec f))
-    (div-same (n * up d * 2 ^ low f) (down d) (m * up e * 2 ^ low f) (down e) (down-pos d) (down-pos e)
-    (mul-right-comm (n * up d) (2 ^ low f) (down e) ∙ ap (λ (z : ℕ). z * 2 ^ low f) h ∙ mul-right-comm (m * up e) (down d) (2 ^ low f)))
-
--- a format has one value of a size and a sign
-same-value : (f : Format) (x : Float) (s : Bool) (m : ℕ) (e : ℤ) → T (fits f x) → T (fits f (fin s m e)) → HasValue x s (m * up e) (down e) → x ≡ fin s m e
-same-value f nan s m e p q h = absurd h
-same-value f (inf t) s m e p q h = absurd h
-same-value f (fin t n d) s m e p q h =
-    sym (ofBits-toBits f (fin t n d) p) ∙ ap (ofBits f) (rw (h .0) (same-bits f s n d m e (h .1))) ∙ ofBits-toBits f (fin s m e) q
-
-pub round-own : (f : Format) (s : Bool) (m : ℕ) (e : ℤ) → T (fits f (fin s m e)) → round f s (m * up e) (down e) ≡ fin s m e
-round-own f s m e t = same-value f (round f s (m * up e) (down e)) s m e (round-fits f s (m * up e) (down e)) t (own-value f s m e t)
-
-with-nothing : (f : Format) (t : Bool) (b c : ℕ) → sum f true 0 t b c ≡ round f t b c
-unfolding sum
-with-nothing f true b c = rw (zero-add b)
-with-nothing f false b c = go (ltb 0 b) refl
-  where
-    go : (t : Bool) → ltb 0 b ≡ t → cond (ltb 0 b) (round f false (b - 0) c) (round f (true && ltb b 0) (0 - b) c) ≡ round f false b c
-    go true e = rw (e, sub-zero b)
-    go false e = let z : b ≡ 0 = omega (arith, ltb-false 0 b e) in rw z
-
-pub minus-zero-adds : (x : Float) → T (fits binary64 x) → −0ᶠ ⊕ x ≡ x
-unfolding add ofBits
-minus-zero-adds nan t = refl
-minus-zero-adds (inf s) t = refl
-minus-zero-adds (fin s m e) t = rw (zero-mul, mul-one, one-mul) (with-nothing binary64 s (m * up e) (down e) ∙ round-own binary64 s m e t)
+-- ---- a sum from the first product on is one begun at minus zero
 
 pub dot-minus-zero : (a b : List Float) → dotOf a b ≡ dotFrom −0ᶠ a b
 unfolding dotOf dotFrom

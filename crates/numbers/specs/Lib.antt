@@ -1,6 +1,7 @@
 pub mod Refusal
 pub mod F64
 pub mod Pick
+pub mod Values
 pub mod Arr
 pub mod ArrLaws
 pub mod Cut

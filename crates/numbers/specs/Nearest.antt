@@ -8,7 +8,6 @@ use native.Mathlib.Omega.{arith}
 use lib.IntN.{ℤ}
 use lib.Dec.{T, nltb→le, ltb, ltb→lt}
 use lib.Arith.{lt-of-le-ne}
-use lib.Count.{under}
 use lib.Pow.{pow-add, pow-pos, pow-mono}
 use lib.Ieee.{Float, binary64, units, nan, inf, fin, fits}
 use lib.Ieee.Digits.{back}
@@ -19,7 +18,8 @@ use lib.Ieee.Fits.{nan-fits, inf-fits}
 use lib.Ieee.Bits.{ofBits-fits}
 use Rattle.numbers.specs.Sqrt.{unitsOf, squareOf, middle, rounded, sqrtOf}
 use Rattle.numbers.specs.Rounded.{Form, form, rounded-scaled, root-least, half-least, half-most, even-square, from-kept, below-next, below-middle, above-middle, no-tie-at}
-use Rattle.numbers.specs.Units.{placed, value-units, value-unique, units-bits, in-range}
+use Rattle.numbers.specs.Values.{value-unique}
+use Rattle.numbers.specs.Units.{placed, value-units, units-bits, in-range}
 
 -- so above a q of 53 digits at the place k, the next value is that of q + 1
 grid : (q k n j : ℕ) → 2 ^ 52 ≤ q → n < 2 ^ 53 → q * 2 ^ k < n * 2 ^ j → (q + 1) * 2 ^ k ≤ n * 2 ^ j
@@ -210,7 +210,7 @@ sqrt-nearest (fin false (suc m) e) (fin t n d) f p g h ne = go t g ne
         rw (units, u)
         (rooted-nearer x r (n * 2 ^ P .place)
         (grid (r .parts .a / 2) (place x r) n (P .place) (let l = root-least (r .parts .m) (r .parts .a) (r .parts .scaled) in omega arith) (P .small))
-        (λ q. ne (value-unique (fin false n d) (sqrtOf x) false (n * 2 ^ P .place) g (rooted-fits x r) (P .value) (subst (λ (z : ℕ). HasValue (sqrtOf x) false z (2 ^ 1074)) (sym q) (rooted-value x r)))))
+        (λ q. ne (value-unique binary64 (fin false n d) (sqrtOf x) false (n * 2 ^ P .place) (2 ^ 1074) (pow-pos 1074) g (rooted-fits x r) (P .value) (subst (λ (z : ℕ). HasValue (sqrtOf x) false z (2 ^ 1074)) (sym q) (rooted-value x r)))))
     go true g ne =
         rw units
         (lt-of-le-of-lt (sq-mono (sub-le (root x r * 2 ^ place x r) (unitsOf (fin true n d))))

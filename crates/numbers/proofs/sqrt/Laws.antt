@@ -6,7 +6,7 @@ use native.Mathlib.Omega.{arith}
 use lib.Arith.{digits-div}
 use lib.Pow.{pow-add, pow-pos, pow-mono}
 use Rattle.numbers.specs.Isqrt.{IsRoot}
-use Rattle.numbers.specs.Units.{pow-lt-back}
+use Rattle.numbers.specs.Values.{pow-lt-back}
 
 -- ---- `normalise`: digits moved up so far
 
