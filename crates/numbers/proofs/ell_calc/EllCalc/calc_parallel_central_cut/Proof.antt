@@ -1,19 +1,18 @@
 -- `numbers::ell_calc::EllCalc::calc_parallel_central_cut` meets its contract. Assumes nothing.
-use borrow.Author.Needs.{needs}
 use Rattle.numbers.specs.Pick.{hit, skip}
 use Rattle.numbers.specs.EllCalc.{calc-parallel-central-cut}
 use Rattle.numbers.proofs.ell_calc.EllCalc.calc_parallel_central_cut.Statement.{statement}
 use Rattle.numbers.proofs.ell_calc.EllCalc.calc_parallel_central_cut.Tie as tie
 
 no-soln-requires : tie.Need-no-soln-requires
-no-soln-requires c κs = search needs
+no-soln-requires c κs = tt
 
 returns : tie.Need-returns
 unfolding calc-parallel-central-cut
 returns c = hit _ _ _ _ (c .before .if1 .taken) (c .no-soln .ensures)
 
 calc-central-cut-requires : tie.Need-calc-central-cut-requires
-calc-central-cut-requires c κs = search needs
+calc-central-cut-requires c κs = tt
 
 returns-2 : tie.Need-returns-2
 unfolding calc-parallel-central-cut
@@ -22,7 +21,7 @@ returns-2 c =
     (hit _ _ _ _ (rw (c .before .if2 .taken)) (c .calc-central-cut .ensures))
 
 calc-central-cut-requires-2 : tie.Need-calc-central-cut-requires-2
-calc-central-cut-requires-2 c κs = search needs
+calc-central-cut-requires-2 c κs = tt
 
 returns-3 : tie.Need-returns-3
 unfolding calc-parallel-central-cut
@@ -31,10 +30,10 @@ returns-3 c =
     (hit _ _ _ _ (rw (c .before .before .before .if2 .left, c .before .if3 .taken)) (c .calc-central-cut2 .ensures))
 
 calc-parallel-central-cut-requires : tie.Need-calc-parallel-central-cut-requires
-calc-parallel-central-cut-requires c κs = search needs
+calc-parallel-central-cut-requires c κs = tt
 
 success-requires : tie.Need-success-requires
-success-requires c κs = search needs
+success-requires c κs = tt
 
 returns-4 : tie.Need-returns-4
 unfolding calc-parallel-central-cut

@@ -2,7 +2,6 @@
 use mathlib.Core.Path.{refl, sym, ap, _∙_}
 use mathlib.Core.Bool.{and-eq-true-iff}
 use lib.Dec.{leb}
-use borrow.Author.Needs.{needs}
 use borrow.Author.Tests.{leb-true, not-false}
 use Rattle.numbers.specs.Pick.{hit, skip}
 use Rattle.numbers.specs.declared.ell_calc.NewEllCalc.the-variants.{Made}
@@ -11,7 +10,7 @@ use Rattle.numbers.proofs.ell_calc.EllCalc.new.Statement.{statement}
 use Rattle.numbers.proofs.ell_calc.EllCalc.new.Tie as tie
 
 is-dimension-requires : tie.Need-is-dimension-requires
-is-dimension-requires c κs = search needs
+is-dimension-requires c κs = tt
 
 returns : tie.Need-returns
 unfolding new-answer
