@@ -1,5 +1,5 @@
 -- Laws of the definitions of Arr, for the proofs here and in the crates above. Assumes nothing.
-use mathlib.Core.Bool.{Bool, true, false, not}
+use mathlib.Core.Bool.{and-eq-true-iff, Bool, true, false, not}
 use mathlib.Core.Path.{_≡_, refl, sym, ap, _∙_}
 use mathlib.Core.List.{List, [], _∷_, _++_, append-nil}
 use mathlib.Core.Logic.{⊎-elim}
@@ -11,10 +11,10 @@ use borrow.Author.Tests.{ltb-true, ltb-false, leb-true, leb-false, eqb-true, eqb
 use lib.Dec.{leb, ltb, eqb}
 use lib.Ieee.{binary64, Float, nan}
 use lib.Ieee.Fits.{mul-fits}
-use lib.ListN.{length, take, drop, getD, set, replicate, length-append, length-take, length-drop, length-set, length-replicate, drop-of-length-le, getD-replicate, replicate-append-replicate, List·getD-append}
-use lib.Seq.{drop-cons, take-suc, set-at, getD-at, append-snoc, getD-set-same, getD-set-other}
+use lib.ListN.{length, take, drop, getD, set, replicate, length-append, length-set, length-replicate, drop-of-length-le, getD-replicate, replicate-append-replicate}
+use lib.Seq.{drop-cons, take-suc, set-at, append-snoc, getD-set-same, getD-set-other}
 use Rattle.numbers.specs.F64.{−0ᶠ, _⊕_, _⊗_, 0ᶠ, 1ᶠ}
-use Rattle.numbers.specs.Arr.{dotOf, isDimension, dotFrom, rowOf, tab, mvOf, setDiag, diagOf, tested}
+use Rattle.numbers.specs.Arr.{dotOf, isDimension, dotFrom, tab, setDiag, diagOf, tested}
 use Rattle.numbers.specs.Pick.{pick, hit, skip}
 use Rattle.numbers.specs.Values.{minus-zero-adds}
 
@@ -50,19 +50,6 @@ module _ {ℓ} {X : Type ℓ} (f : ℕ → X) where
   length-tab zero = refl
   length-tab (suc n) = simp (length-append, length-tab n) (add-one n)
 
-  pub getD-tab : (n i : ℕ) (d : X) → i < n → getD (tab f n) i d ≡ f i
-  unfolding tab
-  getD-tab zero i d h = absurd (omega arith)
-  getD-tab (suc n) i d h =
-      ⊎-elim (λ e. rw e (getD-at (tab f n) (f n) [] d n (length-tab n)))
-      (λ l. List·getD-append (tab f n) (f n ∷ []) d i (rw (length-tab n) l) ∙ getD-tab n i d l)
-      (eq-or-lt-of-le (le-of-suc-le-suc h))
-
-  pub tab-same : (g : ℕ → X) (n : ℕ) → ((i : ℕ) → i < n → f i ≡ g i) → tab f n ≡ tab g n
-  unfolding tab
-  tab-same g zero h = refl
-  tab-same g (suc n) h = rw (tab-same g n (λ i l. h i (omega arith)), h n (omega arith))
-
 -- the table of a list's elements is the list
 pub tab-getD {ℓ} : {X : Type ℓ} (xs : List X) (d : X) (n : ℕ) → n ≤ length xs → tab (λ i. getD xs i d) n ≡ take n xs
 unfolding tab
@@ -74,33 +61,33 @@ unfolding tab
 tab-replicate v zero = refl
 tab-replicate v (suc n) = rw (tab-replicate v n, replicate-append-replicate n 1 v, add-one)
 
--- ---- a loop that fills a list from the front with f 0, f 1, ..: `xs` before turn i, `xs₀` before the loop
+-- ---- a loop that fills a list from the front with f 0, f 1, ..: `xs₀` before the loop, `xs` when i elements are filled
 
-pub record Half {ℓ} {X : Type ℓ} (f : ℕ → X) (xs₀ xs : List X) (i : ℕ) : Type ℓ where
+pub record FilledTo {ℓ} {X : Type ℓ} (f : ℕ → X) (xs₀ xs : List X) (i : ℕ) : Type ℓ where
   pub within : i ≤ length xs₀
   pub long : length xs ≡ length xs₀
   pub is : xs ≡ tab f i ++ drop i xs₀
 
 module _ {ℓ} {X : Type ℓ} (f : ℕ → X) (xs₀ : List X) where
-  pub half-start : Half f xs₀ xs₀ 0
+  pub filled-start : FilledTo f xs₀ xs₀ 0
   unfolding tab
-  half-start = record { within = omega arith; long = refl; is = refl }
+  filled-start = record { within = omega arith; long = refl; is = refl }
 
   stored : (i : ℕ) (v : X) → i < length xs₀ → set (tab f i ++ drop i xs₀) i v ≡ tab f i ++ (v ∷ []) ++ drop (suc i) xs₀
   stored i v l =
       rw (drop-cons xs₀ i v, set-at (tab f i) (getD xs₀ i v) (drop (suc i) xs₀) v i (length-tab f i))
       (sym (append-snoc (tab f i) v (drop (suc i) xs₀)))
 
-  pub half-turn : (xs : List X) (i : ℕ) (v : X) → Half f xs₀ xs i → i < length xs₀ → v ≡ f i → Half f xs₀ (set xs i v) (i + 1)
+  pub filled-turn : (xs : List X) (i : ℕ) (v : X) → FilledTo f xs₀ xs i → i < length xs₀ → v ≡ f i → FilledTo f xs₀ (set xs i v) (i + 1)
   unfolding tab
-  half-turn xs i v h l e = record {
+  filled-turn xs i v h l e = record {
     within = omega arith;
     long = simp length-set (h .long);
     is = rw (h .is, add-one, ← e) (stored i v l);
   }
 
-  pub half-done : (xs : List X) (i : ℕ) → Half f xs₀ xs i → length xs₀ ≤ i → xs ≡ tab f (length xs₀)
-  half-done xs i h l =
+  pub filled-done : (xs : List X) (i : ℕ) → FilledTo f xs₀ xs i → length xs₀ ≤ i → xs ≡ tab f (length xs₀)
+  filled-done xs i h l =
       let e : i ≡ length xs₀ = omega (arith, h .within) in
       h .is ∙ rw (drop-of-length-le xs₀ l, append-nil, e)
 
@@ -110,7 +97,7 @@ module _ {ℓ} {X : Type ℓ} (f : ℕ → X) (xs₀ : List X) where
 pub row-in : (n i m : ℕ) → i < m → i * n + n ≤ m * n
 row-in n i m h = omega (arith, suc-mul i n, mul-le-mul-right n h)
 
--- an index below n in a row tells the row
+-- equal places with columns below n are in one row
 row-le : (n i j k l : ℕ) → l < n → i * n + j ≡ k * n + l → i ≤ k
 row-le n i j k l g e = go (ltb k i) refl
   where
@@ -121,20 +108,6 @@ row-le n i j k l g e = go (ltb k i) refl
 pub row-unique : (n i j k l : ℕ) → j < n → l < n → i * n + j ≡ k * n + l → i ≡ k
 row-unique n i j k l h g e = omega (arith, row-le n i j k l g e, row-le n k l i j h (sym e))
 
-pub length-row : (table : List Float) (n i : ℕ) → i * n + n ≤ length table → length (rowOf table n i) ≡ n
-length-row table n i h = simp (length-take, length-drop) (omega arith)
-
--- ---- matrix times vector
-
-module _ (n : ℕ) (mat x : List Float) where
-  pub length-mv : length (mvOf n mat x) ≡ n
-  unfolding mvOf
-  length-mv = length-tab (λ i. dotFrom 0ᶠ (rowOf mat n i) x) n
-
-  pub mv-at : (i : ℕ) → i < n → getD (mvOf n mat x) i nan ≡ dotFrom 0ᶠ (rowOf mat n i) x
-  unfolding mvOf
-  mv-at i h = getD-tab (λ i. dotFrom 0ᶠ (rowOf mat n i) x) n i nan h
-
 -- ---- the diagonal
 
 module _ (n : ℕ) (v : List Float) where
@@ -142,10 +115,6 @@ module _ (n : ℕ) (v : List Float) where
   unfolding setDiag
   length-setDiag zero mat = refl
   length-setDiag (suc k) mat = simp length-set (length-setDiag k mat)
-
-  pub length-diag : length (diagOf n v) ≡ n * n
-  unfolding diagOf
-  length-diag = length-setDiag n (replicate (n * n) 0ᶠ) ∙ length-replicate (n * n) 0ᶠ
 
   on : (k : ℕ) (mat : List Float) (i : ℕ) → k ≤ n → n * n ≤ length mat → i < k → getD (setDiag n v k mat) (i * n + i) nan ≡ getD v i nan
   unfolding setDiag
@@ -191,6 +160,9 @@ eye-at n i j h g = diag-at n (replicate n 1ᶠ) i j h g ∙ rw (getD-replicate n
 
 -- ---- the answers of the public calls, by what the tests say
 
+pub dimension-most : (n : ℕ) → isDimension n ≡ true → n ≤ 32
+dimension-most n h = leb-true n 32 (and-eq-true-iff (leb 2 n) (leb n 32) .0 h .1)
+
 module _ {ℓ} {X : Type ℓ} (n : ℕ) (fit : Bool) (one two done : X) where
   pub wrong-dimension : isDimension n ≡ false → one ≡ tested n fit one two done
   unfolding tested
@@ -200,9 +172,9 @@ module _ {ℓ} {X : Type ℓ} (n : ℕ) (fit : Bool) (one two done : X) where
   unfolding tested
   wrong-length h k = skip _ _ _ _ (ap not h) (hit _ _ _ _ (ap not k) refl)
 
-  pub right : isDimension n ≡ true → fit ≡ true → done ≡ tested n fit one two done
+  pub accepted : isDimension n ≡ true → fit ≡ true → done ≡ tested n fit one two done
   unfolding tested
-  right h k = skip _ _ _ _ (ap not h) (skip _ _ _ _ (ap not k) refl)
+  accepted h k = skip _ _ _ _ (ap not h) (skip _ _ _ _ (ap not k) refl)
 
 -- ---- a sum from the first product on is one begun at minus zero
 

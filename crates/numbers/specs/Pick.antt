@@ -1,4 +1,4 @@
--- The first answer where a test holds, else the second. It stays shut, so that a chain of tests is proved a test at a time, by two laws.
+-- The first answer where a test holds, else the second. It is not unfolded by itself, so that a chain of tests is proved a test at a time, by two laws.
 use mathlib.Core.Path.{_≡_}
 use mathlib.Core.Bool.{Bool, true, false}
 

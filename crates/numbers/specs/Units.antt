@@ -1,8 +1,8 @@
 -- Values of binary64 as whole numbers of units of 2 ^ -1074. Assumes nothing.
-use mathlib.Core.Path.{_≡_, refl, sym, ap, _∙_}
-use mathlib.Core.Bool.{Bool, false, cond}
+use mathlib.Core.Path.{subst, _≡_, refl, sym, ap, _∙_}
+use mathlib.Core.Bool.{true, Bool, false, cond}
 use Prim.Native.Nat.{ℕ, zero, suc, _+_, _-_, _*_, _/_, _%_, _^_, _≤_, _<_}
-use native.Mathlib.Nat.{mul-le-mul-right, mul-lt-mul-of-pos-right, le-trans, lt-of-lt-of-le, lt-of-le-of-lt, le-of-eq, le-of-suc-le-suc, pow-succ', mul-div-cancel, one-mul, zero-mul, zero-lt-suc}
+use native.Mathlib.Nat.{mul-pos, not-suc-le-zero, mul-lt-mul-of-pos-right, le-trans, lt-of-lt-of-le, le-of-eq, le-of-suc-le-suc, pow-succ', mul-div-cancel, zero-mul, zero-lt-suc}
 use native.Mathlib.Omega.{arith}
 use lib.IntN.{ℤ}
 use lib.Dec.{T, eqb, lit<, lit≤}
@@ -12,8 +12,10 @@ use lib.Ieee.{Float, binary64, units, nan, inf, fin, up, down, minus, odd, fits,
 use lib.Ieee.Fits.{down-pos}
 use lib.Ieee.Exact.{HasValue}
 use borrow.Author.Tests.{lt-leb, ne-eqb, lt-ltb}
-use Rattle.numbers.specs.Sqrt.{unitsOf}
-use Rattle.numbers.specs.Values.{pow-lt-back, Parts, fits-parts, whole}
+use lib.Ieee.Positive.{first-pos}
+use lib.Ieee.Scale.{finite}
+use Rattle.numbers.specs.Sqrt.{unitsOf, squareOf, rounded, sqrtOf}
+use Rattle.numbers.specs.Values.{place-lt, Parts, fits-parts, whole}
 
 -- ---- q * 2 ^ k units as bits: the field is k + 1, and the leading digit of q adds one to it
 
@@ -82,10 +84,7 @@ pub record Placed (s : Bool) (m : ℕ) (e : ℤ) : Type 0 where
 placed-at : (s : Bool) (m : ℕ) (e : ℤ) → 0 < m → Parts binary64 m e → Placed s m e
 placed-at s m e p h =
     let w = whole binary64 m e h in
-    record { place = w .place; value = (refl, w .is); small = h .small; reach = le-of-suc-le-suc (pow-lt-back (w .place) 2098 (lt-of-le-of-lt (once (2 ^ w .place)) (w .under))) }
-  where
-    once : (x : ℕ) → x ≤ m * x
-    once x = le-trans (le-of-eq (sym (one-mul x))) (mul-le-mul-right x p)
+    record { place = w .place; value = (refl, w .is); small = h .small; reach = le-of-suc-le-suc (place-lt m (w .place) 2098 p (w .under)) }
 
 pub placed : (s : Bool) (m : ℕ) (e : ℤ) → T (fits binary64 (fin s m e)) → Placed s m e
 placed s zero e f = record {
@@ -95,3 +94,43 @@ placed s zero e f = record {
   reach = lit≤ tt;
 }
 placed s (suc m) e f = placed-at s (suc m) e (zero-lt-suc m) (fits-parts binary64 s m e f)
+
+-- a float's sign
+abbrev pub negative : Float → Bool
+negative nan = false
+negative (inf s) = s
+negative (fin s m e) = s
+
+-- so `unitsOf` drops nothing of a finite value of the format
+pub units-exact : (x : Float) → T (fits binary64 x) → T (finite x) → HasValue x (negative x) (unitsOf x) (2 ^ 1074)
+units-exact nan f h = absurd h
+units-exact (inf s) f h = absurd h
+units-exact (fin s m e) f h =
+    let p = placed s m e f in
+    subst (λ (u : ℕ). HasValue (fin s m e) s u (2 ^ 1074)) (sym (value-units (fin s m e) s (m * 2 ^ p .place) (p .value))) (p .value)
+
+-- ---- the root of a number of u units
+
+value-pos : (m : ℕ) (e : ℤ) (u : ℕ) → 0 < u → m * up e * 2 ^ 1074 ≡ u * down e → 0 < m
+value-pos m e u p v = first-pos m (up e) (first-pos (m * up e) (2 ^ 1074) (subst (λ (x : ℕ). 0 < x) (sym v) (mul-pos p (down-pos e))))
+
+pub at-positive : (m : ℕ) (e : ℤ) → 0 < m → sqrtOf (fin false m e) ≡ rounded (squareOf (unitsOf (fin false m e)))
+unfolding sqrtOf
+at-positive zero e h = absurd (not-suc-le-zero h)
+at-positive (suc m) e h = refl
+
+at-negative : (m : ℕ) (e : ℤ) → 0 < m → sqrtOf (fin true m e) ≡ nan
+unfolding sqrtOf
+at-negative zero e h = absurd (not-suc-le-zero h)
+at-negative (suc m) e h = refl
+
+pub root-of-value : (x : Float) (u : ℕ) → 0 < u → HasValue x false u (2 ^ 1074) → sqrtOf x ≡ rounded (u * 2 ^ 1074)
+root-of-value nan u p v = absurd v
+root-of-value (inf t) u p v = absurd v
+root-of-value (fin s m e) u p v =
+    ap (λ (t : Bool). sqrtOf (fin t m e)) (v .0) ∙ at-positive m e (value-pos m e u p (v .1)) ∙ ap (λ (n : ℕ). rounded (n * 2 ^ 1074)) (value-units (fin s m e) false u v)
+
+pub no-root-of-value : (x : Float) (u : ℕ) → 0 < u → HasValue x true u (2 ^ 1074) → sqrtOf x ≡ nan
+no-root-of-value nan u p v = absurd v
+no-root-of-value (inf t) u p v = absurd v
+no-root-of-value (fin s m e) u p v = ap (λ (t : Bool). sqrtOf (fin t m e)) (v .0) ∙ at-negative m e (value-pos m e u p (v .1))

@@ -2,7 +2,7 @@
 use mathlib.Core.Path.{_≡_, refl, sym, ap, _∙_}
 use mathlib.Core.Bool.{Bool, true, false, _&&_, cond}
 use Prim.Native.Nat.{ℕ, zero, suc, _+_, _-_, _*_, _/_, _%_, _^_, _≤_, _<_}
-use native.Mathlib.Nat.{mul-assoc, mul-comm, mul-right-comm, mul-one, one-mul, zero-mul, zero-add, sub-zero, mul-lt-mul-of-pos-right, lt-of-mul-lt-mul-right, lt-of-not-le, not-le-of-lt, le-of-suc-le-suc, lt-of-le-of-lt, eq-of-mul-eq-mul-right}
+use native.Mathlib.Nat.{le-trans, le-of-eq, mul-le-mul-right, mul-assoc, mul-comm, mul-right-comm, mul-one, one-mul, zero-mul, zero-add, sub-zero, mul-lt-mul-of-pos-right, lt-of-mul-lt-mul-right, lt-of-not-le, not-le-of-lt, le-of-suc-le-suc, lt-of-le-of-lt, eq-of-mul-eq-mul-right}
 use native.Mathlib.Omega.{arith}
 use lib.IntN.{ℤ, pos, negsuc}
 use lib.Dec.{T, leb, ltb, eqb, ltb→lt, leb→le}
@@ -16,7 +16,7 @@ use lib.Ieee.Bits.{ofBits-toBits}
 use borrow.Author.Tests.{ltb-false}
 use Rattle.numbers.specs.F64.{_⊕_, −0ᶠ}
 
-pub pow-lt-back : (a b : ℕ) → 2 ^ a < 2 ^ b → a < b
+pow-lt-back : (a b : ℕ) → 2 ^ a < 2 ^ b → a < b
 pow-lt-back a b h = lt-of-not-le (λ (g : b ≤ a). not-le-of-lt h (pow-mono g))
 
 pow-le-back : (a b : ℕ) → 2 ^ a ≤ 2 ^ b → a ≤ b
@@ -24,6 +24,14 @@ pow-le-back a b h = le-of-suc-le-suc (pow-lt-back a (suc b) (lt-of-le-of-lt h (p
   where
     next : (n : ℕ) → n < suc n
     next n = omega arith
+
+-- a number moved up twice
+pub pow-join : (n i j : ℕ) → n * 2 ^ i * 2 ^ j ≡ n * 2 ^ (i + j)
+pow-join n i j = mul-assoc n (2 ^ i) (2 ^ j) ∙ ap (λ (x : ℕ). n * x) (sym (pow-add 2 i j))
+
+-- a number above zero that stays below 2 ^ b was moved up by less than b places
+pub place-lt : (n k b : ℕ) → 0 < n → n * 2 ^ k < 2 ^ b → k < b
+place-lt n k b p h = pow-lt-back k b (lt-of-le-of-lt (le-trans (le-of-eq (sym (one-mul (2 ^ k)))) (mul-le-mul-right (2 ^ k) p)) h)
 
 -- ---- what it takes to fit
 

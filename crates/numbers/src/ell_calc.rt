@@ -170,7 +170,8 @@ impl EllCalcCore {
     }
 }
 
-// The calculators of a search space of dimension n. `use_parallel_cut` false answers two bounds as if there were one.
+// The calculators of a search space of dimension n. Where `use_parallel_cut` is false a second bound is only tested, against the first or, in the central
+// form, against zero, and otherwise ignored.
 pub struct EllCalc {
     pub n_f: f64,
     pub helper: EllCalcCore,
@@ -254,10 +255,8 @@ impl EllCalc {
         }
         let b0b1 = beta0 * beta1;
         let eta = tsq + self.n_f * b0b1;
-        if discrete {
-            if eta <= 0.0 {
-                return no_effect();
-            }
+        if discrete && eta <= 0.0 {
+            return no_effect();
         }
         let helper = self.helper;
         success(helper.calc_parallel_bias_cut_fast(beta0, beta1, tsq, b0b1, eta))
@@ -281,10 +280,7 @@ impl EllCalc {
         if beta1 < 0.0 {
             return no_soln();
         }
-        if tsq <= beta1 * beta1 {
-            return self.calc_central_cut(tsq);
-        }
-        if !self.use_parallel_cut {
+        if tsq <= beta1 * beta1 || !self.use_parallel_cut {
             return self.calc_central_cut(tsq);
         }
         let helper = self.helper;
