@@ -2,6 +2,8 @@ pub mod Refusal
 pub mod F64
 pub mod Pick
 pub mod Arr
+pub mod Bits
+pub mod BitsLaws
 pub mod Cut
 pub mod Sqrt
 pub mod EllCalcCore
