@@ -1,6 +1,6 @@
 -- Vectors and matrices over flat lists (arr.rs), and what the public calls answer. Definitions only.
 use Prim.Native.Nat.{ℕ, zero, suc, _+_, _*_}
-use mathlib.Core.Bool.{Bool, true, false, not, _&&_, _||_}
+use mathlib.Core.Bool.{Bool, not, _&&_}
 use mathlib.Core.List.{List, [], _∷_, _++_}
 use lib.Dec.{leb, eqb}
 use lib.ListN.{length, take, drop, getD, set, replicate}
@@ -55,18 +55,16 @@ diagOf n v = setDiag n v n (replicate (n * n) 0ᶠ)
 
 -- ---- the public calls: refusal 1, then 2, and nothing written
 
-unfoldable pub dot-answer : ℕ → List Float → List Float → Number
-dot-answer n a b =
-    pick (not (isDimension n)) (Refused Dimension)
-    (pick (not (eqb (length a) n && eqb (length b) n)) (Refused Length)
-    (Value (dotOf a b)))
+-- What a call answers that tests the dimension n, and then its lengths, which are right where `fit` is true.
+unfoldable pub tested {ℓ} : {X : Type ℓ} → ℕ → Bool → X → X → X → X
+tested n fit one two done = pick (not (isDimension n)) one (pick (not fit) two done)
 
--- A call that fills `out`: its answer, and `out` as it leaves it. `fit` says that every length is right.
-unfoldable pub fills : ℕ → Bool → List Float → List Float → Written × List Float
-fills n fit filled out =
-    pick (not (isDimension n)) (NotWritten Dimension, out)
-    (pick (not fit) (NotWritten Length, out)
-    (Done, filled))
+abbrev pub dot-answer : ℕ → List Float → List Float → Number
+dot-answer n a b = tested n (eqb (length a) n && eqb (length b) n) (Refused Dimension) (Refused Length) (Value (dotOf a b))
+
+-- A call that fills `out`: its answer, and `out` as it leaves it.
+abbrev pub fills : ℕ → Bool → List Float → List Float → Written × List Float
+fills n fit filled out = tested n fit (NotWritten Dimension, out) (NotWritten Length, out) (Done, filled)
 
 abbrev pub dot-mv-into-answer : ℕ → List Float → List Float → List Float → Written × List Float
 dot-mv-into-answer n mat x out = fills n (eqb (length mat) (n * n) && eqb (length x) n && eqb (length out) n) (mvOf n mat x) out

@@ -2,9 +2,15 @@ pub mod Refusal
 pub mod F64
 pub mod Pick
 pub mod Arr
+pub mod ArrLaws
 pub mod Bits
 pub mod BitsLaws
 pub mod Cut
 pub mod Sqrt
+pub mod Isqrt
+pub mod Rounded
+pub mod Units
+pub mod Nearest
 pub mod EllCalcCore
 pub mod EllCalc
+pub mod Known

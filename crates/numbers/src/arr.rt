@@ -38,10 +38,10 @@ fn add_products(start: f64, a: &[f64], b: &[f64], from: usize) -> f64
     requires { ⌜ (from ≤ length (now a)) × (from ≤ length (now b)) ⌝ }
     ensures { λ r. ⌜ r ≡ dotFrom start (drop from (now (a .entry))) (drop from (now (b .entry))) ⌝ }
 {
-    let n = shorter(a.len(), b.len());
+    let common = shorter(a.len(), b.len());
     let mut s = start;
     let mut i = from;
-    while i < n {
+    while i < common {
         s = s + a[i] * b[i];
         i += 1;
     }
@@ -52,10 +52,7 @@ fn add_products(start: f64, a: &[f64], b: &[f64], from: usize) -> f64
 pub fn dot_zip(a: &[f64], b: &[f64]) -> f64
     ensures { λ r. ⌜ r ≡ dotOf (now (a .entry)) (now (b .entry)) ⌝ }
 {
-    if a.len() == 0 {
-        return -0.0;
-    }
-    if b.len() == 0 {
+    if shorter(a.len(), b.len()) == 0 {
         return -0.0;
     }
     let first = a[0] * b[0];

@@ -1,55 +1,54 @@
+-- `numbers::arr::add_products` meets its contract. The invariant: what is left to add, begun at the sum so far, gives the answer. Assumes nothing.
+use mathlib.Core.Path.{_≡_}
+use Prim.Native.Nat.{_-_}
 use borrow.Author.Needs.{needs}
+use lib.ListN.{drop}
+use Rattle.numbers.specs.Arr.{dotFrom}
+use Rattle.numbers.proofs.arr.Laws.{sum-again, sum-done}
 use Rattle.numbers.proofs.arr.add_products.Statement.{statement}
 use Rattle.numbers.proofs.arr.add_products.Tie as tie
-use Rattle.numbers.proofs.arr.add_products.Reads as reads
-use Rattle.numbers.proofs.arr.add_products.Lts as lts
-use Rattle.numbers.proofs.arr.shorter.Reads as shorter-reads
 
 abbrev Inv-loop : tie.InvT-loop
-Inv-loop start a b from n s₀ i₀ s i = ?
+Inv-loop start a b from common s₀ i₀ s i = dotFrom s (drop i a) (drop i b) ≡ dotFrom start (drop from a) (drop from b)
 
 abbrev μ-loop : tie.MeasureT-loop
-μ-loop start a b from n s₀ i₀ s i = ?
+μ-loop start a b from common s₀ i₀ s i = common - i
 
--- src/arr.rt:42:9
 shorter-requires : tie.Need-shorter-requires Inv-loop μ-loop
 shorter-requires c κs = search needs
 
--- src/arr.rt:45:5
 loop-holds : tie.Need-loop-holds Inv-loop μ-loop
 loop-holds c = search needs
 
--- src/arr.rt:46:17
 mul-s : tie.Need-mul-s Inv-loop μ-loop
 mul-s c = search needs
 
--- src/arr.rt:46:17
 shared-slice-read-s : tie.Need-shared-slice-read-s Inv-loop μ-loop
 shared-slice-read-s c = search needs
 
--- src/arr.rt:46:24
 mul-s-2 : tie.Need-mul-s-2 Inv-loop μ-loop
 mul-s-2 c = search needs
 
--- src/arr.rt:46:24
 shared-slice-read-s-2 : tie.Need-shared-slice-read-s-2 Inv-loop μ-loop
 shared-slice-read-s-2 c = search needs
 
--- src/arr.rt:47:9
 add-i : tie.Need-add-i Inv-loop μ-loop
 add-i c = search needs
 
--- src/arr.rt:45:5
 loop-less : tie.Need-loop-less Inv-loop μ-loop
 loop-less c = search needs
 
--- src/arr.rt:45:5
 loop-again : tie.Need-loop-again Inv-loop μ-loop
-loop-again c = search needs
+loop-again c =
+    let a = c .before .before .before .before .before .before .before .args in
+    let l = c .before .before .before .loop in
+    sum-again (a .a .now) (a .b .now) (l .s) (l .i) (l .inv) (search needs) (search needs)
 
--- src/arr.rt:38:1
 returns : tie.Need-returns Inv-loop μ-loop
-returns c = search needs
+returns c =
+    let a = c .before .before .before .before .before .args in
+    let l = c .before .loop in
+    sum-done (a .a .now) (a .b .now) (l .s) (l .i) (l .inv) (search needs)
 
 pub add-products-spec : {M : Type 1} → statement M
 add-products-spec =

@@ -1,46 +1,46 @@
+-- `numbers::arr::fill_zero` meets its contract. The invariant: the loop has written the elements below i. Assumes nothing.
+use mathlib.Core.Path.{refl, _∙_}
+use Prim.Native.Nat.{_-_}
 use borrow.Author.Needs.{needs}
+use lib.ListN.{length}
+use Rattle.numbers.specs.F64.{0ᶠ}
+use Rattle.numbers.specs.ArrLaws.{Half, half-start, half-turn, half-done, tab-replicate}
 use Rattle.numbers.proofs.arr.fill_zero.Statement.{statement}
 use Rattle.numbers.proofs.arr.fill_zero.Tie as tie
-use Rattle.numbers.proofs.arr.fill_zero.Reads as reads
-use Rattle.numbers.proofs.arr.fill_zero.Lts as lts
 
 abbrev Inv-loop : tie.InvT-loop
-Inv-loop out₀ i₀ out i = ?
+Inv-loop out₀ i₀ out i = Half (λ k. 0ᶠ) out₀ out i
 
 abbrev μ-loop : tie.MeasureT-loop
-μ-loop out₀ i₀ out i = ?
+μ-loop out₀ i₀ out i = length out₀ - i
 
--- src/arr.rt:145:5
 loop-holds : tie.Need-loop-holds Inv-loop μ-loop
-loop-holds c = search needs
+loop-holds c = half-start _ _
 
--- src/arr.rt:146:9
 mul-out : tie.Need-mul-out Inv-loop μ-loop
 mul-out c = search needs
 
--- src/arr.rt:146:9
 slice-write-out : tie.Need-slice-write-out Inv-loop μ-loop
 slice-write-out c = search needs
 
--- src/arr.rt:147:9
 add-i : tie.Need-add-i Inv-loop μ-loop
 add-i c = search needs
 
--- src/arr.rt:145:5
 loop-less : tie.Need-loop-less Inv-loop μ-loop
 loop-less c = search needs
 
--- src/arr.rt:145:5
 loop-again : tie.Need-loop-again Inv-loop μ-loop
-loop-again c = search needs
+loop-again c =
+    let l = c .before .loop in
+    half-turn _ _ (l .out) (l .i) _ (l .inv) (search needs) refl
 
--- src/arr.rt:141:1
 same-length : tie.Need-same-length Inv-loop μ-loop
 same-length c = search needs
 
--- src/arr.rt:141:1
 returns : tie.Need-returns Inv-loop μ-loop
-returns c = search needs
+returns c =
+    let l = c .before .loop in
+    half-done _ _ (l .out) (l .i) (l .inv) (search needs) ∙ tab-replicate 0ᶠ _
 
 pub fill-zero-spec : {M : Type 1} → statement M
 fill-zero-spec =

@@ -1,62 +1,75 @@
+-- `numbers::arr::set_diagonal` meets its contract. The invariant: the entries (k, k) with k below i are set. Assumes nothing.
+use mathlib.Core.Path.{_≡_, refl}
+use Prim.Native.Nat.{_≤_, _-_}
+use native.Mathlib.Omega.{arith}
 use borrow.Author.Needs.{needs}
+use lib.ListN.{length}
+use Rattle.numbers.specs.ArrLaws.{row-in}
+use Rattle.numbers.specs.Arr.{setDiag}
+use Rattle.numbers.proofs.arr.Laws.{row-small, diagonal-turn, diagonal-done}
 use Rattle.numbers.proofs.arr.set_diagonal.Statement.{statement}
 use Rattle.numbers.proofs.arr.set_diagonal.Tie as tie
-use Rattle.numbers.proofs.arr.set_diagonal.Reads as reads
-use Rattle.numbers.proofs.arr.set_diagonal.Lts as lts
 
 abbrev Inv-loop : tie.InvT-loop
-Inv-loop n v out₀ i₀ out i = ?
+Inv-loop n v out₀ i₀ out i = (i ≤ n) × (length out ≡ length out₀) × (out ≡ setDiag n v i out₀)
 
 abbrev μ-loop : tie.MeasureT-loop
-μ-loop n v out₀ i₀ out i = ?
+μ-loop n v out₀ i₀ out i = n - i
 
--- src/arr.rt:157:5
 loop-holds : tie.Need-loop-holds Inv-loop μ-loop
-loop-holds c = search needs
+unfolding setDiag
+loop-holds c = (search needs, refl, refl)
 
--- src/arr.rt:158:18
 mul-at : tie.Need-mul-at Inv-loop μ-loop
-mul-at c = search needs
+mul-at c =
+    let n = c .before .before .args .n in
+    let i = c .before .loop .i in
+    omega (arith, row-small n i (search needs) (search needs))
 
--- src/arr.rt:158:18
 add-at : tie.Need-add-at Inv-loop μ-loop
-add-at c = search needs
+add-at c =
+    let n = c .before .before .args .n in
+    let i = c .before .loop .i in
+    omega (arith, row-small n i (search needs) (search needs))
 
--- src/arr.rt:159:19
 mul-out : tie.Need-mul-out Inv-loop μ-loop
 mul-out c = search needs
 
--- src/arr.rt:159:19
 shared-slice-read-out : tie.Need-shared-slice-read-out Inv-loop μ-loop
 shared-slice-read-out c = search needs
 
--- src/arr.rt:159:9
 mul-out-2 : tie.Need-mul-out-2 Inv-loop μ-loop
-mul-out-2 c = search needs
+mul-out-2 c =
+    let n = c .before .before .before .args .n in
+    let i = c .before .before .loop .i in
+    omega (arith, row-small n i (search needs) (search needs))
 
--- src/arr.rt:159:9
 slice-write-out : tie.Need-slice-write-out Inv-loop μ-loop
-slice-write-out c = search needs
+slice-write-out c =
+    let n = c .before .before .before .args .n in
+    let i = c .before .before .loop .i in
+    omega (arith, row-in n i n (search needs))
 
--- src/arr.rt:160:9
 add-i : tie.Need-add-i Inv-loop μ-loop
 add-i c = search needs
 
--- src/arr.rt:157:5
 loop-less : tie.Need-loop-less Inv-loop μ-loop
 loop-less c = search needs
 
--- src/arr.rt:157:5
 loop-again : tie.Need-loop-again Inv-loop μ-loop
-loop-again c = search needs
+loop-again c =
+    let a = c .before .before .before .args in
+    let l = c .before .before .loop in
+    (search needs, search needs, diagonal-turn (a .n) (l .i) (a .v .now) (a .out .now) (l .out) (l .inv .2))
 
--- src/arr.rt:152:1
 same-length : tie.Need-same-length Inv-loop μ-loop
 same-length c = search needs
 
--- src/arr.rt:152:1
 returns : tie.Need-returns Inv-loop μ-loop
-returns c = search needs
+returns c =
+    let a = c .before .before .args in
+    let l = c .before .loop in
+    diagonal-done (a .n) (l .i) (a .v .now) (a .out .now) (l .out) (l .inv .2) (search needs) (search needs)
 
 pub set-diagonal-spec : {M : Type 1} → statement M
 set-diagonal-spec =

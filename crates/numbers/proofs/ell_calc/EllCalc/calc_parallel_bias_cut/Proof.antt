@@ -1,17 +1,15 @@
+-- `numbers::ell_calc::EllCalc::calc_parallel_bias_cut` meets its contract. Assumes nothing.
 use borrow.Author.Needs.{needs}
+use Rattle.numbers.specs.EllCalc.{calc-parallel-bias-cut}
 use Rattle.numbers.proofs.ell_calc.EllCalc.calc_parallel_bias_cut.Statement.{statement}
 use Rattle.numbers.proofs.ell_calc.EllCalc.calc_parallel_bias_cut.Tie as tie
-use Rattle.numbers.proofs.ell_calc.EllCalc.calc_parallel_bias_cut.Reads as reads
-use Rattle.numbers.proofs.ell_calc.EllCalc.calc_parallel_bias_cut.Lts as lts
-use Rattle.numbers.proofs.ell_calc.EllCalc.calc_parallel_impl.Reads as calc-parallel-impl-reads
 
--- src/ell_calc.rt:228:9
 calc-parallel-impl-requires : tie.Need-calc-parallel-impl-requires
 calc-parallel-impl-requires c κs = search needs
 
--- src/ell_calc.rt:225:5
 returns : tie.Need-returns
-returns c = search needs
+unfolding calc-parallel-bias-cut
+returns c = c .calc-parallel-impl .ensures
 
 pub calc-parallel-bias-cut-spec : {M : Type 1} → statement M
 calc-parallel-bias-cut-spec = tie.close (tie.spec calc-parallel-impl-requires returns)

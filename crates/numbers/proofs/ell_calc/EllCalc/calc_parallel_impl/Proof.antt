@@ -1,63 +1,65 @@
+-- `numbers::ell_calc::EllCalc::calc_parallel_impl` meets its contract. Each answer is one pick of the definition, and what its tests say there. Assumes nothing.
+use mathlib.Core.Path.{sym, _∙_}
+use mathlib.Core.Logic.{⊎-elim}
 use borrow.Author.Needs.{needs}
+use Rattle.numbers.specs.Pick.{hit, skip}
+use Rattle.numbers.specs.EllCalc.{calc-parallel-impl}
 use Rattle.numbers.proofs.ell_calc.EllCalc.calc_parallel_impl.Statement.{statement}
 use Rattle.numbers.proofs.ell_calc.EllCalc.calc_parallel_impl.Tie as tie
-use Rattle.numbers.proofs.ell_calc.EllCalc.calc_parallel_impl.Reads as reads
-use Rattle.numbers.proofs.ell_calc.EllCalc.calc_parallel_impl.Lts as lts
-use Rattle.numbers.proofs.cut.Answer.no_effect.Reads as no-effect-reads
-use Rattle.numbers.proofs.cut.Answer.no_soln.Reads as no-soln-reads
-use Rattle.numbers.proofs.cut.Answer.success.Reads as success-reads
-use Rattle.numbers.proofs.ell_calc.EllCalc.calc_bias_cut.Reads as calc-bias-cut-reads
-use Rattle.numbers.proofs.ell_calc.EllCalc.calc_bias_cut_q.Reads as calc-bias-cut-q-reads
-use Rattle.numbers.proofs.ell_calc.EllCalc.single_instead.Reads as single-instead-reads
-use Rattle.numbers.proofs.ell_calc.EllCalcCore.calc_parallel_bias_cut_fast.Reads as calc-parallel-bias-cut-fast-reads
 
--- src/ell_calc.rt:206:13
 no-soln-requires : tie.Need-no-soln-requires
 no-soln-requires c κs = search needs
 
--- src/ell_calc.rt:206:13
 returns : tie.Need-returns
-returns c = search needs
+unfolding calc-parallel-impl
+returns c = hit _ _ _ _ (c .before .if1 .taken) (c .no-soln .ensures)
 
--- src/ell_calc.rt:208:12
 single-instead-requires : tie.Need-single-instead-requires
 single-instead-requires c κs = search needs
 
--- src/ell_calc.rt:210:17
 calc-bias-cut-q-requires : tie.Need-calc-bias-cut-q-requires
 calc-bias-cut-q-requires c κs = search needs
 
--- src/ell_calc.rt:210:17
 returns-2 : tie.Need-returns-2
-returns-2 c = search needs
+unfolding calc-parallel-impl
+returns-2 c =
+    skip _ _ _ _ (c .before .before .before .before .if1 .left)
+    (hit _ _ _ _ (sym (c .before .before .before .single-instead .ensures) ∙ c .before .before .if2 .taken)
+    (hit _ _ _ _ (c .before .if3 .taken) (c .calc-bias-cut-q .ensures)))
 
--- src/ell_calc.rt:212:13
 calc-bias-cut-requires : tie.Need-calc-bias-cut-requires
 calc-bias-cut-requires c κs = search needs
 
--- src/ell_calc.rt:212:13
 returns-3 : tie.Need-returns-3
-returns-3 c = search needs
+unfolding calc-parallel-impl
+returns-3 c =
+    skip _ _ _ _ (c .before .before .before .before .if1 .left)
+    (hit _ _ _ _ (sym (c .before .before .before .single-instead .ensures) ∙ c .before .before .if2 .taken)
+    (skip _ _ _ _ (c .before .if3 .left) (c .calc-bias-cut .ensures)))
 
--- src/ell_calc.rt:218:17
 no-effect-requires : tie.Need-no-effect-requires
 no-effect-requires c κs = search needs
 
--- src/ell_calc.rt:218:17
 returns-4 : tie.Need-returns-4
-returns-4 c = search needs
+unfolding calc-parallel-impl
+returns-4 c =
+    skip _ _ _ _ (c .before .before .before .before .before .before .if1 .left)
+    (skip _ _ _ _ (sym (c .before .before .before .before .before .single-instead .ensures) ∙ c .before .before .before .before .if2 .left)
+    (hit _ _ _ _ (rw (c .before .before .if4 .taken, c .before .if5 .taken)) (c .no-effect .ensures)))
 
--- src/ell_calc.rt:222:25
 calc-parallel-bias-cut-fast-requires : tie.Need-calc-parallel-bias-cut-fast-requires
 calc-parallel-bias-cut-fast-requires c κs = search needs
 
--- src/ell_calc.rt:222:9
 success-requires : tie.Need-success-requires
 success-requires c κs = search needs
 
--- src/ell_calc.rt:202:5
 returns-5 : tie.Need-returns-5
-returns-5 c = search needs
+unfolding calc-parallel-impl
+returns-5 c =
+    skip _ _ _ _ (c .before .before .before .before .before .before .before .if1 .left)
+    (skip _ _ _ _ (sym (c .before .before .before .before .before .before .single-instead .ensures) ∙ c .before .before .before .before .before .if2 .left)
+    (skip _ _ _ _ (⊎-elim (λ w. rw (w .0 .taken, w .1 .left)) (λ w. rw (w .left)) (c .before .before .before .if4 .came))
+    (cc)))
 
 pub calc-parallel-impl-spec : {M : Type 1} → statement M
 calc-parallel-impl-spec =

@@ -1,34 +1,28 @@
+-- `numbers::ell_calc::EllCalc::calc_single_or_parallel_q` meets its contract. Assumes nothing.
 use borrow.Author.Needs.{needs}
+use Rattle.numbers.specs.EllCalc.{calc-single-or-parallel-q}
 use Rattle.numbers.proofs.ell_calc.EllCalc.calc_single_or_parallel_q.Statement.{statement}
 use Rattle.numbers.proofs.ell_calc.EllCalc.calc_single_or_parallel_q.Tie as tie
-use Rattle.numbers.proofs.ell_calc.EllCalc.calc_single_or_parallel_q.Reads as reads
-use Rattle.numbers.proofs.ell_calc.EllCalc.calc_single_or_parallel_q.Lts as lts
-use Rattle.numbers.proofs.ell_calc.EllCalc.calc_bias_cut_q.Reads as calc-bias-cut-q-reads
-use Rattle.numbers.proofs.ell_calc.EllCalc.calc_parallel_q.Reads as calc-parallel-q-reads
 
--- src/ell_calc.rt:189:33
 enum-known-beta : tie.Need-enum-known-beta
 enum-known-beta c = search needs
 
--- src/ell_calc.rt:189:50
 calc-parallel-q-requires : tie.Need-calc-parallel-q-requires
 calc-parallel-q-requires c κs = search needs
 
--- src/ell_calc.rt:190:31
 enum-known-beta-2 : tie.Need-enum-known-beta-2
 enum-known-beta-2 c = search needs
 
--- src/ell_calc.rt:190:41
 calc-bias-cut-q-requires : tie.Need-calc-bias-cut-q-requires
 calc-bias-cut-q-requires c κs = search needs
 
--- src/ell_calc.rt:185:5
 returns : tie.Need-returns
-returns c = search needs
+unfolding calc-single-or-parallel-q
+returns c = rw (c .before .before .beta .given .1) (c .calc-parallel-q .ensures)
 
--- src/ell_calc.rt:185:5
 returns-2 : tie.Need-returns-2
-returns-2 c = search needs
+unfolding calc-single-or-parallel-q
+returns-2 c = rw (c .before .before .beta2 .given .1) (c .calc-bias-cut-q .ensures)
 
 pub calc-single-or-parallel-q-spec : {M : Type 1} → statement M
 calc-single-or-parallel-q-spec =

@@ -1,26 +1,31 @@
+-- `numbers::ell_calc::EllCalc::new` meets its contract. That n is at most 32 is what `is_dimension` says where it is true. Assumes nothing.
+use mathlib.Core.Path.{refl, sym, ap, _∙_}
+use mathlib.Core.Bool.{and-eq-true-iff}
+use lib.Dec.{leb}
 use borrow.Author.Needs.{needs}
+use borrow.Author.Tests.{leb-true, not-false}
+use Rattle.numbers.specs.Pick.{hit, skip}
+use Rattle.numbers.specs.declared.ell_calc.NewEllCalc.the-variants.{Made}
+use Rattle.numbers.specs.EllCalc.{new-answer}
 use Rattle.numbers.proofs.ell_calc.EllCalc.new.Statement.{statement}
 use Rattle.numbers.proofs.ell_calc.EllCalc.new.Tie as tie
-use Rattle.numbers.proofs.ell_calc.EllCalc.new.Reads as reads
-use Rattle.numbers.proofs.ell_calc.EllCalc.new.Lts as lts
-use Rattle.numbers.proofs.arr.is_dimension.Reads as is-dimension-reads
-use Rattle.numbers.proofs.ell_calc.EllCalc.of_dimension.Reads as of-dimension-reads
 
--- src/ell_calc.rt:148:13
 is-dimension-requires : tie.Need-is-dimension-requires
 is-dimension-requires c κs = search needs
 
--- src/ell_calc.rt:149:13
 returns : tie.Need-returns
-returns c = search needs
+unfolding new-answer
+returns c = hit _ _ _ _ (rw (← c .before .is-dimension .ensures) (c .if1 .taken)) refl
 
--- src/ell_calc.rt:151:26
 of-dimension-requires : tie.Need-of-dimension-requires
-of-dimension-requires c κs = search needs
+of-dimension-requires c κs =
+    leb-true (c .before .before .args .n) 32
+    (and-eq-true-iff (leb 2 (c .before .before .args .n)) (leb (c .before .before .args .n) 32) .0
+    (sym (c .before .is-dimension .ensures) ∙ not-false (c .before .is-dimension .result) (c .if1 .left)) .1)
 
--- src/ell_calc.rt:145:5
 returns-2 : tie.Need-returns-2
-returns-2 c = search needs
+unfolding new-answer
+returns-2 c = skip _ _ _ _ (rw (← c .before .before .is-dimension .ensures) (c .before .if1 .left)) (ap Made (c .of-dimension .ensures))
 
 pub new-spec : {M : Type 1} → statement M
 new-spec = tie.close (tie.spec is-dimension-requires returns of-dimension-requires returns-2)

@@ -1,12 +1,12 @@
-use borrow.Author.Needs.{needs}
+-- `numbers::ell_calc::EllCalcCore::calc_bias_cut_fast` meets its contract. Assumes nothing.
+use mathlib.Core.Path.{refl}
+use Rattle.numbers.specs.EllCalcCore.{core-bias-cut-fast}
 use Rattle.numbers.proofs.ell_calc.EllCalcCore.calc_bias_cut_fast.Statement.{statement}
 use Rattle.numbers.proofs.ell_calc.EllCalcCore.calc_bias_cut_fast.Tie as tie
-use Rattle.numbers.proofs.ell_calc.EllCalcCore.calc_bias_cut_fast.Reads as reads
-use Rattle.numbers.proofs.ell_calc.EllCalcCore.calc_bias_cut_fast.Lts as lts
 
--- src/ell_calc.rt:95:5
 returns : tie.Need-returns
-returns c = search needs
+unfolding core-bias-cut-fast
+returns c = refl
 
 pub calc-bias-cut-fast-spec : {M : Type 1} → statement M
 calc-bias-cut-fast-spec = tie.close (tie.spec returns)

@@ -1,12 +1,12 @@
-use borrow.Author.Needs.{needs}
+-- `numbers::ell_calc::EllCalcCore::new` meets its contract. Assumes nothing.
+use mathlib.Core.Path.{refl}
+use Rattle.numbers.specs.EllCalcCore.{core-new}
 use Rattle.numbers.proofs.ell_calc.EllCalcCore.new.Statement.{statement}
 use Rattle.numbers.proofs.ell_calc.EllCalcCore.new.Tie as tie
-use Rattle.numbers.proofs.ell_calc.EllCalcCore.new.Reads as reads
-use Rattle.numbers.proofs.ell_calc.EllCalcCore.new.Lts as lts
 
--- src/ell_calc.rt:21:5
 returns : tie.Need-returns
-returns c = search needs
+unfolding core-new
+returns c = refl
 
 pub new-spec : {M : Type 1} → statement M
 new-spec = tie.close (tie.spec returns)

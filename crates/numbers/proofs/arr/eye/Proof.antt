@@ -1,0 +1,78 @@
+-- `numbers::arr::eye` meets its contract. Assumes nothing.
+use mathlib.Core.Path.{sym, ap, _∙_}
+use Prim.Native.Nat.{_≤_}
+use native.Mathlib.Omega.{arith}
+use borrow.Author.Tests.{ne-eqb, eq-eqb}
+use borrow.Author.Needs.{needs}
+use Rattle.numbers.specs.F64.{1ᶠ}
+use Rattle.numbers.specs.Arr.{diagOf}
+use Rattle.numbers.specs.ArrLaws.{wrong-dimension, wrong-length, right}
+use Rattle.numbers.proofs.arr.Laws.{same-long, take-replicate, no-dimension, a-dimension, small, square}
+use Rattle.numbers.proofs.arr.eye.Statement.{statement}
+use Rattle.numbers.proofs.arr.eye.Tie as tie
+
+is-dimension-requires : tie.Need-is-dimension-requires
+is-dimension-requires c κs = search needs
+
+returns : tie.Need-returns
+returns c =
+    let n = c .before .before .before .args .n in
+    let d = c .before .is-dimension in
+    wrong-dimension _ _ _ _ _ (no-dimension n (d .result) (d .ensures) (c .if1 .taken))
+
+mul-if2 : tie.Need-mul-if2
+mul-if2 c =
+    let n = c .before .before .before .args .n in
+    let d = c .before .is-dimension in
+    omega (arith, square n (small n (d .result) (d .ensures) (c .if1 .left)))
+
+returns-2 : tie.Need-returns-2
+returns-2 c =
+    let n = c .before .before .before .before .args .n in
+    let d = c .before .before .is-dimension in
+    wrong-length _ _ _ _ _ (a-dimension n (d .result) (d .ensures) (c .before .if1 .left))
+    (ne-eqb _ _ (c .if2 .taken))
+
+array-share-prefix-ones : tie.Need-array-share-prefix-ones
+array-share-prefix-ones c =
+    let n = c .before .before .before .before .args .n in
+    let d = c .before .before .is-dimension in
+    small n (d .result) (d .ensures) (c .before .if1 .left)
+
+slice-aggregate-diagonal-into : tie.Need-slice-aggregate-diagonal-into
+slice-aggregate-diagonal-into c =
+    let n = c .before .before .before .before .before .args .n in
+    let d = c .before .before .before .is-dimension in
+    same-long _ n (small n (d .result) (d .ensures) (c .before .before .if1 .left))
+
+diagonal-into-requires : tie.Need-diagonal-into-requires
+diagonal-into-requires c κs =
+    let n = c .before .before .before .before .before .before .args .n in
+    let d = c .before .before .before .before .is-dimension in
+    let h : n ≤ 32 = small n (d .result) (d .ensures) (c .before .before .before .if1 .left) in
+    (h, sym (same-long _ n h), search needs)
+
+same-length : tie.Need-same-length
+same-length c = search needs
+
+returns-3 : tie.Need-returns-3
+returns-3 c =
+    let n = c .before .before .before .before .before .before .before .before .before .args .n in
+    let d = c .before .before .before .before .before .before .before .is-dimension in
+    let h = c .before .before .before .before .before .before .if1 .left in
+    rw (c .before .before .diagonal-into .ensures ∙ ap (diagOf n) (take-replicate n 32 1ᶠ (small n (d .result) (d .ensures) h)))
+    (right _ _ _ _ _ (a-dimension n (d .result) (d .ensures) h) (eq-eqb _ _ (c .before .before .before .before .before .if2 .left)))
+
+pub eye-spec : {M : Type 1} → statement M
+eye-spec =
+    tie.close
+    (tie.spec
+    is-dimension-requires
+    returns
+    mul-if2
+    returns-2
+    array-share-prefix-ones
+    slice-aggregate-diagonal-into
+    diagonal-into-requires
+    same-length
+    returns-3)

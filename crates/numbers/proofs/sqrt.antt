@@ -1,0 +1,3 @@
+-- What the proofs of `numbers::sqrt` share.
+mod Laws
+mod Patterns
