@@ -6,16 +6,16 @@ use Prim.Native.Nat.{ℕ, zero, suc, _+_, _-_, _*_, _/_, _%_, _^_, _≤_, _<_}
 use native.Mathlib.Omega.{arith}
 use native.Mathlib.Nat.{add-zero}
 use native.Mathlib.Numerals.{add-one}
-use borrow.Author.Tests.{lt-ltb, le-ltb, le-leb, lt-leb}
+use borrow.Author.Tests.{lt-ltb, le-ltb, le-leb}
 use lib.Dec.{T}
-use lib.ListN.{length, take, drop, getD, set, length-append, length-take, length-drop, take-append-drop, drop-of-length-le}
+use lib.ListN.{length, take, drop, getD, set, length-append, length-take, length-drop, take-append-drop}
 use lib.Seq.{drop-cons, drop-length, take-all, set-at, append-snoc}
 use lib.Ieee.{Float, nan, inf, fin, binary64, isNan, ne, ofBits, toBits, nanBits}
 use lib.Ieee.Compare.{differs-from-itself, nan-differs}
 use lib.Ieee.Bits.{nanBits-is, nanBits-above}
 use Rattle.numbers.specs.Bits.{leNumber, leBytes, wordAt, putBytes, putWord}
 use Rattle.numbers.specs.BitsLaws.{length-bytes}
-use Rattle.numbers.specs.Pick.{hit, skip}
+use Rattle.numbers.specs.Pick.{hit}
 
 is-nan : (x : Float) → isNan x ≡ true → x ≡ nan
 unfolding isNan
@@ -90,13 +90,6 @@ byte-stored bytes at i w h =
     ∙ ap (λ (l : List ℕ). take at bytes ++ l ++ drop (suc (at + i)) bytes) (sym (bytes-snoc i w))
     ∙ ap (λ (n : ℕ). take at bytes ++ leBytes (suc i) w ++ drop n bytes) next
 
-pub length-put : (bytes : List ℕ) (at k w : ℕ) → at + k ≤ length bytes → length (putBytes bytes at k w) ≡ length bytes
-unfolding putBytes
-length-put bytes at k w h =
-    length-append (take at bytes ++ leBytes k w) (drop (at + k) bytes)
-    ∙ ap (λ (n : ℕ). n + length (drop (at + k) bytes)) (length-append (take at bytes) (leBytes k w))
-    ∙ omega (arith, length-take at bytes, length-bytes k w, length-drop (at + k) bytes)
-
 pub put-none : (bytes : List ℕ) (at w : ℕ) → bytes ≡ putBytes bytes at 0 w
 unfolding putBytes leBytes
 put-none bytes at w = rw (append-nil, add-zero, take-append-drop)
@@ -136,11 +129,7 @@ pub put-turn : (bytes₀ bytes : List ℕ) (at w rest i : ℕ) → at + i < leng
 unfolding shift
 put-turn bytes₀ bytes at w rest i h e p = rw (e, p, add-one) (refl, byte-stored bytes₀ at i w h)
 
--- a word that begins past the end, is cut off by it, or stands whole
-pub word-past : (bytes : List ℕ) (at : ℕ) → length bytes ≤ at → 0 ≡ wordAt bytes at
-unfolding wordAt leNumber
-word-past bytes at h = sym (ap (λ (l : List ℕ). leNumber (take 8 l)) (drop-of-length-le bytes h))
-
+-- a word that the end cuts off, or that stands whole
 pub word-short : (bytes : List ℕ) (at n : ℕ) → length bytes - at ≤ 8 → n ≡ length bytes - at → leNumber (take n (drop at bytes)) ≡ wordAt bytes at
 unfolding wordAt
 word-short bytes at n h e =
@@ -150,11 +139,7 @@ pub word-whole : (bytes : List ℕ) (at n : ℕ) → n ≡ 8 → leNumber (take 
 unfolding wordAt
 word-whole bytes at n e = ap (λ (k : ℕ). leNumber (take k (drop at bytes))) e
 
--- a word that does not fit, and one that does
-pub put-short : (bytes : List ℕ) (at w : ℕ) → length bytes < at + 8 → bytes ≡ putWord bytes at w
-unfolding putWord
-put-short bytes at w h = skip _ _ _ _ (lt-leb (at + 8) (length bytes) h) refl
-
+-- a word that fits
 pub put-whole : (bytes r : List ℕ) (at w : ℕ) → at + 8 ≤ length bytes → r ≡ putBytes bytes at 8 w → r ≡ putWord bytes at w
 unfolding putWord
 put-whole bytes r at w h e = hit _ _ _ _ (le-leb (at + 8) (length bytes) h) e

@@ -4,7 +4,8 @@ use Prim.Native.Nat.{ℕ, _-_, _≤_}
 use native.Mathlib.Omega.{arith}
 use lib.ListN.{length}
 use Rattle.numbers.specs.Bits.{putBytes}
-use Rattle.numbers.proofs.bits.Laws.{shift, put-turn, length-put, put-none}
+use Rattle.numbers.specs.BitsLaws.{length-put}
+use Rattle.numbers.proofs.bits.Laws.{shift, put-turn, put-none}
 use borrow.Author.Needs.{needs}
 use Rattle.numbers.proofs.bits.put_bytes.Statement.{statement}
 use Rattle.numbers.proofs.bits.put_bytes.Tie as tie
