@@ -14,7 +14,6 @@ use numbers::arr::eye;
 use numbers::arr::from_diag;
 use numbers::bits::to_bits;
 use std::num::wrapping_add_usize;
-ghost use Prim.Native.Nat.{_≤_};
 
 // n², or 0 where no case holds so large a matrix: a call with that n says no before it looks at one.
 fn square(n: usize) -> usize {
@@ -22,9 +21,7 @@ fn square(n: usize) -> usize {
 }
 
 // How many input words the output slice takes.
-fn told_words(told: bool, length: usize) -> usize
-    ensures { λ r. ⌜ r ≤ length ⌝ }
-{
+fn told_words(told: bool, length: usize) -> usize {
     if told { length } else { 0 }
 }
 
@@ -151,7 +148,23 @@ fn call_diag(
     put_written(w, told, out, got)
 }
 
-// The same with the lengths, once they are those of the case.
+// The same with the lengths, where they are those of the case.
+
+// Whether a case has just the words before the slices, and the slices.
+fn is_exact(ins: usize, from: usize, la: usize, lb: usize, lc: usize) -> bool {
+    if ins < from {
+        return false;
+    }
+    let slices = ins - from;
+    if slices < la {
+        return false;
+    }
+    let others = slices - la;
+    if others < lb {
+        return false;
+    }
+    others - lb == lc
+}
 
 fn replay_dot(
     ins: usize,
@@ -162,18 +175,16 @@ fn replay_dot(
     lb: usize,
     inputs: &[u8],
     got: &mut [u8],
-    a: &mut [f64; 65536],
-    b: &mut [f64; 65536],
-) -> Replayed
-    requires { ⌜ from ≤ 4 ⌝ }
-{
-    if la > 65536 {
+    a: &mut [f64],
+    b: &mut [f64],
+) -> Replayed {
+    if !is_exact(ins, from, la, lb, 0) {
         return Replayed::Unfit;
     }
-    if lb > 65536 {
+    if a.len() < la {
         return Replayed::Unfit;
     }
-    if ins != from + la + lb {
+    if b.len() < lb {
         return Replayed::Unfit;
     }
     call_dot(n, from, told, inputs, &mut a[..la], &mut b[..lb], got)
@@ -189,22 +200,20 @@ fn replay_mv(
     lo: usize,
     inputs: &[u8],
     got: &mut [u8],
-    a: &mut [f64; 65536],
-    b: &mut [f64; 65536],
-    c: &mut [f64; 65536],
-) -> Replayed
-    requires { ⌜ from ≤ 4 ⌝ }
-{
-    if lm > 65536 {
+    a: &mut [f64],
+    b: &mut [f64],
+    c: &mut [f64],
+) -> Replayed {
+    if !is_exact(ins, from, lm, lx, told_words(told, lo)) {
         return Replayed::Unfit;
     }
-    if lx > 65536 {
+    if a.len() < lm {
         return Replayed::Unfit;
     }
-    if lo > 65536 {
+    if b.len() < lx {
         return Replayed::Unfit;
     }
-    if ins != from + lm + lx + told_words(told, lo) {
+    if c.len() < lo {
         return Replayed::Unfit;
     }
     call_mv(
@@ -226,16 +235,16 @@ fn replay_copy(
     ls: usize,
     inputs: &[u8],
     got: &mut [u8],
-    a: &mut [f64; 65536],
-    b: &mut [f64; 65536],
+    a: &mut [f64],
+    b: &mut [f64],
 ) -> Replayed {
-    if ld > 65536 {
+    if !is_exact(ins, 3, ld, ls, 0) {
         return Replayed::Unfit;
     }
-    if ls > 65536 {
+    if a.len() < ld {
         return Replayed::Unfit;
     }
-    if ins != 3 + ld + ls {
+    if b.len() < ls {
         return Replayed::Unfit;
     }
     call_copy(n, 3, inputs, &mut a[..ld], &mut b[..ls], got)
@@ -249,14 +258,12 @@ fn replay_eye(
     lo: usize,
     inputs: &[u8],
     got: &mut [u8],
-    c: &mut [f64; 65536],
-) -> Replayed
-    requires { ⌜ from ≤ 4 ⌝ }
-{
-    if lo > 65536 {
+    c: &mut [f64],
+) -> Replayed {
+    if !is_exact(ins, from, told_words(told, lo), 0, 0) {
         return Replayed::Unfit;
     }
-    if ins != from + told_words(told, lo) {
+    if c.len() < lo {
         return Replayed::Unfit;
     }
     call_eye(n, from, told, inputs, &mut c[..lo], got)
@@ -271,18 +278,16 @@ fn replay_diag(
     lo: usize,
     inputs: &[u8],
     got: &mut [u8],
-    a: &mut [f64; 65536],
-    c: &mut [f64; 65536],
-) -> Replayed
-    requires { ⌜ from ≤ 4 ⌝ }
-{
-    if lv > 65536 {
+    a: &mut [f64],
+    c: &mut [f64],
+) -> Replayed {
+    if !is_exact(ins, from, lv, told_words(told, lo), 0) {
         return Replayed::Unfit;
     }
-    if lo > 65536 {
+    if a.len() < lv {
         return Replayed::Unfit;
     }
-    if ins != from + lv + told_words(told, lo) {
+    if c.len() < lo {
         return Replayed::Unfit;
     }
     call_diag(n, from, told, inputs, &mut a[..lv], &mut c[..lo], got)
@@ -293,9 +298,9 @@ pub fn replay_array(
     ins: usize,
     inputs: &[u8],
     got: &mut [u8],
-    a: &mut [f64; 65536],
-    b: &mut [f64; 65536],
-    c: &mut [f64; 65536],
+    a: &mut [f64],
+    b: &mut [f64],
+    c: &mut [f64],
 ) -> Replayed {
     let n = word(inputs, 0) as usize;
     let l1 = word(inputs, 1) as usize;

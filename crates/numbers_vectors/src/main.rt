@@ -20,16 +20,17 @@ fn replay(
     case: Case,
     inputs: &[u8],
     got: &mut [u8],
-    a: &mut [f64; 65536],
-    b: &mut [f64; 65536],
-    c: &mut [f64; 65536],
+    a: &mut [f64],
+    b: &mut [f64],
+    c: &mut [f64],
 ) -> Replayed {
     let ins = case.ins;
-    match case.op {
+    let op = case.op;
+    match op {
         1 => replay_root(ins, inputs, got),
-        2..=5 | 100..=104 => replay_array(case.op, ins, inputs, got, a, b, c),
-        10..=16 => replay_core(case.op, ins, inputs, got),
-        20..=28 => replay_calc(case.op, ins, inputs, got),
+        2..=5 | 100..=104 => replay_array(op, ins, inputs, got, a, b, c),
+        10..=16 => replay_core(op, ins, inputs, got),
+        20..=28 => replay_calc(op, ins, inputs, got),
         105 => replay_new(ins, inputs, got),
         _ => Replayed::Unknown,
     }
@@ -41,9 +42,9 @@ fn replay_next(
     inputs: &mut [u8],
     expected: &mut [u8],
     got: &mut [u8],
-    a: &mut [f64; 65536],
-    b: &mut [f64; 65536],
-    c: &mut [f64; 65536],
+    a: &mut [f64],
+    b: &mut [f64],
+    c: &mut [f64],
     table: &mut [u64; 516],
 ) -> bool {
     match next_case(inputs, expected) {
@@ -69,9 +70,9 @@ fn replay_all(
     inputs: &mut [u8],
     expected: &mut [u8],
     got: &mut [u8],
-    a: &mut [f64; 65536],
-    b: &mut [f64; 65536],
-    c: &mut [f64; 65536],
+    a: &mut [f64],
+    b: &mut [f64],
+    c: &mut [f64],
     table: &mut [u64; 516],
 ) {
     let mut position = 1;
