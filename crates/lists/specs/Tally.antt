@@ -43,9 +43,9 @@ counted table op NotKnown = bumped table 514
 unfoldable pub tallied : List ℕ → ℕ → Verdict → List ℕ
 tallied table op v = pick (leb 256 op) (bumped table 514) (counted table op v)
 
--- a damaged list: counted at 515, and as one case that differs
+-- a damaged list counts as one case that differs, of no operation
 abbrev pub damagedOf : List ℕ → List ℕ
-damagedOf table = bumped (bumped table 515) 513
+damagedOf table = bumped table 513
 
 abbrev pub noneDiffer : List ℕ → Bool
 noneDiffer table = eqb (getD table 513 0) 0

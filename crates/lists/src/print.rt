@@ -1,35 +1,19 @@
-// The lines that a replay prints.
+// The lines that a replay prints. Cases and words are counted from 1.
 use crate::case::Case;
 use crate::tally::Replayed;
 use crate::words::word;
+use std::num::wrapping_add_usize;
 
-const DIGITS: [u8; 16] = [
-    48,
-    49,
-    50,
-    51,
-    52,
-    53,
-    54,
-    55,
-    56,
-    57,
-    65,
-    66,
-    67,
-    68,
-    69,
-    70,
-];
-
+// Sixteen digits.
 fn print_hex(w: u64) {
+    let digits = b"0123456789ABCDEF";
     let mut text = [0u8; 16];
     let mut rest = w;
     let mut i = 16;
     while i > 0 {
         i -= 1;
         let d = (rest % 16) as usize;
-        text[i] = DIGITS[d];
+        text[i] = digits[d];
         rest /= 16;
     }
     io::write_all(1, &text);
@@ -62,7 +46,7 @@ fn print_got(replayed: Replayed, got: &[u8], k: usize) {
     }
 }
 
-pub fn print_difference(
+pub(crate) fn print_difference(
     position: u64,
     case: Case,
     k: usize,
@@ -75,7 +59,7 @@ pub fn print_difference(
     io::write_all(1, b", operation ");
     io::print_decimal(1, case.op);
     io::write_all(1, b", word ");
-    io::print_decimal(1, k as u64);
+    io::print_decimal(1, wrapping_add_usize(k, 1) as u64);
     io::write_all(1, b": expected ");
     print_word(expected, k, case.outs);
     io::write_all(1, b", got ");
@@ -83,7 +67,7 @@ pub fn print_difference(
     io::write_all(1, b"\n");
 }
 
-pub fn print_damage(position: u64, long: bool) {
+pub(crate) fn print_damage(position: u64, long: bool) {
     io::write_all(1, b"case ");
     io::print_decimal(1, position);
     if long {
@@ -101,7 +85,7 @@ fn print_counts(agree: u64, differ: u64) {
 }
 
 // A line for an operation that was met.
-pub fn print_operation(op: u64, agree: u64, differ: u64) {
+pub(crate) fn print_operation(op: u64, agree: u64, differ: u64) {
     if agree == 0 && differ == 0 {
         return;
     }
@@ -110,7 +94,7 @@ pub fn print_operation(op: u64, agree: u64, differ: u64) {
     print_counts(agree, differ);
 }
 
-pub fn print_sum(agree: u64, differ: u64, unknown: u64) {
+pub(crate) fn print_sum(agree: u64, differ: u64, unknown: u64) {
     if unknown > 0 {
         io::write_all(1, b"unknown: ");
         io::print_decimal(1, unknown);

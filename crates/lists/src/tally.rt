@@ -6,8 +6,7 @@ use crate::print::print_operation;
 use crate::print::print_sum;
 use crate::words::first_difference;
 ghost use mathlib.Core.Path.{_≡_};
-ghost use Prim.Native.Nat.{_+_, _*_, _<_, min};
-ghost use lib.ListN.{length, getD};
+ghost use Prim.Native.Nat.{_<_, min};
 ghost use Rattle.lists.specs.Tally.{verdictOf, more, bumped, tallied, damagedOf, noneDiffer};
 
 // What came of a case: so many words of output; a call that said no, by its number; inputs that are not what the operation takes; an operation that the program does not have.
@@ -59,15 +58,15 @@ fn one_more(x: u64) -> u64
     if x < u64::MAX { x + 1 } else { x }
 }
 
-fn bump(table: &mut [u64; 516], i: usize)
-    requires { ⌜ i < 516 ⌝ }
+fn bump(table: &mut [u64; 515], i: usize)
+    requires { ⌜ i < 515 ⌝ }
     ensures { λ _. ⌜ now (table .exit) ≡ bumped (now (table .entry)) i ⌝ }
 {
     table[i] = one_more(table[i]);
 }
 
 // Counts a case. Operation o < 256 has its numbers of agreeing and of differing cases at 2 o and 2 o + 1, all operations together at 512 and 513, unknown ones at 514.
-fn count(table: &mut [u64; 516], op: u64, v: Verdict)
+fn count(table: &mut [u64; 515], op: u64, v: Verdict)
     ensures { λ _. ⌜ now (table .exit) ≡ tallied (now (table .entry)) op v ⌝ }
 {
     if op >= 256 {
@@ -91,7 +90,7 @@ fn count(table: &mut [u64; 516], op: u64, v: Verdict)
 }
 
 // Whether this is the operation's first case that differs.
-fn is_first(table: &[u64; 516], op: u64, v: Verdict) -> bool {
+fn is_first(table: &[u64; 515], op: u64, v: Verdict) -> bool {
     if op >= 256 {
         return false;
     }
@@ -113,7 +112,7 @@ fn place_of(v: Verdict) -> usize {
 
 // Compares what came of a case with what is expected, prints an operation's first difference, and counts.
 pub fn judge(
-    table: &mut [u64; 516],
+    table: &mut [u64; 515],
     position: u64,
     case: Case,
     expected: &[u8],
@@ -130,16 +129,15 @@ pub fn judge(
     count(table, case.op, v);
 }
 
-// A list that breaks off, or has too long a case, there: counted as one case that differs.
-pub fn damaged(table: &mut [u64; 516], position: u64, long: bool)
+// A list that breaks off, or has too long a case, there: counted as one case that differs, of no operation.
+pub fn damaged(table: &mut [u64; 515], position: u64, long: bool)
     ensures { λ _. ⌜ now (table .exit) ≡ damagedOf (now (table .entry)) ⌝ }
 {
     print_damage(position, long);
-    bump(table, 515);
     bump(table, 513);
 }
 
-fn print_operations(table: &[u64; 516]) {
+fn print_operations(table: &[u64; 515]) {
     let mut op = 0;
     while op < 256 {
         let at = 2 * op;
@@ -149,7 +147,7 @@ fn print_operations(table: &[u64; 516]) {
 }
 
 // Prints the numbers of each operation that was met, and of all; whether no case differs.
-pub fn print_totals(table: &[u64; 516]) -> bool
+pub fn print_totals(table: &[u64; 515]) -> bool
     ensures { λ r. ⌜ r ≡ noneDiffer (now (table .entry)) ⌝ }
 {
     print_operations(table);

@@ -4,7 +4,6 @@ use numbers::bits::put_word;
 use numbers::bits::to_bits;
 use numbers::bits::word_at;
 ghost use mathlib.Core.Path.{_≡_};
-ghost use lib.ListN.{length};
 ghost use Rattle.lists.specs.Words.{wordOf, floatAt, floatsAt, wordPut, floatsPut, firstDiff};
 
 // Word k; past the end 0.

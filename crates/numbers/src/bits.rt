@@ -1,7 +1,7 @@
 // Floats as their 64 bits, and 64-bit words in bytes, the lowest byte first. A NaN has one pattern here; a word that does not fit is not written.
 ghost use mathlib.Core.Path.{_≡_};
 ghost use Prim.Native.Nat.{_+_, _≤_};
-ghost use lib.ListN.{length, take, drop};
+ghost use lib.ListN.{length};
 ghost use Rattle.numbers.specs.Bits.{floatOf, bitsOf, leNumber, wordAt, putWord, putBytes};
 
 // The float of a pattern. Every NaN's pattern gives NaN.

@@ -293,7 +293,7 @@ fn replay_diag(
     call_diag(n, from, told, inputs, &mut a[..lv], &mut c[..lo], got)
 }
 
-pub fn replay_array(
+pub(crate) fn replay_array(
     op: u64,
     ins: usize,
     inputs: &[u8],

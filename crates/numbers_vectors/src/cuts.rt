@@ -18,7 +18,7 @@ fn put_float(got: &mut [u8], k: usize, x: f64) {
     put(got, k, to_bits(x));
 }
 
-pub fn replay_root(ins: usize, inputs: &[u8], got: &mut [u8]) -> Replayed {
+pub(crate) fn replay_root(ins: usize, inputs: &[u8], got: &mut [u8]) -> Replayed {
     if ins != 1 {
         return Replayed::Unfit;
     }
@@ -79,7 +79,7 @@ fn core_params(op: u64, inputs: &[u8]) -> Params {
     }
 }
 
-pub fn replay_core(op: u64, ins: usize, inputs: &[u8], got: &mut [u8]) -> Replayed {
+pub(crate) fn replay_core(op: u64, ins: usize, inputs: &[u8], got: &mut [u8]) -> Replayed {
     if ins != inputs_of(op) {
         return Replayed::Unfit;
     }
@@ -125,7 +125,7 @@ fn put_answer(got: &mut [u8], answer: Answer) {
     put_params(got, 1, params);
 }
 
-pub fn replay_calc(op: u64, ins: usize, inputs: &[u8], got: &mut [u8]) -> Replayed {
+pub(crate) fn replay_calc(op: u64, ins: usize, inputs: &[u8], got: &mut [u8]) -> Replayed {
     if ins != inputs_of(op) {
         return Replayed::Unfit;
     }
@@ -149,7 +149,7 @@ pub fn replay_calc(op: u64, ins: usize, inputs: &[u8], got: &mut [u8]) -> Replay
 }
 
 // `EllCalc::new` with its refusal: the number, then what it made, or eight words of 0.
-pub fn replay_new(ins: usize, inputs: &[u8], got: &mut [u8]) -> Replayed {
+pub(crate) fn replay_new(ins: usize, inputs: &[u8], got: &mut [u8]) -> Replayed {
     if ins != 1 {
         return Replayed::Unfit;
     }

@@ -45,7 +45,7 @@ fn replay_next(
     a: &mut [f64],
     b: &mut [f64],
     c: &mut [f64],
-    table: &mut [u64; 516],
+    table: &mut [u64; 515],
 ) -> bool {
     match next_case(inputs, expected) {
         Next::Case(case) => {
@@ -73,7 +73,7 @@ fn replay_all(
     a: &mut [f64],
     b: &mut [f64],
     c: &mut [f64],
-    table: &mut [u64; 516],
+    table: &mut [u64; 515],
 ) {
     let mut position = 1;
     while position < u64::MAX && replay_next(position, inputs, expected, got, a, b, c, table) {
@@ -88,7 +88,7 @@ fn main() {
     let mut a = [0.0f64; 65536];
     let mut b = [0.0f64; 65536];
     let mut c = [0.0f64; 65536];
-    let mut table = [0u64; 516];
+    let mut table = [0u64; 515];
     replay_all(
         &mut inputs,
         &mut expected,

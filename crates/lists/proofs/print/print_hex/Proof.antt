@@ -7,10 +7,10 @@ use Rattle.lists.proofs.print.print_hex.Statement.{statement}
 use Rattle.lists.proofs.print.print_hex.Tie as tie
 
 abbrev Inv-loop : tie.InvT-loop
-Inv-loop w text₀ rest₀ i₀ text rest i = (i ≤ 16) × (16 ≡ length text)
+Inv-loop w digits text₀ rest₀ i₀ text rest i = (i ≤ 16) × (16 ≡ length text)
 
 abbrev μ-loop : tie.MeasureT-loop
-μ-loop w text₀ rest₀ i₀ text rest i = i
+μ-loop w digits text₀ rest₀ i₀ text rest i = i
 
 loop-holds : tie.Need-loop-holds Inv-loop μ-loop
 loop-holds c = search needs
@@ -18,8 +18,8 @@ loop-holds c = search needs
 sub-i : tie.Need-sub-i Inv-loop μ-loop
 sub-i c = search needs
 
-array-read-text : tie.Need-array-read-text Inv-loop μ-loop
-array-read-text c = search needs
+element-copy-out-text : tie.Need-element-copy-out-text Inv-loop μ-loop
+element-copy-out-text c = search needs
 
 array-write-text : tie.Need-array-write-text Inv-loop μ-loop
 array-write-text c = search needs
@@ -47,7 +47,7 @@ print-hex-spec =
     μ-loop
     loop-holds
     sub-i
-    array-read-text
+    element-copy-out-text
     array-write-text
     loop-less
     loop-again
