@@ -1,4 +1,4 @@
--- `numbers_vectors::replay_all` meets its contract.
+-- `numbers_vectors::replay_all` is safe and ends: the buffers keep their lengths, and the position rises.
 use mathlib.Core.Path.{_≡_}
 use Prim.Native.Nat.{_-_}
 use lib.ListN.{length}

@@ -1,4 +1,4 @@
--- `lists::case::read_words` meets its contract.
+-- `lists::case::read_words` is safe and ends.
 use lib.Seq.{length-take-le}
 use mathlib.Core.Path.{sym}
 use Prim.Native.Nat.{_*_}

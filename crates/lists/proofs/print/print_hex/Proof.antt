@@ -1,4 +1,4 @@
--- `lists::print::print_hex` meets its contract.
+-- `lists::print::print_hex` is safe and ends: i digits are left to write.
 use mathlib.Core.Path.{_≡_}
 use Prim.Native.Nat.{_≤_}
 use lib.ListN.{length}

@@ -1,4 +1,4 @@
--- `lists::tally::print_operations` meets its contract.
+-- `lists::tally::print_operations` is safe and ends.
 use Prim.Native.Nat.{_-_, _≤_}
 use borrow.Author.Needs.{needs}
 use Rattle.lists.proofs.tally.print_operations.Statement.{statement}

@@ -1,4 +1,4 @@
--- `lists::words::first_difference` meets its contract.
+-- `lists::words::first_difference` meets its contract: what is left to compare gives the answer.
 use mathlib.Core.Path.{_≡_, sym, ap, _∙_}
 use Prim.Native.Nat.{_-_, _≤_}
 use native.Mathlib.Omega.{arith}

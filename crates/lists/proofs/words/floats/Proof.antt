@@ -1,4 +1,4 @@
--- `lists::words::floats` meets its contract.
+-- `lists::words::floats` meets its contract: the first i floats stand.
 use Prim.Native.Nat.{_+_, _-_}
 use native.Mathlib.Omega.{arith}
 use lib.ListN.{length}

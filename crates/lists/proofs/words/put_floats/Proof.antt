@@ -1,4 +1,4 @@
--- `lists::words::put_floats` meets its contract.
+-- `lists::words::put_floats` meets its contract: the first i floats stand.
 use mathlib.Core.Path.{_≡_, ap, _∙_}
 use Prim.Native.Nat.{_-_, _≤_}
 use native.Mathlib.Omega.{arith}

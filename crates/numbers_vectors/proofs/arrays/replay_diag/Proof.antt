@@ -1,4 +1,4 @@
--- `numbers_vectors::arrays::replay_diag` meets its contract.
+-- `numbers_vectors::arrays::replay_diag` is safe and ends: each part lies within its buffer.
 use mathlib.Core.Path.{sym}
 use lib.Seq.{length-take-le}
 use borrow.Author.Needs.{needs}

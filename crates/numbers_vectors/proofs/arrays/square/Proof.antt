@@ -1,4 +1,4 @@
--- `numbers_vectors::arrays::square` meets its contract.
+-- `numbers_vectors::arrays::square` is safe and ends.
 use Prim.Native.Nat.{_*_, _≤_}
 use native.Mathlib.Nat.{mul-le-mul}
 use native.Mathlib.Omega.{arith}
