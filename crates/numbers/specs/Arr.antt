@@ -30,8 +30,8 @@ dotOf (x ∷ a) [] = −0ᶠ
 dotOf (x ∷ a) (y ∷ b) = dotFrom (x ⊗ y) a b
 
 -- row i of a flat table of rows of n
-abbrev pub rowOf : List Float → ℕ → ℕ → List Float
-rowOf table n i = take n (drop (i * n) table)
+abbrev pub rowOf : ℕ → List Float → ℕ → List Float
+rowOf n table i = take n (drop (i * n) table)
 
 -- f 0, f 1, .. f (n - 1)
 unfoldable pub tab {ℓ} : {X : Type ℓ} → (ℕ → X) → ℕ → List X
@@ -41,7 +41,7 @@ tab f (suc n) = tab f n ++ (f n ∷ [])
 -- matrix times vector: each row's sum begins at plus zero
 unfoldable pub mvOf : ℕ → List Float → List Float → List Float
 unfolding tab
-mvOf n mat x = tab (λ i. dotFrom 0ᶠ (rowOf mat n i) x) n
+mvOf n mat x = tab (λ i. dotFrom 0ᶠ (rowOf n mat i) x) n
 
 -- the entries (i, i) for i below k set to v's
 unfoldable pub setDiag : ℕ → List Float → ℕ → List Float → List Float

@@ -16,7 +16,7 @@ no-soln = record { status = NoSoln; params = record { rho = 0ᶠ; sigma = 0ᶠ; 
 abbrev pub no-effect : Answer
 no-effect = record { status = NoEffect; params = record { rho = 0ᶠ; sigma = 0ᶠ; delta = 1ᶠ } }
 
--- a status as the word that stands for it in a list
+-- a status as the word that stands for it in a list of answers (docs/LISTS.md)
 abbrev pub statusNumber : CutStatus → ℕ
 statusNumber Success = 0
 statusNumber NoSoln = 1

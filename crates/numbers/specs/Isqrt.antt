@@ -3,6 +3,7 @@ use mathlib.Core.Path.{_≡_, refl, sym, subst}
 use mathlib.Core.Bool.{Bool, true, false, not, cond}
 use Prim.Native.Nat.{ℕ, zero, suc, _+_, _*_, _/_, _^_, _≤_, _<_}
 use native.Mathlib.Nat.{mul-le-mul, mul-le-mul-right, lt-of-mul-lt-mul-right, le-of-mul-le-mul-right, lt-of-not-le, not-le-of-lt, le-antisymm, le-trans, lt-of-lt-of-le, lt-of-le-of-lt, le-of-eq, le-of-suc-le-suc, div-mul-le-self, lt-div-mul-add, mul-pos, pow-suc}
+use native.Mathlib.Numerals.{add-one-le}
 use native.Mathlib.Omega.{arith}
 use lib.Dec.{T, leb, leb→le, nleb→lt}
 use lib.Pow.{pow-pos}
@@ -63,9 +64,8 @@ isqrt-is N = isqrtTo-is (size N) N (lt-of-lt-of-le (size-lt N) (grow (size N)))
     grow : (k : ℕ) → 2 ^ k ≤ 4 ^ k
     grow k = rw four-pow (let p : 1 ≤ 2 ^ k = pow-pos k in le-trans (le-of-eq (omega arith)) (mul-le-mul-right (2 ^ k) p))
 
--- ---- √(M * 4 ^ g) in its 54 leading digits
+-- ---- √(M * 4 ^ g) without its last g digits
 
--- without its last g digits the root of M * 4 ^ g is that of M
 pub shifted-root : (M g w : ℕ) → IsRoot (M * 4 ^ g) w → IsRoot M (w / 2 ^ g)
 shifted-root M g w r =
     let p = 2 ^ g in
@@ -73,14 +73,11 @@ shifted-root M g w r =
     let P : 0 < p = pow-pos g in
     let e : 4 ^ g ≡ p * p = four-pow g in
     let l : c * p ≤ w = div-mul-le-self w p in
-    let u : w + 1 ≤ (c + 1) * p = le-trans (suc-form w (c * p + p) (lt-div-mul-add P)) (le-of-eq (omega arith)) in
+    let u : w + 1 ≤ (c + 1) * p = le-trans (add-one-le (lt-div-mul-add P)) (le-of-eq (omega arith)) in
     record {
       below = le-of-mul-le-mul-right (le-trans (le-of-eq (regroup c p)) (le-trans (mul-le-mul l l) (subst (λ (x : ℕ). w * w ≤ M * x) e (r .below)))) (mul-pos P P);
       above = lt-of-mul-lt-mul-right (p * p) (lt-of-lt-of-le (subst (λ (x : ℕ). M * x < (w + 1) * (w + 1)) e (r .above)) (le-trans (mul-le-mul u u) (le-of-eq (sym (regroup (c + 1) p)))));
     }
   where
-    suc-form : (a b : ℕ) → a < b → a + 1 ≤ b
-    suc-form a b h = omega arith
-
     regroup : (a b : ℕ) → a * a * (b * b) ≡ a * b * (a * b)
     regroup a b = omega arith

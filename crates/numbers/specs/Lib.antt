@@ -1,16 +1,19 @@
+-- Definitions, which a reader has to believe.
 pub mod Refusal
 pub mod F64
 pub mod Pick
 pub mod Arr
-pub mod ArrLaws
 pub mod Bits
-pub mod BitsLaws
-pub mod Cut
 pub mod Sqrt
+pub mod Cut
+pub mod EllCalcCore
+pub mod EllCalc
+-- Theorems about them, and the laws that these rest on.
+pub mod Known
+pub mod ArrLaws
+pub mod BitsLaws
+pub mod Values
 pub mod Isqrt
 pub mod Rounded
 pub mod Units
 pub mod Nearest
-pub mod EllCalcCore
-pub mod EllCalc
-pub mod Known

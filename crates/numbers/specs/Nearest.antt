@@ -3,13 +3,13 @@ use mathlib.Core.Path.{_≡_, refl, sym, ap, _∙_, subst}
 use mathlib.Core.Logic.{_⊎_, inl, inr}
 use mathlib.Core.Bool.{Bool, true, false, not}
 use Prim.Native.Nat.{ℕ, zero, suc, _+_, _-_, _*_, _/_, _%_, _^_, _≤_, _<_, compare, Ordering·eq}
-use native.Mathlib.Nat.{mul-le-mul, mul-le-mul-right, lt-of-mul-lt-mul-right, lt-of-not-le, not-le-of-lt, le-of-lt, le-trans, lt-of-lt-of-le, lt-of-le-of-lt, le-of-eq, le-of-suc-le-suc, mul-pos, pow-succ', mul-assoc, mul-lt-mul-of-pos-left, sub-le, not-suc-le-zero, zero-lt-suc}
+use native.Mathlib.Nat.{mul-le-mul, mul-le-mul-right, lt-of-mul-lt-mul-right, lt-of-not-le, not-le-of-lt, le-of-lt, le-trans, lt-of-lt-of-le, lt-of-le-of-lt, le-of-eq, le-of-suc-le-suc, mul-pos, pow-succ', mul-lt-mul-of-pos-left, sub-le, not-suc-le-zero, zero-lt-suc}
+use native.Mathlib.Numerals.{add-one-le}
 use native.Mathlib.Omega.{arith}
 use lib.IntN.{ℤ}
 use lib.Dec.{T, nltb→le, ltb, ltb→lt}
 use lib.Arith.{lt-of-le-ne}
-use lib.Count.{under}
-use lib.Pow.{pow-add, pow-pos, pow-mono}
+use lib.Pow.{pow-pos, pow-mono}
 use lib.Ieee.{Float, binary64, units, nan, inf, fin, fits}
 use lib.Ieee.Digits.{back}
 use lib.Ieee.Exact.{HasValue, units-val}
@@ -19,19 +19,17 @@ use lib.Ieee.Fits.{nan-fits, inf-fits}
 use lib.Ieee.Bits.{ofBits-fits}
 use Rattle.numbers.specs.Sqrt.{unitsOf, squareOf, middle, rounded, sqrtOf}
 use Rattle.numbers.specs.Rounded.{Form, form, rounded-scaled, root-least, half-least, half-most, even-square, from-kept, below-next, below-middle, above-middle, no-tie-at}
-use Rattle.numbers.specs.Units.{placed, value-units, value-unique, units-bits, in-range}
+use Rattle.numbers.specs.Values.{pow-join, value-unique}
+use Rattle.numbers.specs.Units.{placed, value-units, units-bits, in-range, negative, at-positive}
 
--- so above a q of 53 digits at the place k, the next value is that of q + 1
+-- No value of the format lies between q * 2 ^ k and (q + 1) * 2 ^ k units, for a q of 53 digits.
 grid : (q k n j : ℕ) → 2 ^ 52 ≤ q → n < 2 ^ 53 → q * 2 ^ k < n * 2 ^ j → (q + 1) * 2 ^ k ≤ n * 2 ^ j
 grid q k n j l h g =
     let i : k ≤ j = le-of-suc-le-suc (lt-of-not-le (λ (b : suc j ≤ k). not-le-of-lt g (low b))) in
-    let e : n * 2 ^ (j - k) * 2 ^ k ≡ n * 2 ^ j = mul-assoc n (2 ^ (j - k)) (2 ^ k) ∙ ap (λ (x : ℕ). n * x) (sym (pow-add 2 (j - k) k) ∙ ap (λ (x : ℕ). 2 ^ x) (back j k i)) in
+    let e : n * 2 ^ (j - k) * 2 ^ k ≡ n * 2 ^ j = pow-join n (j - k) k ∙ ap (λ (x : ℕ). n * 2 ^ x) (back j k i) in
     subst (λ (x : ℕ). (q + 1) * 2 ^ k ≤ x) e
-    (mul-le-mul-right (2 ^ k) (next q (n * 2 ^ (j - k)) (lt-of-mul-lt-mul-right (2 ^ k) (subst (λ (x : ℕ). q * 2 ^ k < x) (sym e) g))))
+    (mul-le-mul-right (2 ^ k) (add-one-le (lt-of-mul-lt-mul-right (2 ^ k) (subst (λ (x : ℕ). q * 2 ^ k < x) (sym e) g))))
   where
-    next : (a b : ℕ) → a < b → a + 1 ≤ b
-    next a b x = omega arith
-
     twice : (n p q : ℕ) → n < 2 ^ 53 → 2 ^ 52 * (2 * p) ≤ q → n * p ≤ q
     twice n p q x y = le-trans (mul-le-mul-right p (le-of-lt x)) (le-trans (le-of-eq (omega arith)) y)
 
@@ -41,7 +39,8 @@ grid q k n j l h g =
 -- ---- nearer to √N
 
 -- r lies nearer to √N than u does, or than -u where s is true; all in units. Between two numbers r and u the middle is (r + u) / 2, so r is
--- nearer where 2 * √N lies on its side of r + u, which the squares say. -u lies farther than r does where r - √N < √N + u.
+-- nearer where 2 * √N lies on its side of r + u, which the squares say. -u lies farther than r does where
+-- r - √N < √N + u; `r - u` is 0 where r ≤ u, and there 0 < 4 * N says no less.
 abbrev pub Nearer : ℕ → ℕ → Bool → ℕ → Type 0
 Nearer N r false u = ((r < u) × (4 * N < (r + u) * (r + u))) ⊎ ((u < r) × ((r + u) * (r + u) < 4 * N))
 Nearer N r true u = (r - u) * (r - u) < 4 * N
@@ -55,7 +54,7 @@ sq-lt {a} {b} h = lt-of-le-of-lt (mul-le-mul-right a (le-of-lt h)) (mul-lt-mul-o
     pos-of : a < b → 0 < b
     pos-of l = omega arith
 
--- Two facts make r the nearest: no other u lies on the side of r's nearer neighbour's middle.
+-- r is nearer than u where it is so on each side of r.
 by-sides : (N r u : ℕ) → (u ≡ r → ⊥) → (r < u → 4 * N < (r + u) * (r + u)) → (u < r → (r + u) * (r + u) < 4 * N) → Nearer N r false u
 by-sides N r u ne over under = go (ltb r u) (ltb→lt r u) (nltb→le r u)
   where
@@ -63,9 +62,9 @@ by-sides N r u ne over under = go (ltb r u) (ltb→lt r u) (nltb→le r u)
     go true a b = inl (a tt, over (a tt))
     go false a b = let l : u < r = lt-of-le-ne (b tt) ne in inr (l, under l)
 
-module _ (N q P u : ℕ) (grid : q * P < u → (q + 1) * P ≤ u) where
+module _ (N q P u : ℕ) (gap : q * P < u → (q + 1) * P ≤ u) where
   nearer-down : 4 * (q * P * (q * P)) ≤ 4 * N → 4 * N < (2 * q + 1) * P * ((2 * q + 1) * P) → (u ≡ q * P → ⊥) → Nearer N (q * P) false u
-  nearer-down l m ne = by-sides N (q * P) u ne (λ h. lt-of-lt-of-le m (sq-mono (le-trans (le-of-eq (omega arith)) (add-le (grid h))))) (λ h. lt-of-lt-of-le (sq-lt (add-lt h)) (le-trans (le-of-eq (omega arith)) l))
+  nearer-down l m ne = by-sides N (q * P) u ne (λ h. lt-of-lt-of-le m (sq-mono (le-trans (le-of-eq (omega arith)) (add-le (gap h))))) (λ h. lt-of-lt-of-le (sq-lt (add-lt h)) (le-trans (le-of-eq (omega arith)) l))
     where
       add-le : (q + 1) * P ≤ u → q * P + (q + 1) * P ≤ q * P + u
       add-le h = omega arith
@@ -80,7 +79,7 @@ module _ (N q P u : ℕ) (grid : q * P < u → (q + 1) * P ≤ u) where
       add-lt h = omega arith
 
       below : u < (q + 1) * P → u ≤ q * P
-      below h = le-of-suc-le-suc (lt-of-not-le (λ (g : suc (q * P) ≤ u). not-le-of-lt h (grid g)))
+      below h = le-of-suc-le-suc (lt-of-not-le (λ (g : suc (q * P) ≤ u). not-le-of-lt h (gap g)))
 
       add-le : u < (q + 1) * P → (q + 1) * P + u ≤ (q + 1) * P + q * P
       add-le h = let b = below h in omega arith
@@ -88,13 +87,9 @@ module _ (N q P u : ℕ) (grid : q * P < u → (q + 1) * P ≤ u) where
 -- ---- the theorems
 
 -- x has N = m * 2 ^ 54 * 4 ^ g, its root a, and the rounded root ((a + 1) / 2) * 2 ^ (g + 1) units
-pub record Rooted (x : Float) : Type 0 where
-  pub parts : Form (squareOf (unitsOf x)) 1585
+record Rooted (x : Float) : Type 0 where
+  pub parts : Form (squareOf (unitsOf x))
   pub is : sqrtOf x ≡ units binary64 false ((parts .a + 1) / 2) (parts .g + 1)
-
-sqrt-finite-is : (m : ℕ) (e : ℤ) → sqrtOf (fin false (suc m) e) ≡ rounded (squareOf (unitsOf (fin false (suc m) e)))
-unfolding sqrtOf
-sqrt-finite-is m e = refl
 
 rooted : (m : ℕ) (e : ℤ) → T (fits binary64 (fin false (suc m) e)) → Rooted (fin false (suc m) e)
 rooted m e f =
@@ -102,15 +97,15 @@ rooted m e f =
     let p = placed false (suc m) e f in
     let j = p .place in
     let N-is : squareOf (unitsOf x) ≡ suc m * 2 ^ (j + 1074) =
-    ap (λ (n : ℕ). n * 2 ^ 1074) (value-units x false (suc m * 2 ^ j) (p .value)) ∙ mul-assoc (suc m) (2 ^ j) (2 ^ 1074) ∙ ap (λ (n : ℕ). suc m * n) (sym (pow-add 2 j 1074)) in
-    let d = form (suc m) (j + 1074) 1585 (zero-lt-suc m) (p .small) (far-up j) (near j (p .reach)) in
-    let F : Form (squareOf (unitsOf x)) 1585 = subst (λ (N : ℕ). Form N 1585) (sym N-is) d in
-    record { parts = F; is = sqrt-finite-is m e ∙ ap rounded (F .square) ∙ rounded-scaled (F .m) (F .a) (F .g) (F .scaled) }
+    ap (λ (n : ℕ). n * 2 ^ 1074) (value-units x false (suc m * 2 ^ j) (p .value)) ∙ pow-join (suc m) j 1074 in
+    let d = form (suc m) (j + 1074) (zero-lt-suc m) (p .small) (far-up j) (near j (p .reach)) in
+    let F : Form (squareOf (unitsOf x)) = subst Form (sym N-is) d in
+    record { parts = F; is = at-positive (suc m) e (zero-lt-suc m) ∙ ap rounded (F .square) ∙ rounded-scaled (F .m) (F .a) (F .g) (F .scaled) }
   where
     far-up : (j : ℕ) → 107 ≤ j + 1074
     far-up j = omega arith
 
-    near : (j : ℕ) → j ≤ 2097 → (j + 1074) / 2 ≤ 1585
+    near : (j : ℕ) → j ≤ 2097 → j + 1074 ≤ 3171
     near j h = omega arith
 
 module _ (x : Float) (r : Rooted x) where
@@ -171,12 +166,6 @@ zero-farther : (N r : ℕ) → Nearer N r false 0 → r * r < 4 * N
 zero-farther N r (inl h) = absurd (not-suc-le-zero (h .0))
 zero-farther N r (inr h) = lt-of-le-of-lt (le-of-eq (omega arith)) (h .1)
 
--- a finite float's sign
-abbrev pub negative : Float → Bool
-negative nan = false
-negative (inf s) = s
-negative (fin s m e) = s
-
 -- For every other f64 the root lies strictly nearer: x positive and finite, y finite. (An infinity lies infinitely far from the root.)
 pub sqrt-nearest : (x y : Float) → T (fits binary64 x) → T (positive x) → T (fits binary64 y) → T (finite y) → (y ≡ sqrtOf x → ⊥)
     → Nearer (squareOf (unitsOf x)) (unitsOf (sqrtOf x)) (negative y) (unitsOf y)
@@ -194,8 +183,8 @@ sqrt-nearest (fin false (suc m) e) (fin t n d) f p g h ne = go t g ne
     r : Rooted x
     r = rooted m e f
 
-    units : unitsOf (sqrtOf x) ≡ root x r * 2 ^ place x r
-    units = value-units (sqrtOf x) false (root x r * 2 ^ place x r) (rooted-value x r)
+    root-units : unitsOf (sqrtOf x) ≡ root x r * 2 ^ place x r
+    root-units = value-units (sqrtOf x) false (root x r * 2 ^ place x r) (rooted-value x r)
 
     half-pos : 0 < root x r
     half-pos = let l = half-least (r .parts .m) (r .parts .a) (r .parts .scaled) in omega arith
@@ -207,12 +196,12 @@ sqrt-nearest (fin false (suc m) e) (fin t n d) f p g h ne = go t g ne
     go false g ne =
         let P = placed false n d g in
         let u : unitsOf (fin false n d) ≡ n * 2 ^ P .place = value-units (fin false n d) false (n * 2 ^ P .place) (P .value) in
-        rw (units, u)
+        rw (root-units, u)
         (rooted-nearer x r (n * 2 ^ P .place)
         (grid (r .parts .a / 2) (place x r) n (P .place) (let l = root-least (r .parts .m) (r .parts .a) (r .parts .scaled) in omega arith) (P .small))
-        (λ q. ne (value-unique (fin false n d) (sqrtOf x) false (n * 2 ^ P .place) g (rooted-fits x r) (P .value) (subst (λ (z : ℕ). HasValue (sqrtOf x) false z (2 ^ 1074)) (sym q) (rooted-value x r)))))
+        (λ q. ne (value-unique binary64 (fin false n d) (sqrtOf x) false (n * 2 ^ P .place) (2 ^ 1074) (pow-pos 1074) g (rooted-fits x r) (P .value) (subst (λ (z : ℕ). HasValue (sqrtOf x) false z (2 ^ 1074)) (sym q) (rooted-value x r)))))
     go true g ne =
-        rw units
+        rw root-units
         (lt-of-le-of-lt (sq-mono (sub-le (root x r * 2 ^ place x r) (unitsOf (fin true n d))))
         (zero-farther (squareOf (unitsOf x)) (root x r * 2 ^ place x r) (rooted-nearer x r 0 (λ l. absurd (not-suc-le-zero l)) not-zero)))
 

@@ -1,5 +1,5 @@
--- The first answer where a test holds, else the second. It stays shut, so that a chain of tests is proved a test at a time, by two laws.
-use mathlib.Core.Path.{_≡_, refl}
+-- The first answer where a test holds, else the second. It is not unfolded by itself, so that a chain of tests is proved a test at a time, by two laws.
+use mathlib.Core.Path.{_≡_}
 use mathlib.Core.Bool.{Bool, true, false}
 
 unfoldable pub pick {ℓ} : {X : Type ℓ} → Bool → X → X → X

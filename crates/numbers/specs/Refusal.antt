@@ -3,16 +3,16 @@ use Prim.Native.Nat.{ℕ}
 use Rattle.numbers.specs.declared.refusal.Refusal.{Refusal}
 use Rattle.numbers.specs.declared.refusal.Refusal.the-variants.{Dimension, Length, Band, Cursor, Position, NoStopValue, CutShort, ForeignTag, RepeatedTag, MissingTag, Room, Outcome}
 
-abbrev pub numberOf : Refusal → ℕ
-numberOf Dimension = 1
-numberOf Length = 2
-numberOf Band = 3
-numberOf Cursor = 4
-numberOf Position = 5
-numberOf NoStopValue = 6
-numberOf CutShort = 7
-numberOf ForeignTag = 8
-numberOf RepeatedTag = 9
-numberOf MissingTag = 10
-numberOf Room = 11
-numberOf Outcome = 12
+abbrev pub refusalNumber : Refusal → ℕ
+refusalNumber Dimension = 1
+refusalNumber Length = 2
+refusalNumber Band = 3
+refusalNumber Cursor = 4
+refusalNumber Position = 5
+refusalNumber NoStopValue = 6
+refusalNumber CutShort = 7
+refusalNumber ForeignTag = 8
+refusalNumber RepeatedTag = 9
+refusalNumber MissingTag = 10
+refusalNumber Room = 11
+refusalNumber Outcome = 12

@@ -9,6 +9,7 @@ use lib.Pow.{pow-add, pow-pos, pow-mono, shl-lt}
 use lib.Ieee.{ofBits, binary64, size, nearest, units}
 use lib.Ieee.Digits.{size-lt, size-le, size-reaches}
 use Rattle.numbers.specs.Sqrt.{isqrt, dropped, kept, middle, rounded, sqrtOf}
+use Rattle.numbers.specs.Values.{pow-join}
 use Rattle.numbers.specs.Isqrt.{IsRoot, sq-lt-back, root-unique, four-pow, isqrt-is, shifted-root}
 
 -- the order of two numbers, as `compare` says it
@@ -28,7 +29,7 @@ compare-gt a b h = go (compare a b) (eqb→eq a b) (leb→le a b)
     go Ordering·eq e g = let x = e tt in absurd (omega arith)
     go Ordering·gt e g = refl
 
--- The square of the root is m * 2 ^ 54 * 4 ^ g, with an m of 53 or 54 digits, and a is the whole part of √(m * 2 ^ 54).
+-- m has 53 or 54 digits, and a is the whole part of √(m * 2 ^ 54).
 pub record Scaled (m a : ℕ) : Type 0 where
   pub least : 2 ^ 52 ≤ m
   pub most : m ≤ 2 ^ 54 - 2
@@ -226,19 +227,19 @@ odd-exponent m e h p =
     let d : suc (e - 1) ≡ e = omega arith in
     ap (λ (x : ℕ). m * 2 * 2 ^ 54 * 4 ^ (x - 27)) (sym b) ∙ f ∙ mul-assoc m 2 (2 ^ (e - 1)) ∙ ap (λ (x : ℕ). m * x) (sym (pow-succ' 2 (e - 1)) ∙ ap (λ (x : ℕ). 2 ^ x) d)
 
--- N as m * 2 ^ 54 * 4 ^ g, with the root of m * 2 ^ 54; g is at most h
-pub record Form (N h : ℕ) : Type 0 where
+-- N as m * 2 ^ 54 * 4 ^ g, with the root of m * 2 ^ 54. For an f64 N is n * 2 ^ e with e at most 3171, so that g is at most 1558.
+pub record Form (N : ℕ) : Type 0 where
   pub m : ℕ
   pub a : ℕ
   pub g : ℕ
   pub scaled : Scaled m a
   pub square : N ≡ m * 2 ^ 54 * 4 ^ g
-  pub reach : g ≤ h
+  pub reach : g ≤ 1558
 
-form-normal : (m e h : ℕ) → 2 ^ 52 ≤ m → m < 2 ^ 53 → 54 ≤ e → e / 2 ≤ h → Form (m * 2 ^ e) h
-form-normal m e h l u k b = go (e % 2) refl
+form-normal : (m e : ℕ) → 2 ^ 52 ≤ m → m < 2 ^ 53 → 54 ≤ e → e ≤ 3171 → Form (m * 2 ^ e)
+form-normal m e l u k b = go (e % 2) refl
   where
-    at : (m′ : ℕ) → 2 ^ 52 ≤ m′ → m′ ≤ 2 ^ 54 - 2 → m′ * 2 ^ 54 * 4 ^ (e / 2 - 27) ≡ m * 2 ^ e → Form (m * 2 ^ e) h
+    at : (m′ : ℕ) → 2 ^ 52 ≤ m′ → m′ ≤ 2 ^ 54 - 2 → m′ * 2 ^ 54 * 4 ^ (e / 2 - 27) ≡ m * 2 ^ e → Form (m * 2 ^ e)
     at m′ x y z = record {
       m = m′;
       a = isqrt (m′ * 2 ^ 54);
@@ -248,7 +249,7 @@ form-normal m e h l u k b = go (e % 2) refl
       reach = omega arith;
     }
 
-    go : (t : ℕ) → e % 2 ≡ t → Form (m * 2 ^ e) h
+    go : (t : ℕ) → e % 2 ≡ t → Form (m * 2 ^ e)
     go zero p = at m l (omega arith) (even-exponent m e k p)
     go (suc t) p = at (m * 2) (omega arith) (omega arith) (odd-exponent m e k (omega arith))
 
@@ -263,8 +264,8 @@ size-pos n p = go (size n) (size-lt n)
     go (suc j) l = omega arith
 
 -- a number of at most 53 digits, moved up so that it has 53
-pub form : (n e h : ℕ) → 0 < n → n < 2 ^ 53 → 107 ≤ e → e / 2 ≤ h → Form (n * 2 ^ e) h
-form n e h p u k b = subst (λ (N : ℕ). Form N h) moved (form-normal (n * 2 ^ z) (e - z) h lower upper (omega arith) (omega arith))
+pub form : (n e : ℕ) → 0 < n → n < 2 ^ 53 → 107 ≤ e → e ≤ 3171 → Form (n * 2 ^ e)
+form n e p u k b = subst Form moved (form-normal (n * 2 ^ z) (e - z) lower upper (omega arith) (omega arith))
   where
     few : size n ≤ 53
     few = size-le n 53 u
@@ -285,10 +286,10 @@ form n e h p u k b = subst (λ (N : ℕ). Form N h) moved (form-normal (n * 2 ^ 
         (mul-le-mul-right (2 ^ z) (size-reaches n (size n - 1) (omega (arith, some))))
 
     moved : n * 2 ^ z * 2 ^ (e - z) ≡ n * 2 ^ e
-    moved = let d : z + (e - z) ≡ e = omega arith in mul-assoc n (2 ^ z) (2 ^ (e - z)) ∙ ap (λ (x : ℕ). n * x) (sym (pow-add 2 z (e - z)) ∙ ap (λ (x : ℕ). 2 ^ x) d)
+    moved = let d : z + (e - z) ≡ e = omega arith in pow-join n z (e - z) ∙ ap (λ (x : ℕ). n * 2 ^ x) d
 
 -- what the code works out first: the root of the number with these bits is that of m * 2 ^ 54 * 4 ^ g
-pub record Scales (bits m g : ℕ) : Type 0 where
+pub record SquareOfBits (bits m g : ℕ) : Type 0 where
   pub root : sqrtOf (ofBits binary64 bits) ≡ rounded (m * 2 ^ 54 * 4 ^ g)
   pub least : 2 ^ 52 ≤ m
   pub most : m ≤ 2 ^ 54 - 2

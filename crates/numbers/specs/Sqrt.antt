@@ -18,7 +18,7 @@ unfoldable pub isqrt : ℕ → ℕ
 unfolding isqrtTo
 isqrt N = isqrtTo (size N) N
 
--- How many units a finite x has in size: a whole number for every x that binary64 holds.
+-- How many units a finite x has in size; nothing is dropped for an x that binary64 holds: `units-exact` in Units.
 abbrev pub unitsOf : Float → ℕ
 unitsOf x = num x * 2 ^ low binary64 / den x
 
@@ -41,7 +41,7 @@ middle N = (2 * kept N + 1) * 2 ^ dropped N
 unfoldable pub rounded : ℕ → Float
 rounded N = units binary64 false (nearest (kept N) (compare (4 * N) (middle N * middle N))) (dropped N)
 
--- NaN and numbers below zero give NaN; each zero and plus infinity give themselves; any other x the rounded root.
+-- NaN and numbers below zero give NaN; each zero and plus infinity give themselves; any other x the rounded root, which is IEEE 754's: `sqrt-nearest` in Nearest.
 unfoldable pub sqrtOf : Float → Float
 sqrtOf nan = nan
 sqrtOf (inf false) = inf false

@@ -1,20 +1,21 @@
 -- Values of binary64 as whole numbers of units of 2 ^ -1074. Assumes nothing.
-use mathlib.Core.Path.{_≡_, refl, sym, ap, _∙_, subst}
-use mathlib.Core.Bool.{Bool, false, cond, _&&_}
+use mathlib.Core.Path.{subst, _≡_, refl, sym, ap, _∙_}
+use mathlib.Core.Bool.{true, Bool, false, cond}
 use Prim.Native.Nat.{ℕ, zero, suc, _+_, _-_, _*_, _/_, _%_, _^_, _≤_, _<_}
-use native.Mathlib.Nat.{mul-le-mul-right, mul-lt-mul-of-pos-right, lt-of-not-le, not-le-of-lt, le-trans, lt-of-lt-of-le, lt-of-le-of-lt, le-of-eq, le-of-suc-le-suc, pow-succ', mul-assoc, mul-div-cancel, mul-one, one-mul, zero-mul, zero-lt-suc}
+use native.Mathlib.Nat.{mul-pos, not-suc-le-zero, mul-lt-mul-of-pos-right, le-trans, lt-of-lt-of-le, le-of-eq, le-of-suc-le-suc, pow-succ', mul-div-cancel, zero-mul, zero-lt-suc}
 use native.Mathlib.Omega.{arith}
-use lib.IntN.{ℤ, pos, negsuc}
-use lib.Dec.{T, leb, eqb, leb→le, ltb, ltb→lt, lit<, lit≤}
+use lib.IntN.{ℤ}
+use lib.Dec.{T, eqb, lit<, lit≤}
 use lib.Count.{trailingZeros, under}
-use lib.Pow.{pow-add, pow-pos, pow-mono, pow-lt}
-use lib.Ieee.{Float, binary64, size, units, nan, inf, fin, up, down, minus, odd, fits, hid, top, ofFields, ofBits, toBits}
-use lib.Ieee.Digits.{back}
-use lib.Ieee.Fits.{and-l, and-r, down-pos}
+use lib.Pow.{pow-add, pow-pos, pow-mono}
+use lib.Ieee.{Float, binary64, units, nan, inf, fin, up, down, minus, odd, fits, ofFields, ofBits}
+use lib.Ieee.Fits.{down-pos}
 use lib.Ieee.Exact.{HasValue}
-use lib.Ieee.Bits.{ofBits-toBits}
 use borrow.Author.Tests.{lt-leb, ne-eqb, lt-ltb}
-use Rattle.numbers.specs.Sqrt.{unitsOf}
+use lib.Ieee.Positive.{first-pos}
+use lib.Ieee.Scale.{finite}
+use Rattle.numbers.specs.Sqrt.{unitsOf, squareOf, rounded, sqrtOf}
+use Rattle.numbers.specs.Values.{place-lt, Parts, fits-parts, whole}
 
 -- ---- q * 2 ^ k units as bits: the field is k + 1, and the leading digit of q adds one to it
 
@@ -73,18 +74,6 @@ value-units nan s u v = absurd v
 value-units (inf t) s u v = absurd v
 value-units (fin t m e) s u v = ap (λ (n : ℕ). n / down e) (v .1) ∙ mul-div-cancel u (down-pos e)
 
--- the bits of a value follow from its sign and its units, so it is the only one that has them
-bits-from : (s : Bool) (x : Float) (u : ℕ) → HasValue x s u (2 ^ 1074) → toBits binary64 x ≡ cond s (top binary64) 0 + (size u - 53) * hid binary64 + u / 2 ^ (size u - 53)
-unfolding toBits
-bits-from s nan u v = absurd v
-bits-from s (inf t) u v = absurd v
-bits-from s (fin t m e) u v =
-    ap (λ (b : Bool). cond b (top binary64) 0 + (size (unitsOf (fin t m e)) - 53) * hid binary64 + unitsOf (fin t m e) / 2 ^ (size (unitsOf (fin t m e)) - 53)) (v .0)
-    ∙ ap (λ (n : ℕ). cond s (top binary64) 0 + (size n - 53) * hid binary64 + n / 2 ^ (size n - 53)) (value-units (fin t m e) s u v)
-
-pub value-unique : (x y : Float) (s : Bool) (u : ℕ) → T (fits binary64 x) → T (fits binary64 y) → HasValue x s u (2 ^ 1074) → HasValue y s u (2 ^ 1074) → x ≡ y
-value-unique x y s u f g v w = sym (ofBits-toBits binary64 x f) ∙ ap (ofBits binary64) (bits-from s x u v ∙ sym (bits-from s y u w)) ∙ ofBits-toBits binary64 y g
-
 -- m * 2 ^ e is m * 2 ^ place units, with an m of at most 53 digits
 pub record Placed (s : Bool) (m : ℕ) (e : ℤ) : Type 0 where
   pub place : ℕ
@@ -92,45 +81,56 @@ pub record Placed (s : Bool) (m : ℕ) (e : ℤ) : Type 0 where
   pub small : m < 2 ^ 53
   pub reach : place ≤ 2097
 
-pub pow-lt-back : (a b : ℕ) → 2 ^ a < 2 ^ b → a < b
-pow-lt-back a b h = lt-of-not-le (λ (g : b ≤ a). not-le-of-lt h (pow-mono g))
-
-placed-at : (s : Bool) (m : ℕ) (e : ℤ) → 0 < m → m < 2 ^ 53 → down e ≤ 2 ^ 1074 → m * up e < 2 ^ 1024 * down e → Placed s m e
-placed-at s m (pos a) p h d r = record {
-  place = a + 1074;
-  value = (refl, mul-assoc m (2 ^ a) (2 ^ 1074) ∙ ap (λ (x : ℕ). m * x) (sym (pow-add 2 a 1074)) ∙ sym (mul-one (m * 2 ^ (a + 1074))));
-  small = h;
-  reach = last (pow-lt-back a 1024 (lt-of-le-of-lt (once (2 ^ a)) (subst (λ (x : ℕ). m * 2 ^ a < x) (mul-one (2 ^ 1024)) r)));
-}
-  where
-    once : (x : ℕ) → x ≤ m * x
-    once x = le-trans (le-of-eq (sym (one-mul x))) (mul-le-mul-right x p)
-
-    last : a < 1024 → a + 1074 ≤ 2097
-    last l = omega arith
-placed-at s m (negsuc b) p h d r =
-    let f : 2 ^ 1074 ≡ 2 ^ (1074 - suc b) * 2 ^ suc b = ap (λ (x : ℕ). 2 ^ x) (sym (back 1074 (suc b) (le-back d))) ∙ pow-add 2 (1074 - suc b) (suc b) in
-    record {
-      place = 1074 - suc b;
-      value = (refl, ap (λ (x : ℕ). x * 2 ^ 1074) (mul-one m) ∙ ap (λ (x : ℕ). m * x) f ∙ sym (mul-assoc m (2 ^ (1074 - suc b)) (2 ^ suc b)));
-      small = h;
-      reach = near (suc b);
-    }
-  where
-    near : (c : ℕ) → 1074 - c ≤ 2097
-    near c = omega arith
-
-    le-back : 2 ^ suc b ≤ 2 ^ 1074 → suc b ≤ 1074
-    le-back g = le-of-suc-le-suc (pow-lt-back (suc b) 1075 (lt-of-le-of-lt g (pow-lt (lit< {m = 1074} {n = 1075} tt))))
+placed-at : (s : Bool) (m : ℕ) (e : ℤ) → 0 < m → Parts binary64 m e → Placed s m e
+placed-at s m e p h =
+    let w = whole binary64 m e h in
+    record { place = w .place; value = (refl, w .is); small = h .small; reach = le-of-suc-le-suc (place-lt m (w .place) 2098 p (w .under)) }
 
 pub placed : (s : Bool) (m : ℕ) (e : ℤ) → T (fits binary64 (fin s m e)) → Placed s m e
-unfolding fits
-placed s zero e f = record { place = 0; value = (refl, ap (λ (x : ℕ). x * 2 ^ 1074) (zero-mul (up e)) ∙ zero-mul (2 ^ 1074) ∙ sym (zero-mul (down e))); small = lit< tt; reach = lit≤ tt }
-placed s (suc m) e f =
-    let a = eqb (suc m % 2) 1 in
-    let b = ltb (suc m) (2 ^ 53) in
-    let c = leb (down e) (2 ^ 1074) in
-    let d = ltb (suc m * up e) (2 ^ 1024 * down e) in
-    placed-at s (suc m) e (zero-lt-suc m) (ltb→lt (suc m) (2 ^ 53) (and-r a b (and-l (a && b) c (and-l (a && b && c) d f))))
-    (leb→le (down e) (2 ^ 1074) (and-r (a && b) c (and-l (a && b && c) d f)))
-    (ltb→lt (suc m * up e) (2 ^ 1024 * down e) (and-r (a && b && c) d f))
+placed s zero e f = record {
+  place = 0;
+  value = (refl, ap (λ (x : ℕ). x * 2 ^ 1074) (zero-mul (up e)) ∙ zero-mul (2 ^ 1074) ∙ sym (zero-mul (down e)));
+  small = lit< tt;
+  reach = lit≤ tt;
+}
+placed s (suc m) e f = placed-at s (suc m) e (zero-lt-suc m) (fits-parts binary64 s m e f)
+
+-- a float's sign
+abbrev pub negative : Float → Bool
+negative nan = false
+negative (inf s) = s
+negative (fin s m e) = s
+
+-- so `unitsOf` drops nothing of a finite value of the format
+pub units-exact : (x : Float) → T (fits binary64 x) → T (finite x) → HasValue x (negative x) (unitsOf x) (2 ^ 1074)
+units-exact nan f h = absurd h
+units-exact (inf s) f h = absurd h
+units-exact (fin s m e) f h =
+    let p = placed s m e f in
+    subst (λ (u : ℕ). HasValue (fin s m e) s u (2 ^ 1074)) (sym (value-units (fin s m e) s (m * 2 ^ p .place) (p .value))) (p .value)
+
+-- ---- the root of a number of u units
+
+value-pos : (m : ℕ) (e : ℤ) (u : ℕ) → 0 < u → m * up e * 2 ^ 1074 ≡ u * down e → 0 < m
+value-pos m e u p v = first-pos m (up e) (first-pos (m * up e) (2 ^ 1074) (subst (λ (x : ℕ). 0 < x) (sym v) (mul-pos p (down-pos e))))
+
+pub at-positive : (m : ℕ) (e : ℤ) → 0 < m → sqrtOf (fin false m e) ≡ rounded (squareOf (unitsOf (fin false m e)))
+unfolding sqrtOf
+at-positive zero e h = absurd (not-suc-le-zero h)
+at-positive (suc m) e h = refl
+
+at-negative : (m : ℕ) (e : ℤ) → 0 < m → sqrtOf (fin true m e) ≡ nan
+unfolding sqrtOf
+at-negative zero e h = absurd (not-suc-le-zero h)
+at-negative (suc m) e h = refl
+
+pub root-of-value : (x : Float) (u : ℕ) → 0 < u → HasValue x false u (2 ^ 1074) → sqrtOf x ≡ rounded (u * 2 ^ 1074)
+root-of-value nan u p v = absurd v
+root-of-value (inf t) u p v = absurd v
+root-of-value (fin s m e) u p v =
+    ap (λ (t : Bool). sqrtOf (fin t m e)) (v .0) ∙ at-positive m e (value-pos m e u p (v .1)) ∙ ap (λ (n : ℕ). rounded (n * 2 ^ 1074)) (value-units (fin s m e) false u v)
+
+pub no-root-of-value : (x : Float) (u : ℕ) → 0 < u → HasValue x true u (2 ^ 1074) → sqrtOf x ≡ nan
+no-root-of-value nan u p v = absurd v
+no-root-of-value (inf t) u p v = absurd v
+no-root-of-value (fin s m e) u p v = ap (λ (t : Bool). sqrtOf (fin t m e)) (v .0) ∙ at-negative m e (value-pos m e u p (v .1))

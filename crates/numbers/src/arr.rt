@@ -2,7 +2,6 @@
 use crate::refusal::Refusal;
 ghost use mathlib.Core.Path.{_≡_};
 ghost use Prim.Native.Nat.{_+_, _*_, _≤_, _<_, min};
-ghost use lib.Ieee.{Float};
 ghost use lib.ListN.{length, drop, replicate};
 ghost use Rattle.numbers.specs.F64.{0ᶠ};
 ghost use Rattle.numbers.specs.Arr.{isDimension, dotFrom, dotOf, mvOf, diagOf, setDiag, dot-answer, dot-mv-into-answer, copy-from-answer, eye-answer, from-diag-answer};
@@ -21,10 +20,7 @@ pub enum Written {
 pub fn is_dimension(n: usize) -> bool
     ensures { λ r. ⌜ r ≡ isDimension n ⌝ }
 {
-    if n < 2 {
-        return false;
-    }
-    n <= 32
+    2 <= n && n <= 32
 }
 
 fn shorter(a: usize, b: usize) -> usize

@@ -1,6 +1,6 @@
 // What a cut is, and what a calculator answers (cutting_plane.rs, ell_calc.rs).
 ghost use mathlib.Core.Path.{_≡_};
-ghost use Rattle.numbers.specs.Cut.{success, no-soln, no-effect, statusNumber};
+ghost use Rattle.numbers.specs.Cut.{statusNumber};
 
 // The bounds of a cut: one number or two.
 pub enum CutChoice {
@@ -36,41 +36,4 @@ pub struct Params {
 pub struct Answer {
     pub status: CutStatus,
     pub params: Params,
-}
-
-impl Answer {
-    pub fn success(params: Params) -> Answer
-        ensures { λ r. ⌜ r ≡ success params ⌝ }
-    {
-        Answer {
-            status: CutStatus::Success,
-            params: params,
-        }
-    }
-
-    pub fn no_soln() -> Answer
-        ensures { λ r. ⌜ r ≡ no-soln ⌝ }
-    {
-        Answer {
-            status: CutStatus::NoSoln,
-            params: Params {
-                rho: 0.0,
-                sigma: 0.0,
-                delta: 0.0,
-            },
-        }
-    }
-
-    pub fn no_effect() -> Answer
-        ensures { λ r. ⌜ r ≡ no-effect ⌝ }
-    {
-        Answer {
-            status: CutStatus::NoEffect,
-            params: Params {
-                rho: 0.0,
-                sigma: 0.0,
-                delta: 1.0,
-            },
-        }
-    }
 }

@@ -2,13 +2,53 @@
 use crate::arr::is_dimension;
 use crate::cut::Answer;
 use crate::cut::CutChoice;
+use crate::cut::CutStatus;
 use crate::cut::Params;
 use crate::refusal::Refusal;
 use crate::sqrt::sqrt;
 ghost use mathlib.Core.Path.{_≡_};
 ghost use Prim.Native.Nat.{_≤_};
+ghost use Rattle.numbers.specs.Cut.{success, no-soln, no-effect};
 ghost use Rattle.numbers.specs.EllCalcCore.{core-new, core-parallel-bias-cut-fast, core-parallel-bias-cut, core-parallel-central-cut, core-bias-cut-fast, core-bias-cut, core-central-cut};
 ghost use Rattle.numbers.specs.EllCalc.{made, new-answer, single-instead, calc-single-or-parallel-bias-cut, calc-single-or-parallel-central-cut, calc-single-or-parallel-q, calc-parallel-impl, calc-parallel-bias-cut, calc-parallel-q, calc-parallel-central-cut, calc-bias-cut, calc-bias-cut-q, calc-central-cut};
+
+// The three kinds of answer.
+fn success(params: Params) -> Answer
+    ensures { λ r. ⌜ r ≡ success params ⌝ }
+{
+    Answer {
+        status: CutStatus::Success,
+        params: params,
+    }
+}
+
+fn no_soln() -> Answer
+    ensures { λ r. ⌜ r ≡ no-soln ⌝ }
+{
+    let params = Params {
+        rho: 0.0,
+        sigma: 0.0,
+        delta: 0.0,
+    };
+    Answer {
+        status: CutStatus::NoSoln,
+        params: params,
+    }
+}
+
+fn no_effect() -> Answer
+    ensures { λ r. ⌜ r ≡ no-effect ⌝ }
+{
+    let params = Params {
+        rho: 0.0,
+        sigma: 0.0,
+        delta: 1.0,
+    };
+    Answer {
+        status: CutStatus::NoEffect,
+        params: params,
+    }
+}
 
 // Six numbers, worked out once from n.
 pub struct EllCalcCore {
@@ -130,7 +170,8 @@ impl EllCalcCore {
     }
 }
 
-// The calculators of a search space of dimension n. `use_parallel_cut` false answers two bounds as if there were one.
+// The calculators of a search space of dimension n. Where `use_parallel_cut` is false a second bound is only tested, against the first or, in the central
+// form, against zero, and otherwise ignored.
 pub struct EllCalc {
     pub n_f: f64,
     pub helper: EllCalcCore,
@@ -204,7 +245,7 @@ impl EllCalc {
         ensures { λ r. ⌜ r ≡ calc-parallel-impl self beta0 beta1 tsq discrete ⌝ }
     {
         if beta1 < beta0 {
-            return Answer::no_soln();
+            return no_soln();
         }
         if self.single_instead(beta1, tsq) {
             if discrete {
@@ -214,13 +255,11 @@ impl EllCalc {
         }
         let b0b1 = beta0 * beta1;
         let eta = tsq + self.n_f * b0b1;
-        if discrete {
-            if eta <= 0.0 {
-                return Answer::no_effect();
-            }
+        if discrete && eta <= 0.0 {
+            return no_effect();
         }
         let helper = self.helper;
-        Answer::success(helper.calc_parallel_bias_cut_fast(beta0, beta1, tsq, b0b1, eta))
+        success(helper.calc_parallel_bias_cut_fast(beta0, beta1, tsq, b0b1, eta))
     }
 
     pub fn calc_parallel_bias_cut(self, beta0: f64, beta1: f64, tsq: f64) -> Answer
@@ -239,27 +278,24 @@ impl EllCalc {
         ensures { λ r. ⌜ r ≡ calc-parallel-central-cut self beta1 tsq ⌝ }
     {
         if beta1 < 0.0 {
-            return Answer::no_soln();
+            return no_soln();
         }
-        if tsq <= beta1 * beta1 {
-            return self.calc_central_cut(tsq);
-        }
-        if !self.use_parallel_cut {
+        if tsq <= beta1 * beta1 || !self.use_parallel_cut {
             return self.calc_central_cut(tsq);
         }
         let helper = self.helper;
-        Answer::success(helper.calc_parallel_central_cut(beta1, tsq))
+        success(helper.calc_parallel_central_cut(beta1, tsq))
     }
 
     pub fn calc_bias_cut(self, beta: f64, tsq: f64) -> Answer
         ensures { λ r. ⌜ r ≡ calc-bias-cut self beta tsq ⌝ }
     {
         if tsq < beta * beta {
-            return Answer::no_soln();
+            return no_soln();
         }
         let tau = sqrt(tsq);
         let helper = self.helper;
-        Answer::success(helper.calc_bias_cut(beta, tau))
+        success(helper.calc_bias_cut(beta, tau))
     }
 
     pub fn calc_bias_cut_q(self, beta: f64, tsq: f64) -> Answer
@@ -267,20 +303,20 @@ impl EllCalc {
     {
         let tau = sqrt(tsq);
         if tau < beta {
-            return Answer::no_soln();
+            return no_soln();
         }
         let eta = tau + self.n_f * beta;
         if eta <= 0.0 {
-            return Answer::no_effect();
+            return no_effect();
         }
         let helper = self.helper;
-        Answer::success(helper.calc_bias_cut_fast(beta, tau, eta))
+        success(helper.calc_bias_cut_fast(beta, tau, eta))
     }
 
     pub fn calc_central_cut(self, tsq: f64) -> Answer
         ensures { λ r. ⌜ r ≡ calc-central-cut self tsq ⌝ }
     {
         let helper = self.helper;
-        Answer::success(helper.calc_central_cut(tsq))
+        success(helper.calc_central_cut(tsq))
     }
 }

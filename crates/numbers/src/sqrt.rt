@@ -4,7 +4,7 @@ ghost use Prim.Native.Nat.{_+_, _-_, _*_, _≤_, _<_, _^_};
 ghost use lib.Ieee.{binary64, ofBits};
 ghost use Rattle.numbers.specs.Sqrt.{sqrtOf};
 ghost use Rattle.numbers.specs.Isqrt.{IsRoot};
-ghost use Rattle.numbers.specs.Rounded.{Scales};
+ghost use Rattle.numbers.specs.Rounded.{SquareOfBits};
 
 // The bits of minus zero and of plus infinity.
 const SIGN: u64 = 0x8000_0000_0000_0000;
@@ -43,7 +43,7 @@ fn normalise(digits: u64) -> Normal
 // The square of the root of the number with these bits, positive and finite.
 fn square_of(bits: u64) -> Square
     requires { ⌜ (0 < bits) × (bits < 0x7ff0_0000_0000_0000) ⌝ }
-    ensures { λ r. ⌜ Scales bits (r .m) (r .g) ⌝ }
+    ensures { λ r. ⌜ SquareOfBits bits (r .m) (r .g) ⌝ }
 {
     let field = bits / HIDDEN;
     let digits = bits % HIDDEN;
@@ -93,8 +93,8 @@ fn root_digits(m: u64) -> u64
     a
 }
 
-// The root of the number with these bits, positive and finite: 54 digits of it, rounded to 53. An odd last digit rounds up,
-// since the root of an even number that is no square lies above it.
+// The root of the number with these bits, positive and finite: 54 digits a of it, rounded to 53. Where the last digit is 1 the root lies
+// above the middle: a is odd, so a² is odd and below the even number whose root is sought.
 fn root_of(bits: u64) -> f64
     requires { ⌜ (0 < bits) × (bits < 0x7ff0_0000_0000_0000) ⌝ }
     ensures { λ r. ⌜ r ≡ sqrtOf (ofBits binary64 bits) ⌝ }

@@ -1,19 +1,18 @@
 -- Laws that the proofs of arr alone use. Assumes nothing.
 use mathlib.Core.Path.{_≡_, refl, sym, ap, _∙_}
-use mathlib.Core.Bool.{Bool, true, false, not, _&&_, true≢false}
+use mathlib.Core.Bool.{Bool, true, false, not, _&&_}
 use mathlib.Core.List.{List, [], _∷_}
 use Prim.Native.Nat.{ℕ, zero, suc, _≤_, _<_, _+_, _*_, _-_, min}
 use native.Mathlib.Nat.{mul-le-mul, le-of-suc-le-suc}
 use native.Mathlib.Numerals.{add-one}
 use native.Mathlib.Omega.{arith}
-use borrow.Author.Tests.{leb-true, not-true, not-false}
-use lib.Dec.{leb}
+use borrow.Author.Tests.{not-true, not-false}
 use lib.ListN.{length, take, drop, getD, set, replicate, length-replicate}
 use lib.Seq.{take-all}
 use lib.Ieee.{Float, nan, neg, ofBits}
 use Rattle.numbers.specs.F64.{_⊕_, _⊗_, 0ᶠ}
 use Rattle.numbers.specs.Arr.{isDimension, dotFrom, dotOf, rowOf, tab, mvOf, setDiag, diagOf}
-use Rattle.numbers.specs.ArrLaws.{dot-step, dot-end, tab-getD, row-in}
+use Rattle.numbers.specs.ArrLaws.{dot-step, dot-end, tab-getD, row-in, dimension-most}
 
 -- ---- the sum's loop, from its invariant `dotFrom s (drop i a) (drop i b) ≡ d`
 
@@ -43,11 +42,11 @@ first-on (x ∷ a) (y ∷ b) h k = refl
 pub copied : (dst src : List Float) → length dst ≡ length src → tab (λ k. getD src k nan) (length dst) ≡ src
 copied dst src e = tab-getD src nan (length dst) (omega arith) ∙ take-all (length dst) src (omega arith)
 
-pub multiplied : (n : ℕ) (mat x out : List Float) → length out ≡ n → tab (λ k. dotFrom 0ᶠ (rowOf mat n k) x) (length out) ≡ mvOf n mat x
+pub multiplied : (n : ℕ) (mat x out : List Float) → length out ≡ n → tab (λ k. dotFrom 0ᶠ (rowOf n mat k) x) (length out) ≡ mvOf n mat x
 unfolding mvOf
 multiplied n mat x out e = rw e
 
-pub row-is : (n i : ℕ) (mat x : List Float) {d : Float} → d ≡ dotFrom 0ᶠ (take (i * n + n - i * n) (drop (i * n) mat)) x → d ≡ dotFrom 0ᶠ (rowOf mat n i) x
+pub row-is : (n i : ℕ) (mat x : List Float) {d : Float} → d ≡ dotFrom 0ᶠ (take (i * n + n - i * n) (drop (i * n) mat)) x → d ≡ dotFrom 0ᶠ (rowOf n mat i) x
 row-is n i mat x e = let k : i * n + n - i * n ≡ n = omega arith in rw k at e
 
 pub diagonal-turn : (n i : ℕ) (v mat₀ mat : List Float) → mat ≡ setDiag n v i mat₀ → set mat (i * n + i) (getD v i nan) ≡ setDiag n v (i + 1) mat₀
@@ -71,11 +70,7 @@ module _ (n : ℕ) (r : Bool) (e : r ≡ isDimension n) where
   a-dimension t = sym e ∙ not-false r t
 
   pub small : not r ≡ false → n ≤ 32
-  small t = leb-true n 32 (and-right (leb 2 n) (leb n 32) (a-dimension t))
-    where
-      and-right : (a b : Bool) → (a && b) ≡ true → b ≡ true
-      and-right true b h = h
-      and-right false b h = absurd (true≢false (sym h))
+  small t = dimension-most n (a-dimension t)
 
 pub square : (n : ℕ) → n ≤ 32 → n * n ≤ 1024
 square n h = omega (arith, mul-le-mul h h)

@@ -1,12 +1,12 @@
--- The turns of the two loops of `numbers::sqrt`, and the root from a number's bits. Assumes nothing.
+-- The turns of the two loops of `numbers::sqrt`. Assumes nothing.
 use mathlib.Core.Path.{_≡_, sym, ap, _∙_, subst}
 use Prim.Native.Nat.{ℕ, _+_, _-_, _*_, _/_, _%_, _^_, _≤_, _<_}
-use native.Mathlib.Nat.{mul-assoc, mul-one, one-mul, mul-le-mul-right, lt-of-le-of-lt, lt-of-lt-of-le, le-trans, le-of-eq, mul-pos, mul-div-cancel}
+use native.Mathlib.Nat.{le-of-suc-le-suc, mul-one, lt-of-lt-of-le, mul-pos, mul-div-cancel}
 use native.Mathlib.Omega.{arith}
 use lib.Arith.{digits-div}
 use lib.Pow.{pow-add, pow-pos, pow-mono}
 use Rattle.numbers.specs.Isqrt.{IsRoot}
-use Rattle.numbers.specs.Units.{pow-lt-back}
+use Rattle.numbers.specs.Values.{pow-join, place-lt}
 
 -- ---- `normalise`: digits moved up so far
 
@@ -18,20 +18,17 @@ pub up-start : (digits : ℕ) → digits < 2 ^ 53 → Up digits digits 0
 up-start digits h = record { is = sym (mul-one digits); small = h }
 
 pub up-more : (digits m moved : ℕ) → Up digits m moved → m < 2 ^ 52 → Up digits (m * 2) (moved + 1)
-up-more digits m moved u h = record { is = ap (λ (x : ℕ). x * 2) (u .is) ∙ mul-assoc digits (2 ^ moved) 2 ∙ ap (λ (x : ℕ). digits * x) (sym (pow-add 2 moved 1)); small = omega arith }
+up-more digits m moved u h = record { is = ap (λ (x : ℕ). x * 2) (u .is) ∙ pow-join digits moved 1; small = omega arith }
 
 pub up-few : (digits m moved : ℕ) → 0 < digits → Up digits m moved → moved ≤ 52
-up-few digits m moved p u = last (pow-lt-back moved 53 (lt-of-le-of-lt (le-trans (le-of-eq (sym (one-mul (2 ^ moved)))) (mul-le-mul-right (2 ^ moved) p)) (subst (λ (x : ℕ). x < 2 ^ 53) (u .is) (u .small))))
-  where
-    last : moved < 53 → moved ≤ 52
-    last l = omega arith
+up-few digits m moved p u = le-of-suc-le-suc (place-lt digits moved 53 p (subst (λ (x : ℕ). x < 2 ^ 53) (u .is) (u .small)))
 
 pub up-pos : (digits m moved : ℕ) → 0 < digits → Up digits m moved → 0 < m
 up-pos digits m moved p u = subst (λ (x : ℕ). 0 < x) (sym (u .is)) (mul-pos p (pow-pos moved))
 
 -- ---- `root_digits`: a has i digits of the root of m * 2 ^ 54, rest is left of the leading 2 * i digits, d is to come
 
--- shut, so that its large numbers stay out of sight where only bounds are asked
+-- not unfolded by itself: `omega` would stop at its large numbers where only bounds are asked
 pub Sum : ℕ → ℕ → ℕ → ℕ → ℕ → Type 0
 Sum m a rest d i = m * 2 ^ 54 * 4 ^ i ≡ (a * a + rest) * 2 ^ 108 + d * 2 ^ 54
 

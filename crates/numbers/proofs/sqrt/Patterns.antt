@@ -2,49 +2,22 @@
 use mathlib.Core.Path.{_≡_, refl, sym, ap, _∙_, subst}
 use mathlib.Core.Bool.{Bool, true, false, not, cond, true≢false}
 use Prim.Native.Nat.{ℕ, zero, suc, _+_, _-_, _*_, _/_, _%_, _^_, _≤_, _<_}
-use native.Mathlib.Nat.{mul-assoc, mul-one, mul-pos, not-suc-le-zero}
+use native.Mathlib.Nat.{mul-one, mul-pos}
 use native.Mathlib.Omega.{arith}
-use lib.IntN.{ℤ}
 use lib.Dec.{T, eqb, ltb}
-use lib.Pow.{pow-add, pow-pos}
+use lib.Pow.{pow-pos}
 use borrow.Author.Tests.{le-leb, le-ltb, ltb-false}
-use lib.Ieee.{Float, nan, inf, fin, binary64, up, down, odd, div, ne, fits, ofFields, ofBits, toBits, isNan, nanBits}
+use lib.Ieee.{Float, nan, inf, fin, binary64, odd, div, ne, fits, ofFields, ofBits, toBits, isNan, nanBits}
 use lib.Ieee.Bits.{ofBits-toBits, toBits-lt, nanBits-is, nanBits-above, is-false}
 use lib.Ieee.Compare.{differs-from-itself, nan-differs}
-use lib.Ieee.Exact.{HasValue, odd-sign}
-use lib.Ieee.Fits.{down-pos}
-use lib.Ieee.Positive.{first-pos}
-use Rattle.numbers.specs.Sqrt.{unitsOf, squareOf, rounded, sqrtOf}
+use lib.Ieee.Exact.{odd-sign}
+use Rattle.numbers.specs.Sqrt.{rounded, sqrtOf}
 use Rattle.numbers.specs.Isqrt.{IsRoot}
-use Rattle.numbers.specs.Rounded.{Scaled, rounded-scaled, root-most, half-least, half-most}
-use Rattle.numbers.specs.Units.{value-units, fields-are, bits-are, units-bits}
-use Rattle.numbers.specs.Rounded.{Scales}
+use Rattle.numbers.specs.Rounded.{SquareOfBits, Scaled, rounded-scaled, root-most, half-least, half-most}
+use Rattle.numbers.specs.Values.{pow-join}
+use Rattle.numbers.specs.Units.{root-of-value, no-root-of-value, fields-are, bits-are, units-bits}
 
 -- ---- a number that is q * 2 ^ k units, q above zero
-
-value-pos : (m : ℕ) (e : ℤ) (u : ℕ) → 0 < u → m * up e * 2 ^ 1074 ≡ u * down e → 0 < m
-value-pos m e u p v = first-pos m (up e) (first-pos (m * up e) (2 ^ 1074) (subst (λ (x : ℕ). 0 < x) (sym v) (mul-pos p (down-pos e))))
-
-at-positive : (m : ℕ) (e : ℤ) → 0 < m → sqrtOf (fin false m e) ≡ rounded (squareOf (unitsOf (fin false m e)))
-unfolding sqrtOf
-at-positive zero e h = absurd (not-suc-le-zero h)
-at-positive (suc m) e h = refl
-
-at-negative : (m : ℕ) (e : ℤ) → 0 < m → sqrtOf (fin true m e) ≡ nan
-unfolding sqrtOf
-at-negative zero e h = absurd (not-suc-le-zero h)
-at-negative (suc m) e h = refl
-
-root-of-value : (x : Float) (u : ℕ) → 0 < u → HasValue x false u (2 ^ 1074) → sqrtOf x ≡ rounded (u * 2 ^ 1074)
-root-of-value nan u p v = absurd v
-root-of-value (inf t) u p v = absurd v
-root-of-value (fin s m e) u p v =
-    ap (λ (t : Bool). sqrtOf (fin t m e)) (v .0) ∙ at-positive m e (value-pos m e u p (v .1)) ∙ ap (λ (n : ℕ). rounded (n * 2 ^ 1074)) (value-units (fin s m e) false u v)
-
-no-root-of-value : (x : Float) (u : ℕ) → 0 < u → HasValue x true u (2 ^ 1074) → sqrtOf x ≡ nan
-no-root-of-value nan u p v = absurd v
-no-root-of-value (inf t) u p v = absurd v
-no-root-of-value (fin s m e) u p v = ap (λ (t : Bool). sqrtOf (fin t m e)) (v .0) ∙ at-negative m e (value-pos m e u p (v .1))
 
 units-pos : (q k : ℕ) → 0 < q → 0 < q * 2 ^ k
 units-pos q k p = mul-pos p (pow-pos k)
@@ -61,27 +34,27 @@ zero-field : (s : Bool) (t : ℕ) → ofFields binary64 s 0 t ≡ odd 53 s t 0 1
 unfolding ofFields
 zero-field s t = refl
 
-pub root-subnormal : (bits : ℕ) → 0 < bits → bits / 2 ^ 52 ≡ 0 → sqrtOf (ofBits binary64 bits) ≡ rounded (bits % 2 ^ 52 * 2 ^ 1074)
+root-subnormal : (bits : ℕ) → 0 < bits → bits / 2 ^ 52 ≡ 0 → sqrtOf (ofBits binary64 bits) ≡ rounded (bits % 2 ^ 52 * 2 ^ 1074)
 root-subnormal bits p h =
     let t = bits % 2 ^ 52 in
     ap sqrtOf (bits-are bits 0 t (omega arith) h refl ∙ zero-field false t) ∙ root-of-odd t 0 (omega arith) ∙ ap (λ (x : ℕ). rounded (x * 2 ^ 1074)) (mul-one t)
 
-pub root-normal : (bits k : ℕ) → bits / 2 ^ 52 ≡ suc k → k ≤ 2045 → sqrtOf (ofBits binary64 bits) ≡ rounded ((2 ^ 52 + bits % 2 ^ 52) * 2 ^ (k + 1074))
+root-normal : (bits k : ℕ) → bits / 2 ^ 52 ≡ suc k → k ≤ 2045 → sqrtOf (ofBits binary64 bits) ≡ rounded ((2 ^ 52 + bits % 2 ^ 52) * 2 ^ (k + 1074))
 root-normal bits k h l =
     let t = bits % 2 ^ 52 in
     ap sqrtOf (bits-are bits (suc k) t (omega arith) h refl ∙ fields-are t k l)
     ∙ root-of-odd (2 ^ 52 + t) k (omega arith)
-    ∙ ap rounded (mul-assoc (2 ^ 52 + t) (2 ^ k) (2 ^ 1074) ∙ ap (λ (x : ℕ). (2 ^ 52 + t) * x) (sym (pow-add 2 k 1074)))
+    ∙ ap rounded (pow-join (2 ^ 52 + t) k 1074)
 
 -- moved up, the digits are the same number
-pub moved-up : (digits m moved e : ℕ) → m ≡ digits * 2 ^ moved → moved ≤ e → m * 2 ^ (e - moved) ≡ digits * 2 ^ e
+moved-up : (digits m moved e : ℕ) → m ≡ digits * 2 ^ moved → moved ≤ e → m * 2 ^ (e - moved) ≡ digits * 2 ^ e
 moved-up digits m moved e h l =
     let f : moved + (e - moved) ≡ e = omega arith in
-    ap (λ (x : ℕ). x * 2 ^ (e - moved)) h ∙ mul-assoc digits (2 ^ moved) (2 ^ (e - moved)) ∙ ap (λ (x : ℕ). digits * x) (sym (pow-add 2 moved (e - moved)) ∙ ap (λ (x : ℕ). 2 ^ x) f)
+    ap (λ (x : ℕ). x * 2 ^ (e - moved)) h ∙ pow-join digits moved (e - moved) ∙ ap (λ (x : ℕ). digits * 2 ^ x) f
 
 -- ---- the bits of the rounded root
 
-pub root-bits : (bits m g a : ℕ) → Scales bits m g → IsRoot (m * 2 ^ 54) a → ofBits binary64 ((g + 1) * 2 ^ 52 + (a + 1) / 2) ≡ sqrtOf (ofBits binary64 bits)
+pub root-bits : (bits m g a : ℕ) → SquareOfBits bits m g → IsRoot (m * 2 ^ 54) a → ofBits binary64 ((g + 1) * 2 ^ 52 + (a + 1) / 2) ≡ sqrtOf (ofBits binary64 bits)
 root-bits bits m g a s r =
     let k : g + 1 ≤ 2045 = let l = s .reach in omega arith in
     let f : Scaled m a = record { least = s .least; most = s .most; root = r } in
@@ -97,7 +70,7 @@ minus-zero : sqrtOf (ofBits binary64 (2 ^ 63)) ≡ ofBits binary64 (2 ^ 63)
 unfolding sqrtOf ofBits
 minus-zero = refl
 
-pub root-of-infinity : sqrtOf (ofBits binary64 0x7ff0_0000_0000_0000) ≡ ofBits binary64 0x7ff0_0000_0000_0000
+root-of-infinity : sqrtOf (ofBits binary64 0x7ff0_0000_0000_0000) ≡ ofBits binary64 0x7ff0_0000_0000_0000
 unfolding sqrtOf ofBits
 root-of-infinity = refl
 
@@ -118,7 +91,7 @@ no-root-at x t = go (eqb (suc x) 2047) (eqb t 0)
     go true false = unfold sqrtOf in refl
     go false b = no-root-of-odd (2 ^ 52 + t) x (omega arith)
 
-pub root-of-negative : (b : ℕ) → 2 ^ 63 ≤ b → (b % 2 ^ 63 ≡ 0 → ⊥) → sqrtOf (ofBits binary64 b) ≡ nan
+root-of-negative : (b : ℕ) → 2 ^ 63 ≤ b → (b % 2 ^ 63 ≡ 0 → ⊥) → sqrtOf (ofBits binary64 b) ≡ nan
 root-of-negative b h n = go (b % 2 ^ 63 / 2 ^ 52) refl
   where
     t : ℕ
@@ -128,7 +101,7 @@ root-of-negative b h n = go (b % 2 ^ 63 / 2 ^ 52) refl
     go zero e = ap sqrtOf (negative-is b 0 t h e refl ∙ zero-field true t) ∙ no-root-of-odd t 0 (omega (arith, n))
     go (suc x) e = ap sqrtOf (negative-is b (suc x) t h e refl) ∙ no-root-at x t
 
-pub root-of-zero : (b : ℕ) → b < 2 ^ 64 → b % 2 ^ 63 ≡ 0 → sqrtOf (ofBits binary64 b) ≡ ofBits binary64 b
+root-of-zero : (b : ℕ) → b < 2 ^ 64 → b % 2 ^ 63 ≡ 0 → sqrtOf (ofBits binary64 b) ≡ ofBits binary64 b
 root-of-zero b l h = go (b / 2 ^ 63) refl
   where
     at : (c : ℕ) → b ≡ c → sqrtOf (ofBits binary64 c) ≡ ofBits binary64 c → sqrtOf (ofBits binary64 b) ≡ ofBits binary64 b
@@ -140,18 +113,18 @@ root-of-zero b l h = go (b / 2 ^ 63) refl
 
 -- ---- `square_of`: m * 2 ^ 54 * 4 ^ g is the square, from either kind of pattern
 
-pub scales-subnormal : (bits d moved m g : ℕ) → 0 < bits → bits / 2 ^ 52 ≡ 0 → d ≡ bits % 2 ^ 52 * 2 ^ moved → moved ≤ 52
-    → (m * 2 ^ 54 * 4 ^ g ≡ d * 2 ^ (1074 - moved)) × (2 ^ 52 ≤ m) × (m ≤ 2 ^ 54 - 2) × (g ≤ 1532) → Scales bits m g
-scales-subnormal bits d moved m g p z e k h = record {
+pub square-subnormal : (bits d moved m g : ℕ) → 0 < bits → bits / 2 ^ 52 ≡ 0 → d ≡ bits % 2 ^ 52 * 2 ^ moved → moved ≤ 52
+    → (m * 2 ^ 54 * 4 ^ g ≡ d * 2 ^ (1074 - moved)) × (2 ^ 52 ≤ m) × (m ≤ 2 ^ 54 - 2) × (g ≤ 1532) → SquareOfBits bits m g
+square-subnormal bits d moved m g p z e k h = record {
   root = root-subnormal bits p z ∙ ap rounded (sym (h .0 ∙ moved-up (bits % 2 ^ 52) d moved 1074 e (omega arith)));
   least = h .1;
   most = h .2;
   reach = h .3;
 }
 
-pub scales-normal : (bits m g : ℕ) → bits < 0x7ff0_0000_0000_0000 → (bits / 2 ^ 52 ≡ 0 → ⊥)
-    → (m * 2 ^ 54 * 4 ^ g ≡ (2 ^ 52 + bits % 2 ^ 52) * 2 ^ (bits / 2 ^ 52 + 1073)) × (2 ^ 52 ≤ m) × (m ≤ 2 ^ 54 - 2) × (g ≤ 1532) → Scales bits m g
-scales-normal bits m g l n h =
+pub square-normal : (bits m g : ℕ) → bits < 0x7ff0_0000_0000_0000 → (bits / 2 ^ 52 ≡ 0 → ⊥)
+    → (m * 2 ^ 54 * 4 ^ g ≡ (2 ^ 52 + bits % 2 ^ 52) * 2 ^ (bits / 2 ^ 52 + 1073)) × (2 ^ 52 ≤ m) × (m ≤ 2 ^ 54 - 2) × (g ≤ 1532) → SquareOfBits bits m g
+square-normal bits m g l n h =
     let k = bits / 2 ^ 52 - 1 in
     let s : bits / 2 ^ 52 ≡ suc k = omega (arith, n) in
     let e : k + 1074 ≡ bits / 2 ^ 52 + 1073 = omega arith in
@@ -166,7 +139,7 @@ scales-normal bits m g l n h =
 pub no-nan : (b : ℕ) → b < 0x7ff0_0000_0000_0000 → T (not (nanBits binary64 b))
 no-nan b l = let e : nanBits binary64 b ≡ false = nanBits-above binary64 b ∙ le-ltb 0x7ff0_0000_0000_0000 (b % 2 ^ 63) (omega arith) in subst (λ (t : Bool). T (not t)) (sym e) tt
 
-pub root-small : (bits m g a : ℕ) → Scales bits m g → IsRoot (m * 2 ^ 54) a → a + 2 ≤ 2 ^ 54
+pub root-small : (bits m g a : ℕ) → SquareOfBits bits m g → IsRoot (m * 2 ^ 54) a → a + 2 ≤ 2 ^ 54
 root-small bits m g a s r = root-most m a (record { least = s .least; most = s .most; root = r })
 
 -- ---- `sqrt`: a NaN, and what is left when the other patterns are gone

@@ -2,7 +2,7 @@
 use Prim.Native.Nat.{_+_, _-_}
 use native.Mathlib.Omega.{arith}
 use lib.ListN.{length}
-use Rattle.numbers.specs.ArrLaws.{Half, half-start, half-turn, half-done}
+use Rattle.numbers.specs.ArrLaws.{FilledTo, filled-start, filled-turn, filled-done}
 use Rattle.lists.specs.Words.{floatAt}
 use Rattle.lists.proofs.words.Laws.{floats-out, floats-in}
 use borrow.Author.Needs.{needs}
@@ -10,7 +10,7 @@ use Rattle.lists.proofs.words.floats.Statement.{statement}
 use Rattle.lists.proofs.words.floats.Tie as tie
 
 abbrev Inv-loop : tie.InvT-loop
-Inv-loop bytes k out₀ most i₀ out i = Half (λ j. floatAt bytes (k + j)) out₀ out i
+Inv-loop bytes k out₀ most i₀ out i = FilledTo (λ j. floatAt bytes (k + j)) out₀ out i
 
 abbrev μ-loop : tie.MeasureT-loop
 μ-loop bytes k out₀ most i₀ out i = length out₀ - i
@@ -25,7 +25,7 @@ returns-2 : tie.Need-returns-2 Inv-loop μ-loop
 returns-2 c = floats-out _ _ _ (search needs)
 
 loop-holds : tie.Need-loop-holds Inv-loop μ-loop
-loop-holds c = half-start _ _
+loop-holds c = filled-start _ _
 
 add-float : tie.Need-add-float Inv-loop μ-loop
 add-float c = search needs
@@ -46,13 +46,13 @@ loop-less : tie.Need-loop-less Inv-loop μ-loop
 loop-less c = search needs
 
 loop-again : tie.Need-loop-again Inv-loop μ-loop
-loop-again c = half-turn _ _ _ (c .before .before .loop .i) (c .float .result) (c .before .before .loop .inv) (omega (arith, c .before .before .loop .inv .long)) (c .float .ensures)
+loop-again c = filled-turn _ _ _ (c .before .before .loop .i) (c .float .result) (c .before .before .loop .inv) (omega (arith, c .before .before .loop .inv .long)) (c .float .ensures)
 
 same-length : tie.Need-same-length Inv-loop μ-loop
 same-length c = c .before .loop .inv .long
 
 returns-3 : tie.Need-returns-3 Inv-loop μ-loop
-returns-3 c = floats-in _ _ _ _ (search needs) (half-done _ _ _ (c .before .loop .i) (c .before .loop .inv) (omega (arith, c .before .loop .inv .long)))
+returns-3 c = floats-in _ _ _ _ (search needs) (filled-done _ _ _ (c .before .loop .i) (c .before .loop .inv) (omega (arith, c .before .loop .inv .long)))
 
 pub floats-spec : {M : Type 1} → statement M
 floats-spec =

@@ -4,19 +4,19 @@ use Prim.Native.Nat.{_-_}
 use borrow.Author.Needs.{needs}
 use lib.ListN.{length, getD}
 use lib.Ieee.{nan}
-use Rattle.numbers.specs.ArrLaws.{Half, half-start, half-turn, half-done}
+use Rattle.numbers.specs.ArrLaws.{FilledTo, filled-start, filled-turn, filled-done}
 use Rattle.numbers.proofs.arr.Laws.{copied}
 use Rattle.numbers.proofs.arr.copy_all.Statement.{statement}
 use Rattle.numbers.proofs.arr.copy_all.Tie as tie
 
 abbrev Inv-loop : tie.InvT-loop
-Inv-loop dst₀ src i₀ dst i = Half (λ k. getD src k nan) dst₀ dst i
+Inv-loop dst₀ src i₀ dst i = FilledTo (λ k. getD src k nan) dst₀ dst i
 
 abbrev μ-loop : tie.MeasureT-loop
 μ-loop dst₀ src i₀ dst i = length src - i
 
 loop-holds : tie.Need-loop-holds Inv-loop μ-loop
-loop-holds c = half-start _ _
+loop-holds c = filled-start _ _
 
 mul-dst : tie.Need-mul-dst Inv-loop μ-loop
 mul-dst c = search needs
@@ -39,7 +39,7 @@ loop-less c = search needs
 loop-again : tie.Need-loop-again Inv-loop μ-loop
 loop-again c =
     let l = c .before .before .loop in
-    half-turn _ _ (l .dst) (l .i) _ (l .inv) (search needs) refl
+    filled-turn _ _ (l .dst) (l .i) _ (l .inv) (search needs) refl
 
 same-length : tie.Need-same-length Inv-loop μ-loop
 same-length c = search needs
@@ -48,7 +48,7 @@ returns : tie.Need-returns Inv-loop μ-loop
 returns c =
     let a = c .before .before .args in
     let l = c .before .loop in
-    half-done _ _ (l .dst) (l .i) (l .inv) (search needs) ∙ copied (a .dst .now) (a .src .now) (search needs)
+    filled-done _ _ (l .dst) (l .i) (l .inv) (search needs) ∙ copied (a .dst .now) (a .src .now) (search needs)
 
 pub copy-all-spec : {M : Type 1} → statement M
 copy-all-spec =

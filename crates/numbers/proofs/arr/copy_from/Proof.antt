@@ -1,7 +1,7 @@
 -- `numbers::arr::copy_from` meets its contract. Assumes nothing.
 use borrow.Author.Tests.{ne-eqb, eq-eqb}
 use borrow.Author.Needs.{needs}
-use Rattle.numbers.specs.ArrLaws.{wrong-dimension, wrong-length, right}
+use Rattle.numbers.specs.ArrLaws.{wrong-dimension, wrong-length, accepted}
 use Rattle.numbers.proofs.arr.Laws.{no-dimension, a-dimension, no-left, no-right, both}
 use Rattle.numbers.proofs.arr.copy_from.Statement.{statement}
 use Rattle.numbers.proofs.arr.copy_from.Tie as tie
@@ -42,7 +42,7 @@ returns-4 c =
     let d = e .before .before .before .is-dimension in
     let known = a-dimension n (d .result) (d .ensures) (e .before .before .if1 .left) in
     let fit = both _ _ (eq-eqb _ _ (e .before .if2 .left)) (eq-eqb _ _ (e .if3 .left)) in
-    rw (c .before .before .copy-all .ensures) (right _ _ _ _ _ known fit)
+    rw (c .before .before .copy-all .ensures) (accepted _ _ _ _ _ known fit)
 
 pub copy-from-spec : {M : Type 1} → statement M
 copy-from-spec =

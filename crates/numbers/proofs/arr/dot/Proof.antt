@@ -2,7 +2,7 @@
 use mathlib.Core.Path.{ap, _∙_}
 use borrow.Author.Tests.{ne-eqb, eq-eqb}
 use borrow.Author.Needs.{needs}
-use Rattle.numbers.specs.ArrLaws.{wrong-dimension, wrong-length, right}
+use Rattle.numbers.specs.ArrLaws.{wrong-dimension, wrong-length, accepted}
 use Rattle.numbers.specs.declared.arr.Number.the-variants.{Value}
 use Rattle.numbers.proofs.arr.Laws.{no-dimension, a-dimension, no-left, no-right, both}
 use Rattle.numbers.proofs.arr.dot.Statement.{statement}
@@ -41,7 +41,7 @@ returns-4 c =
     let d = e .before .before .before .is-dimension in
     let known = a-dimension n (d .result) (d .ensures) (e .before .before .if1 .left) in
     let fit = both _ _ (eq-eqb _ _ (e .before .if2 .left)) (eq-eqb _ _ (e .if3 .left)) in
-    ap Value (c .dot-zip .ensures) ∙ right _ _ _ _ _ known fit
+    ap Value (c .dot-zip .ensures) ∙ accepted _ _ _ _ _ known fit
 
 pub dot-spec : {M : Type 1} → statement M
 dot-spec =

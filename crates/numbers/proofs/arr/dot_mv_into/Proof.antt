@@ -2,7 +2,7 @@
 use native.Mathlib.Omega.{arith}
 use borrow.Author.Tests.{ne-eqb, eq-eqb}
 use borrow.Author.Needs.{needs}
-use Rattle.numbers.specs.ArrLaws.{wrong-dimension, wrong-length, right}
+use Rattle.numbers.specs.ArrLaws.{wrong-dimension, wrong-length, accepted}
 use Rattle.numbers.proofs.arr.Laws.{no-dimension, a-dimension, small, square, no-left, no-right, both}
 use Rattle.numbers.proofs.arr.dot_mv_into.Statement.{statement}
 use Rattle.numbers.proofs.arr.dot_mv_into.Tie as tie
@@ -59,7 +59,7 @@ returns-5 c =
     let d = e .before .before .before .before .is-dimension in
     let known = a-dimension n (d .result) (d .ensures) (e .before .before .before .if1 .left) in
     let fit = both _ _ (both _ _ (eq-eqb _ _ (e .before .before .if2 .left)) (eq-eqb _ _ (e .before .if3 .left))) (eq-eqb _ _ (e .if4 .left)) in
-    rw (c .before .before .rows-into .ensures) (right _ _ _ _ _ known fit)
+    rw (c .before .before .rows-into .ensures) (accepted _ _ _ _ _ known fit)
 
 pub dot-mv-into-spec : {M : Type 1} → statement M
 dot-mv-into-spec =

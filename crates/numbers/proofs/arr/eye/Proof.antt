@@ -6,7 +6,7 @@ use borrow.Author.Tests.{ne-eqb, eq-eqb}
 use borrow.Author.Needs.{needs}
 use Rattle.numbers.specs.F64.{1ᶠ}
 use Rattle.numbers.specs.Arr.{diagOf}
-use Rattle.numbers.specs.ArrLaws.{wrong-dimension, wrong-length, right}
+use Rattle.numbers.specs.ArrLaws.{wrong-dimension, wrong-length, accepted}
 use Rattle.numbers.proofs.arr.Laws.{same-long, take-replicate, no-dimension, a-dimension, small, square}
 use Rattle.numbers.proofs.arr.eye.Statement.{statement}
 use Rattle.numbers.proofs.arr.eye.Tie as tie
@@ -61,7 +61,7 @@ returns-3 c =
     let d = c .before .before .before .before .before .before .before .is-dimension in
     let h = c .before .before .before .before .before .before .if1 .left in
     rw (c .before .before .diagonal-into .ensures ∙ ap (diagOf n) (take-replicate n 32 1ᶠ (small n (d .result) (d .ensures) h)))
-    (right _ _ _ _ _ (a-dimension n (d .result) (d .ensures) h) (eq-eqb _ _ (c .before .before .before .before .before .if2 .left)))
+    (accepted _ _ _ _ _ (a-dimension n (d .result) (d .ensures) h) (eq-eqb _ _ (c .before .before .before .before .before .if2 .left)))
 
 pub eye-spec : {M : Type 1} → statement M
 eye-spec =

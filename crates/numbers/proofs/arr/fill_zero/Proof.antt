@@ -4,18 +4,18 @@ use Prim.Native.Nat.{_-_}
 use borrow.Author.Needs.{needs}
 use lib.ListN.{length}
 use Rattle.numbers.specs.F64.{0ᶠ}
-use Rattle.numbers.specs.ArrLaws.{Half, half-start, half-turn, half-done, tab-replicate}
+use Rattle.numbers.specs.ArrLaws.{FilledTo, filled-start, filled-turn, filled-done, tab-replicate}
 use Rattle.numbers.proofs.arr.fill_zero.Statement.{statement}
 use Rattle.numbers.proofs.arr.fill_zero.Tie as tie
 
 abbrev Inv-loop : tie.InvT-loop
-Inv-loop out₀ i₀ out i = Half (λ k. 0ᶠ) out₀ out i
+Inv-loop out₀ i₀ out i = FilledTo (λ k. 0ᶠ) out₀ out i
 
 abbrev μ-loop : tie.MeasureT-loop
 μ-loop out₀ i₀ out i = length out₀ - i
 
 loop-holds : tie.Need-loop-holds Inv-loop μ-loop
-loop-holds c = half-start _ _
+loop-holds c = filled-start _ _
 
 mul-out : tie.Need-mul-out Inv-loop μ-loop
 mul-out c = search needs
@@ -32,7 +32,7 @@ loop-less c = search needs
 loop-again : tie.Need-loop-again Inv-loop μ-loop
 loop-again c =
     let l = c .before .loop in
-    half-turn _ _ (l .out) (l .i) _ (l .inv) (search needs) refl
+    filled-turn _ _ (l .out) (l .i) _ (l .inv) (search needs) refl
 
 same-length : tie.Need-same-length Inv-loop μ-loop
 same-length c = search needs
@@ -40,7 +40,7 @@ same-length c = search needs
 returns : tie.Need-returns Inv-loop μ-loop
 returns c =
     let l = c .before .loop in
-    half-done _ _ (l .out) (l .i) (l .inv) (search needs) ∙ tab-replicate 0ᶠ _
+    filled-done _ _ (l .out) (l .i) (l .inv) (search needs) ∙ tab-replicate 0ᶠ _
 
 pub fill-zero-spec : {M : Type 1} → statement M
 fill-zero-spec =

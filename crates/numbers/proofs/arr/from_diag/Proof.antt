@@ -2,7 +2,7 @@
 use native.Mathlib.Omega.{arith}
 use borrow.Author.Tests.{ne-eqb, eq-eqb}
 use borrow.Author.Needs.{needs}
-use Rattle.numbers.specs.ArrLaws.{wrong-dimension, wrong-length, right}
+use Rattle.numbers.specs.ArrLaws.{wrong-dimension, wrong-length, accepted}
 use Rattle.numbers.proofs.arr.Laws.{no-dimension, a-dimension, small, square, no-left, no-right, both}
 use Rattle.numbers.proofs.arr.from_diag.Statement.{statement}
 use Rattle.numbers.proofs.arr.from_diag.Tie as tie
@@ -52,7 +52,7 @@ returns-4 c =
     let d = e .before .before .before .is-dimension in
     let known = a-dimension n (d .result) (d .ensures) (e .before .before .if1 .left) in
     let fit = both _ _ (eq-eqb _ _ (e .before .if2 .left)) (eq-eqb _ _ (e .if3 .left)) in
-    rw (c .before .before .diagonal-into .ensures) (right _ _ _ _ _ known fit)
+    rw (c .before .before .diagonal-into .ensures) (accepted _ _ _ _ _ known fit)
 
 pub from-diag-spec : {M : Type 1} → statement M
 from-diag-spec =

@@ -3,7 +3,7 @@ use mathlib.Core.Path.{_∙_}
 use Prim.Native.Nat.{_-_}
 use native.Mathlib.Omega.{arith}
 use borrow.Author.Needs.{needs}
-use Rattle.numbers.specs.ArrLaws.{row-in, Half, half-start, half-turn, half-done}
+use Rattle.numbers.specs.ArrLaws.{row-in, FilledTo, filled-start, filled-turn, filled-done}
 use Rattle.numbers.specs.F64.{0ᶠ}
 use Rattle.numbers.specs.Arr.{dotFrom, rowOf}
 use Rattle.numbers.proofs.arr.Laws.{row-small, row-is, multiplied}
@@ -11,13 +11,13 @@ use Rattle.numbers.proofs.arr.rows_into.Statement.{statement}
 use Rattle.numbers.proofs.arr.rows_into.Tie as tie
 
 abbrev Inv-loop : tie.InvT-loop
-Inv-loop n mat x out₀ i₀ out i = Half (λ k. dotFrom 0ᶠ (rowOf mat n k) x) out₀ out i
+Inv-loop n mat x out₀ i₀ out i = FilledTo (λ k. dotFrom 0ᶠ (rowOf n mat k) x) out₀ out i
 
 abbrev μ-loop : tie.MeasureT-loop
 μ-loop n mat x out₀ i₀ out i = n - i
 
 loop-holds : tie.Need-loop-holds Inv-loop μ-loop
-loop-holds c = half-start _ _
+loop-holds c = filled-start _ _
 
 mul-at : tie.Need-mul-at Inv-loop μ-loop
 mul-at c =
@@ -68,7 +68,7 @@ loop-again : tie.Need-loop-again Inv-loop μ-loop
 loop-again c =
     let a = c .before .before .before .before .before .before .before .args in
     let l = c .before .before .before .loop in
-    half-turn _ _ (l .out) (l .i) _ (l .inv) (search needs) (row-is (a .n) (l .i) (a .mat .now) (a .x .now) (c .add-products .ensures))
+    filled-turn _ _ (l .out) (l .i) _ (l .inv) (search needs) (row-is (a .n) (l .i) (a .mat .now) (a .x .now) (c .add-products .ensures))
 
 same-length : tie.Need-same-length Inv-loop μ-loop
 same-length c = search needs
@@ -77,7 +77,7 @@ returns : tie.Need-returns Inv-loop μ-loop
 returns c =
     let a = c .before .before .before .before .before .args in
     let l = c .before .loop in
-    half-done _ _ (l .out) (l .i) (l .inv) (search needs) ∙ multiplied (a .n) (a .mat .now) (a .x .now) (a .out .now) (search needs)
+    filled-done _ _ (l .out) (l .i) (l .inv) (search needs) ∙ multiplied (a .n) (a .mat .now) (a .x .now) (a .out .now) (search needs)
 
 pub rows-into-spec : {M : Type 1} → statement M
 rows-into-spec =

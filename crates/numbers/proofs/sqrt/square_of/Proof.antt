@@ -1,5 +1,5 @@
 -- `numbers::sqrt::square_of` meets its contract. Assumes nothing.
-use Rattle.numbers.proofs.sqrt.Patterns.{scales-subnormal, scales-normal}
+use Rattle.numbers.proofs.sqrt.Patterns.{square-subnormal, square-normal}
 use borrow.Author.Needs.{needs}
 use Rattle.numbers.proofs.sqrt.square_of.Statement.{statement}
 use Rattle.numbers.proofs.sqrt.square_of.Tie as tie
@@ -17,7 +17,7 @@ returns : tie.Need-returns
 returns c =
     let a = c .before .before .before .before in
     let n = c .before .before .normalise .ensures in
-    scales-subnormal (a .args .bits) _ _ _ _ (a .pre .0) (c .before .before .before .if1 .taken) (n .0) (n .3) (c .halved .ensures)
+    square-subnormal (a .args .bits) _ _ _ _ (a .pre .0) (c .before .before .before .if1 .taken) (n .0) (n .3) (c .halved .ensures)
 
 add-halved : tie.Need-add-halved
 add-halved c = search needs
@@ -29,7 +29,7 @@ halved-requires-2 : tie.Need-halved-requires-2
 halved-requires-2 c κs = search needs
 
 returns-2 : tie.Need-returns-2
-returns-2 c = scales-normal _ _ _ (c .before .before .pre .1) (c .before .if1 .left) (c .halved2 .ensures)
+returns-2 c = square-normal _ _ _ (c .before .before .pre .1) (c .before .if1 .left) (c .halved2 .ensures)
 
 pub square-of-spec : {M : Type 1} → statement M
 square-of-spec =

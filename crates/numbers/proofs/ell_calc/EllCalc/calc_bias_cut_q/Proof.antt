@@ -1,22 +1,21 @@
 -- `numbers::ell_calc::EllCalc::calc_bias_cut_q` meets its contract. Assumes nothing.
-use borrow.Author.Needs.{needs}
 use Rattle.numbers.specs.Pick.{hit, skip}
 use Rattle.numbers.specs.EllCalc.{calc-bias-cut-q}
 use Rattle.numbers.proofs.ell_calc.EllCalc.calc_bias_cut_q.Statement.{statement}
 use Rattle.numbers.proofs.ell_calc.EllCalc.calc_bias_cut_q.Tie as tie
 
 sqrt-requires : tie.Need-sqrt-requires
-sqrt-requires c κs = search needs
+sqrt-requires c κs = tt
 
 no-soln-requires : tie.Need-no-soln-requires
-no-soln-requires c κs = search needs
+no-soln-requires c κs = tt
 
 returns : tie.Need-returns
 unfolding calc-bias-cut-q
 returns c = rw (← c .before .before .sqrt .ensures) (hit _ _ _ _ (c .before .if1 .taken) (c .no-soln .ensures))
 
 no-effect-requires : tie.Need-no-effect-requires
-no-effect-requires c κs = search needs
+no-effect-requires c κs = tt
 
 returns-2 : tie.Need-returns-2
 unfolding calc-bias-cut-q
@@ -25,10 +24,10 @@ returns-2 c =
     (skip _ _ _ _ (c .before .before .before .if1 .left) (hit _ _ _ _ (c .before .if2 .taken) (c .no-effect .ensures)))
 
 calc-bias-cut-fast-requires : tie.Need-calc-bias-cut-fast-requires
-calc-bias-cut-fast-requires c κs = search needs
+calc-bias-cut-fast-requires c κs = tt
 
 success-requires : tie.Need-success-requires
-success-requires c κs = search needs
+success-requires c κs = tt
 
 returns-3 : tie.Need-returns-3
 unfolding calc-bias-cut-q

@@ -1,14 +1,13 @@
 -- `numbers::ell_calc::EllCalc::calc_central_cut` meets its contract. Assumes nothing.
-use borrow.Author.Needs.{needs}
 use Rattle.numbers.specs.EllCalc.{calc-central-cut}
 use Rattle.numbers.proofs.ell_calc.EllCalc.calc_central_cut.Statement.{statement}
 use Rattle.numbers.proofs.ell_calc.EllCalc.calc_central_cut.Tie as tie
 
 calc-central-cut-requires : tie.Need-calc-central-cut-requires
-calc-central-cut-requires c κs = search needs
+calc-central-cut-requires c κs = tt
 
 success-requires : tie.Need-success-requires
-success-requires c κs = search needs
+success-requires c κs = tt
 
 returns : tie.Need-returns
 unfolding calc-central-cut

@@ -1,11 +1,10 @@
 -- `numbers::ell_calc::EllCalc::calc_parallel_bias_cut` meets its contract. Assumes nothing.
-use borrow.Author.Needs.{needs}
 use Rattle.numbers.specs.EllCalc.{calc-parallel-bias-cut}
 use Rattle.numbers.proofs.ell_calc.EllCalc.calc_parallel_bias_cut.Statement.{statement}
 use Rattle.numbers.proofs.ell_calc.EllCalc.calc_parallel_bias_cut.Tie as tie
 
 calc-parallel-impl-requires : tie.Need-calc-parallel-impl-requires
-calc-parallel-impl-requires c κs = search needs
+calc-parallel-impl-requires c κs = tt
 
 returns : tie.Need-returns
 unfolding calc-parallel-bias-cut

@@ -1,24 +1,23 @@
 -- `numbers::ell_calc::EllCalc::calc_parallel_impl` meets its contract. Each answer is one pick of the definition, and what its tests say there. Assumes nothing.
 use mathlib.Core.Path.{sym, _∙_}
 use mathlib.Core.Logic.{⊎-elim}
-use borrow.Author.Needs.{needs}
 use Rattle.numbers.specs.Pick.{hit, skip}
 use Rattle.numbers.specs.EllCalc.{calc-parallel-impl}
 use Rattle.numbers.proofs.ell_calc.EllCalc.calc_parallel_impl.Statement.{statement}
 use Rattle.numbers.proofs.ell_calc.EllCalc.calc_parallel_impl.Tie as tie
 
 no-soln-requires : tie.Need-no-soln-requires
-no-soln-requires c κs = search needs
+no-soln-requires c κs = tt
 
 returns : tie.Need-returns
 unfolding calc-parallel-impl
 returns c = hit _ _ _ _ (c .before .if1 .taken) (c .no-soln .ensures)
 
 single-instead-requires : tie.Need-single-instead-requires
-single-instead-requires c κs = search needs
+single-instead-requires c κs = tt
 
 calc-bias-cut-q-requires : tie.Need-calc-bias-cut-q-requires
-calc-bias-cut-q-requires c κs = search needs
+calc-bias-cut-q-requires c κs = tt
 
 returns-2 : tie.Need-returns-2
 unfolding calc-parallel-impl
@@ -28,7 +27,7 @@ returns-2 c =
     (hit _ _ _ _ (c .before .if3 .taken) (c .calc-bias-cut-q .ensures)))
 
 calc-bias-cut-requires : tie.Need-calc-bias-cut-requires
-calc-bias-cut-requires c κs = search needs
+calc-bias-cut-requires c κs = tt
 
 returns-3 : tie.Need-returns-3
 unfolding calc-parallel-impl
@@ -38,7 +37,7 @@ returns-3 c =
     (skip _ _ _ _ (c .before .if3 .left) (c .calc-bias-cut .ensures)))
 
 no-effect-requires : tie.Need-no-effect-requires
-no-effect-requires c κs = search needs
+no-effect-requires c κs = tt
 
 returns-4 : tie.Need-returns-4
 unfolding calc-parallel-impl
@@ -48,10 +47,10 @@ returns-4 c =
     (hit _ _ _ _ (rw (c .before .before .if4 .taken, c .before .if5 .taken)) (c .no-effect .ensures)))
 
 calc-parallel-bias-cut-fast-requires : tie.Need-calc-parallel-bias-cut-fast-requires
-calc-parallel-bias-cut-fast-requires c κs = search needs
+calc-parallel-bias-cut-fast-requires c κs = tt
 
 success-requires : tie.Need-success-requires
-success-requires c κs = search needs
+success-requires c κs = tt
 
 returns-5 : tie.Need-returns-5
 unfolding calc-parallel-impl

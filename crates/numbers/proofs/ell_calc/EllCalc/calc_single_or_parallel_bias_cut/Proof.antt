@@ -1,5 +1,4 @@
 -- `numbers::ell_calc::EllCalc::calc_single_or_parallel_bias_cut` meets its contract. Assumes nothing.
-use borrow.Author.Needs.{needs}
 use Rattle.numbers.specs.EllCalc.{calc-single-or-parallel-bias-cut}
 use Rattle.numbers.proofs.ell_calc.EllCalc.calc_single_or_parallel_bias_cut.Statement.{
   statement,
@@ -7,16 +6,16 @@ use Rattle.numbers.proofs.ell_calc.EllCalc.calc_single_or_parallel_bias
 use Rattle.numbers.proofs.ell_calc.EllCalc.calc_single_or_parallel_bias_cut.Tie as tie
 
 enum-known-beta : tie.Need-enum-known-beta
-enum-known-beta c = search needs
+enum-known-beta c = c .match .keys1
 
 calc-parallel-bias-cut-requires : tie.Need-calc-parallel-bias-cut-requires
-calc-parallel-bias-cut-requires c κs = search needs
+calc-parallel-bias-cut-requires c κs = tt
 
 enum-known-beta-2 : tie.Need-enum-known-beta-2
-enum-known-beta-2 c = search needs
+enum-known-beta-2 c = c .match .keys2
 
 calc-bias-cut-requires : tie.Need-calc-bias-cut-requires
-calc-bias-cut-requires c κs = search needs
+calc-bias-cut-requires c κs = tt
 
 returns : tie.Need-returns
 unfolding calc-single-or-parallel-bias-cut

@@ -7,16 +7,16 @@ use Rattle.numbers.proofs.ell_calc.EllCalc.calc_single_or_parallel_cent
 use Rattle.numbers.proofs.ell_calc.EllCalc.calc_single_or_parallel_central_cut.Tie as tie
 
 enum-known-beta : tie.Need-enum-known-beta
-enum-known-beta c = search needs
+enum-known-beta c = c .match .keys1
 
 calc-parallel-central-cut-requires : tie.Need-calc-parallel-central-cut-requires
-calc-parallel-central-cut-requires c κs = search needs
+calc-parallel-central-cut-requires c κs = tt
 
 enum-told : tie.Need-enum-told
 enum-told c = search needs
 
 calc-central-cut-requires : tie.Need-calc-central-cut-requires
-calc-central-cut-requires c κs = search needs
+calc-central-cut-requires c κs = tt
 
 returns : tie.Need-returns
 unfolding calc-single-or-parallel-central-cut

@@ -1,20 +1,19 @@
 -- `numbers::ell_calc::EllCalc::calc_single_or_parallel_q` meets its contract. Assumes nothing.
-use borrow.Author.Needs.{needs}
 use Rattle.numbers.specs.EllCalc.{calc-single-or-parallel-q}
 use Rattle.numbers.proofs.ell_calc.EllCalc.calc_single_or_parallel_q.Statement.{statement}
 use Rattle.numbers.proofs.ell_calc.EllCalc.calc_single_or_parallel_q.Tie as tie
 
 enum-known-beta : tie.Need-enum-known-beta
-enum-known-beta c = search needs
+enum-known-beta c = c .match .keys1
 
 calc-parallel-q-requires : tie.Need-calc-parallel-q-requires
-calc-parallel-q-requires c κs = search needs
+calc-parallel-q-requires c κs = tt
 
 enum-known-beta-2 : tie.Need-enum-known-beta-2
-enum-known-beta-2 c = search needs
+enum-known-beta-2 c = c .match .keys2
 
 calc-bias-cut-q-requires : tie.Need-calc-bias-cut-q-requires
-calc-bias-cut-q-requires c κs = search needs
+calc-bias-cut-q-requires c κs = tt
 
 returns : tie.Need-returns
 unfolding calc-single-or-parallel-q

@@ -1,9 +1,7 @@
 -- `numbers::ell_calc::EllCalc::new` meets its contract. That n is at most 32 is what `is_dimension` says where it is true. Assumes nothing.
 use mathlib.Core.Path.{refl, sym, ap, _∙_}
-use mathlib.Core.Bool.{and-eq-true-iff}
-use lib.Dec.{leb}
-use borrow.Author.Needs.{needs}
-use borrow.Author.Tests.{leb-true, not-false}
+use borrow.Author.Tests.{not-false}
+use Rattle.numbers.specs.ArrLaws.{dimension-most}
 use Rattle.numbers.specs.Pick.{hit, skip}
 use Rattle.numbers.specs.declared.ell_calc.NewEllCalc.the-variants.{Made}
 use Rattle.numbers.specs.EllCalc.{new-answer}
@@ -11,7 +9,7 @@ use Rattle.numbers.proofs.ell_calc.EllCalc.new.Statement.{statement}
 use Rattle.numbers.proofs.ell_calc.EllCalc.new.Tie as tie
 
 is-dimension-requires : tie.Need-is-dimension-requires
-is-dimension-requires c κs = search needs
+is-dimension-requires c κs = tt
 
 returns : tie.Need-returns
 unfolding new-answer
@@ -19,9 +17,7 @@ returns c = hit _ _ _ _ (rw (← c .before .is-dimension .ensures) (c .if1 .take
 
 of-dimension-requires : tie.Need-of-dimension-requires
 of-dimension-requires c κs =
-    leb-true (c .before .before .args .n) 32
-    (and-eq-true-iff (leb 2 (c .before .before .args .n)) (leb (c .before .before .args .n) 32) .0
-    (sym (c .before .is-dimension .ensures) ∙ not-false (c .before .is-dimension .result) (c .if1 .left)) .1)
+    dimension-most _ (sym (c .before .is-dimension .ensures) ∙ not-false (c .before .is-dimension .result) (c .if1 .left))
 
 returns-2 : tie.Need-returns-2
 unfolding new-answer

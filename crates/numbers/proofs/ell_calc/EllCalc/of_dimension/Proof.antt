@@ -2,7 +2,6 @@
 use Prim.Native.Nat.{_^_}
 use native.Mathlib.Omega.{arith}
 use lib.Ieee.{inFloat}
-use borrow.Author.Needs.{needs}
 use borrow.Author.Tests.{le-leb}
 use denote.Floats.{passes}
 use Rattle.numbers.specs.EllCalc.{made}
@@ -14,7 +13,7 @@ unfolding inFloat
 int-to-float-n-f c = passes _ (le-leb (c .before .args .n) (2 ^ 53) (omega arith))
 
 new-requires : tie.Need-new-requires
-new-requires c κs = search needs
+new-requires c κs = tt
 
 returns : tie.Need-returns
 unfolding made

@@ -1,11 +1,10 @@
 -- `numbers::ell_calc::EllCalcCore::calc_bias_cut` meets its contract. Assumes nothing.
-use borrow.Author.Needs.{needs}
 use Rattle.numbers.specs.EllCalcCore.{core-bias-cut}
 use Rattle.numbers.proofs.ell_calc.EllCalcCore.calc_bias_cut.Statement.{statement}
 use Rattle.numbers.proofs.ell_calc.EllCalcCore.calc_bias_cut.Tie as tie
 
 calc-bias-cut-fast-requires : tie.Need-calc-bias-cut-fast-requires
-calc-bias-cut-fast-requires c κs = search needs
+calc-bias-cut-fast-requires c κs = tt
 
 returns : tie.Need-returns
 unfolding core-bias-cut

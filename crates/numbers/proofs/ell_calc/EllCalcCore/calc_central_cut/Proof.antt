@@ -1,11 +1,10 @@
 -- `numbers::ell_calc::EllCalcCore::calc_central_cut` meets its contract. Assumes nothing.
-use borrow.Author.Needs.{needs}
 use Rattle.numbers.specs.EllCalcCore.{core-central-cut}
 use Rattle.numbers.proofs.ell_calc.EllCalcCore.calc_central_cut.Statement.{statement}
 use Rattle.numbers.proofs.ell_calc.EllCalcCore.calc_central_cut.Tie as tie
 
 sqrt-requires : tie.Need-sqrt-requires
-sqrt-requires c κs = search needs
+sqrt-requires c κs = tt
 
 returns : tie.Need-returns
 unfolding core-central-cut

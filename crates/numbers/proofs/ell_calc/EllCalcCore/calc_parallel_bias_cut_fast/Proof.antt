@@ -1,5 +1,4 @@
 -- `numbers::ell_calc::EllCalcCore::calc_parallel_bias_cut_fast` meets its contract. Assumes nothing.
-use borrow.Author.Needs.{needs}
 use Rattle.numbers.specs.EllCalcCore.{core-parallel-bias-cut-fast}
 use Rattle.numbers.proofs.ell_calc.EllCalcCore.calc_parallel_bias_cut_fast.Statement.{
   statement,
@@ -7,7 +6,7 @@ use Rattle.numbers.proofs.ell_calc.EllCalcCore.calc_parallel_bias_cut_f
 use Rattle.numbers.proofs.ell_calc.EllCalcCore.calc_parallel_bias_cut_fast.Tie as tie
 
 sqrt-requires : tie.Need-sqrt-requires
-sqrt-requires c κs = search needs
+sqrt-requires c κs = tt
 
 returns : tie.Need-returns
 unfolding core-parallel-bias-cut-fast

@@ -1,5 +1,4 @@
 -- `numbers::ell_calc::EllCalcCore::calc_parallel_central_cut` meets its contract. Assumes nothing.
-use borrow.Author.Needs.{needs}
 use Rattle.numbers.specs.EllCalcCore.{core-parallel-central-cut}
 use Rattle.numbers.proofs.ell_calc.EllCalcCore.calc_parallel_central_cut.Statement.{
   statement,
@@ -7,7 +6,7 @@ use Rattle.numbers.proofs.ell_calc.EllCalcCore.calc_parallel_central_cu
 use Rattle.numbers.proofs.ell_calc.EllCalcCore.calc_parallel_central_cut.Tie as tie
 
 sqrt-requires : tie.Need-sqrt-requires
-sqrt-requires c κs = search needs
+sqrt-requires c κs = tt
 
 returns : tie.Need-returns
 unfolding core-parallel-central-cut
