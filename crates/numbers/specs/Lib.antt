@@ -3,6 +3,7 @@ pub mod Refusal
 pub mod F64
 pub mod Pick
 pub mod Arr
+pub mod Bits
 pub mod Sqrt
 pub mod Cut
 pub mod EllCalcCore
@@ -10,6 +11,7 @@ pub mod EllCalc
 -- Theorems about them, and the laws that these rest on.
 pub mod Known
 pub mod ArrLaws
+pub mod BitsLaws
 pub mod Values
 pub mod Isqrt
 pub mod Rounded

@@ -1,5 +1,6 @@
 // The first layer: numbers and cut calculators. Names and order of operations are those of the Rust in docs/src.
 pub mod arr;
+pub mod bits;
 pub mod cut;
 pub mod ell_calc;
 pub mod refusal;

@@ -1,0 +1,145 @@
+-- What the proofs of `bits` cite: which patterns are a NaN's, and one byte more of a word, read from the top and written from the bottom.
+use mathlib.Core.Path.{_≡_, refl, sym, ap, _∙_, subst}
+use mathlib.Core.Bool.{true, false, not}
+use mathlib.Core.List.{List, [], _∷_, _++_, append-assoc, append-nil}
+use Prim.Native.Nat.{ℕ, zero, suc, _+_, _-_, _*_, _/_, _%_, _^_, _≤_, _<_}
+use native.Mathlib.Omega.{arith}
+use native.Mathlib.Nat.{add-zero}
+use native.Mathlib.Numerals.{add-one}
+use borrow.Author.Tests.{lt-ltb, le-ltb, le-leb}
+use lib.Dec.{T}
+use lib.ListN.{length, take, drop, getD, set, length-append, length-take, length-drop, take-append-drop}
+use lib.Seq.{drop-cons, drop-length, take-all, set-at, append-snoc}
+use lib.Ieee.{Float, nan, inf, fin, binary64, isNan, ne, ofBits, toBits, nanBits}
+use lib.Ieee.Compare.{differs-from-itself, nan-differs}
+use lib.Ieee.Bits.{nanBits-is, nanBits-above}
+use Rattle.numbers.specs.Bits.{leNumber, leBytes, wordAt, putBytes, putWord}
+use Rattle.numbers.specs.BitsLaws.{length-bytes}
+use Rattle.numbers.specs.Pick.{hit}
+
+is-nan : (x : Float) → isNan x ≡ true → x ≡ nan
+unfolding isNan
+is-nan nan h = refl
+is-nan (inf s) h = absurd (subst T (sym h) tt)
+is-nan (fin s m e) h = absurd (subst T (sym h) tt)
+
+pub above-nan : (w : ℕ) → 0x7ff0_0000_0000_0000 < w % 0x8000_0000_0000_0000 → nan ≡ ofBits binary64 w
+above-nan w h =
+    sym (is-nan (ofBits binary64 w) (sym (nanBits-is binary64 w) ∙ nanBits-above binary64 w ∙ lt-ltb 0x7ff0_0000_0000_0000 (w % 0x8000_0000_0000_0000) h))
+
+pub below-number : (w : ℕ) → w % 0x8000_0000_0000_0000 ≤ 0x7ff0_0000_0000_0000 → nanBits binary64 w ≡ false
+below-number w h = nanBits-above binary64 w ∙ le-ltb 0x7ff0_0000_0000_0000 (w % 0x8000_0000_0000_0000) h
+
+pub nan-pattern : (x : Float) → ne x x ≡ true → 0x7ff8_0000_0000_0000 ≡ toBits binary64 x
+unfolding toBits
+nan-pattern x h = sym (ap (toBits binary64) (differs-from-itself x (subst T (sym h) tt)))
+
+pub no-nan : (x : Float) → ne x x ≡ false → T (not (isNan x))
+unfolding isNan
+no-nan nan h = absurd (subst T (sym nan-differs ∙ h) tt)
+no-nan (inf s) h = tt
+no-nan (fin s m e) h = tt
+
+-- one byte below a number of n bytes
+pub byte-more : (n w b : ℕ) → n < 8 → w < 256 ^ n → b < 256 → (w * 256 + b < 256 ^ suc n) × (w * 256 + b < 0x1_0000_0000_0000_0000)
+byte-more zero w b h lw lb = (omega arith, omega arith)
+byte-more (suc zero) w b h lw lb = (omega arith, omega arith)
+byte-more (suc (suc zero)) w b h lw lb = (omega arith, omega arith)
+byte-more (suc (suc (suc zero))) w b h lw lb = (omega arith, omega arith)
+byte-more (suc (suc (suc (suc zero)))) w b h lw lb = (omega arith, omega arith)
+byte-more (suc (suc (suc (suc (suc zero))))) w b h lw lb = (omega arith, omega arith)
+byte-more (suc (suc (suc (suc (suc (suc zero)))))) w b h lw lb = (omega arith, omega arith)
+byte-more (suc (suc (suc (suc (suc (suc (suc zero))))))) w b h lw lb = (omega arith, omega arith)
+byte-more (suc (suc (suc (suc (suc (suc (suc (suc n)))))))) w b h lw lb = absurd (no h)
+  where
+    no : suc (suc (suc (suc (suc (suc (suc (suc n))))))) < 8 → ⊥
+    no h = omega arith
+
+-- the number of the bytes from i on, from that of the bytes after i
+pub number-down : (bytes : List ℕ) (i w : ℕ) → i < length bytes → w ≡ leNumber (drop (suc i) bytes) → w * 256 + getD bytes i 0 ≡ leNumber (drop i bytes)
+unfolding leNumber
+number-down bytes i w h e = rw (drop-cons bytes i 0 h, ← e) (omega arith)
+
+-- w without its i lowest bytes
+unfoldable pub shift : ℕ → ℕ → ℕ
+shift zero w = w
+shift (suc i) w = shift i w / 256
+
+shift-div : (i w : ℕ) → shift i (w / 256) ≡ shift i w / 256
+unfolding shift
+shift-div zero w = refl
+shift-div (suc i) w = ap (λ (n : ℕ). n / 256) (shift-div i w)
+
+bytes-snoc : (i w : ℕ) → leBytes (suc i) w ≡ leBytes i w ++ (shift i w % 256 ∷ [])
+unfolding leBytes shift
+bytes-snoc zero w = refl
+bytes-snoc (suc i) w = ap (λ (l : List ℕ). w % 256 ∷ l) (bytes-snoc i (w / 256) ∙ ap (λ (n : ℕ). leBytes i (w / 256) ++ (n % 256 ∷ [])) (shift-div i w))
+
+-- the next byte stored
+pub byte-stored : (bytes : List ℕ) (at i w : ℕ) → at + i < length bytes → set (putBytes bytes at i w) (at + i) (shift i w % 256) ≡ putBytes bytes at (suc i) w
+unfolding putBytes
+byte-stored bytes at i w h =
+    let p = take at bytes ++ leBytes i w in
+    let e : length p ≡ at + i = length-append (take at bytes) (leBytes i w) ∙ omega (arith, length-take at bytes, length-bytes i w) in
+    let a = shift i w % 256 in
+    let next : suc (at + i) ≡ at + suc i = omega arith in
+    ap (λ (l : List ℕ). set (p ++ l) (at + i) (shift i w % 256)) (drop-cons bytes (at + i) 0 h)
+    ∙ set-at p (getD bytes (at + i) 0) (drop (suc (at + i)) bytes) (shift i w % 256) (at + i) e
+    ∙ sym (append-snoc p a (drop (suc (at + i)) bytes))
+    ∙ ap (λ (l : List ℕ). l ++ drop (suc (at + i)) bytes) (append-assoc (take at bytes) (leBytes i w) (a ∷ []))
+    ∙ ap (λ (l : List ℕ). take at bytes ++ l ++ drop (suc (at + i)) bytes) (sym (bytes-snoc i w))
+    ∙ ap (λ (n : ℕ). take at bytes ++ leBytes (suc i) w ++ drop n bytes) next
+
+pub put-none : (bytes : List ℕ) (at w : ℕ) → bytes ≡ putBytes bytes at 0 w
+unfolding putBytes leBytes
+put-none bytes at w = rw (append-nil, add-zero, take-append-drop)
+
+-- w is the number of the bytes from i on
+pub record Read (bytes : List ℕ) (w i : ℕ) : Type 0 where
+  pub within : i ≤ length bytes
+  pub number : w ≡ leNumber (drop i bytes)
+  pub small : w < 256 ^ (length bytes - i)
+
+pub read-none : (bytes : List ℕ) → Read bytes 0 (length bytes)
+unfolding leNumber
+read-none bytes = record { within = omega arith; number = sym (ap leNumber (drop-length bytes)); small = subst (λ (n : ℕ). 0 < 256 ^ n) (none (length bytes)) (omega arith) }
+  where
+    none : (n : ℕ) → 0 ≡ n - n
+    none n = omega arith
+
+read-suc : (bytes : List ℕ) (w j : ℕ) → length bytes ≤ 8 → Read bytes w (suc j) → getD bytes j 0 < 256 → Read bytes (w * 256 + getD bytes j 0) j × (w * 256 + getD bytes j 0 < 0x1_0000_0000_0000_0000)
+read-suc bytes w j l r b =
+    let h : j < length bytes = omega (arith, r .within) in
+    let e : suc (length bytes - suc j) ≡ length bytes - j = omega arith in
+    let m = byte-more (length bytes - suc j) w (getD bytes j 0) (omega arith) (r .small) b in
+    (record { within = omega arith; number = number-down bytes j w h (r .number); small = subst (λ (n : ℕ). w * 256 + getD bytes j 0 < 256 ^ n) e (m .0) }, m .1)
+
+pub read-turn : (bytes : List ℕ) (w i b : ℕ) → length bytes ≤ 8 → 0 < i → Read bytes w i → b ≡ getD bytes (i - 1) 0 → getD bytes (i - 1) 0 < 256 → Read bytes (w * 256 + b) (i - 1) × (w * 256 + b < 0x1_0000_0000_0000_0000)
+read-turn bytes w i b l p r e h =
+    let s : i ≡ suc (i - 1) = omega arith in
+    rw e (read-suc bytes w (i - 1) l (subst (λ (n : ℕ). Read bytes w n) s r) h)
+
+pub read-all : (bytes : List ℕ) (w i : ℕ) → i ≤ 0 → Read bytes w i → w ≡ leNumber bytes
+read-all bytes w i h r =
+    let z : i ≡ 0 = omega arith in
+    r .number ∙ ap (λ (n : ℕ). leNumber (drop n bytes)) z
+
+-- one turn of the loop that stores: rest is what is left of w
+pub put-turn : (bytes₀ bytes : List ℕ) (at w rest i : ℕ) → at + i < length bytes₀ → rest ≡ shift i w → bytes ≡ putBytes bytes₀ at i w → (rest / 256 ≡ shift (i + 1) w) × (set bytes (at + i) (rest % 256) ≡ putBytes bytes₀ at (i + 1) w)
+unfolding shift
+put-turn bytes₀ bytes at w rest i h e p = rw (e, p, add-one) (refl, byte-stored bytes₀ at i w h)
+
+-- a word that the end cuts off, or that stands whole
+pub word-short : (bytes : List ℕ) (at n : ℕ) → length bytes - at ≤ 8 → n ≡ length bytes - at → leNumber (take n (drop at bytes)) ≡ wordAt bytes at
+unfolding wordAt
+word-short bytes at n h e =
+    ap leNumber (take-all n (drop at bytes) (omega (arith, length-drop at bytes)) ∙ sym (take-all 8 (drop at bytes) (omega (arith, length-drop at bytes))))
+
+pub word-whole : (bytes : List ℕ) (at n : ℕ) → n ≡ 8 → leNumber (take n (drop at bytes)) ≡ wordAt bytes at
+unfolding wordAt
+word-whole bytes at n e = ap (λ (k : ℕ). leNumber (take k (drop at bytes))) e
+
+-- a word that fits
+pub put-whole : (bytes r : List ℕ) (at w : ℕ) → at + 8 ≤ length bytes → r ≡ putBytes bytes at 8 w → r ≡ putWord bytes at w
+unfolding putWord
+put-whole bytes r at w h e = hit _ _ _ _ (le-leb (at + 8) (length bytes) h) e
