@@ -7,11 +7,10 @@ use Rattle.numbers.specs.F64.{_⊕_, _⊗_, 0ᶠ}
 use Rattle.numbers.specs.Pick.{pick}
 use Rattle.numbers.specs.Arr.{isDimension}
 use Rattle.numbers.specs.Sqrt.{sqrtOf}
-use Rattle.numbers.specs.Cut.{success, no-soln, no-effect}
+use Rattle.numbers.specs.Cut.{success, no-soln, no-effect, chosen}
 use Rattle.numbers.specs.EllCalcCore.{core-new, core-parallel-bias-cut-fast, core-parallel-central-cut, core-bias-cut-fast, core-bias-cut, core-central-cut}
 use Rattle.numbers.specs.declared.cut.Answer.{Answer}
 use Rattle.numbers.specs.declared.cut.CutChoice.{CutChoice}
-use Rattle.numbers.specs.declared.cut.CutChoice.the-variants.{Single, Parallel}
 use Rattle.numbers.specs.declared.refusal.Refusal.the-variants.{Dimension}
 use Rattle.numbers.specs.declared.ell_calc.EllCalc.{EllCalc}
 use Rattle.numbers.specs.declared.ell_calc.NewEllCalc.{NewEllCalc}
@@ -67,15 +66,13 @@ calc-parallel-central-cut c beta1 tsq =
     (pick (le tsq (beta1 ⊗ beta1) || not (c .«use_parallel_cut»)) (calc-central-cut c tsq)
     (success (core-parallel-central-cut (c .helper) beta1 tsq)))
 
--- a choice taken apart
+-- by one bound or by two
 unfoldable pub calc-single-or-parallel-bias-cut : EllCalc → CutChoice → Float → Answer
-calc-single-or-parallel-bias-cut c (Single beta0) tsq = calc-bias-cut c beta0 tsq
-calc-single-or-parallel-bias-cut c (Parallel beta0 beta1) tsq = calc-parallel-bias-cut c beta0 beta1 tsq
+calc-single-or-parallel-bias-cut c beta tsq = chosen beta (λ beta0. calc-bias-cut c beta0 tsq) (λ beta0 beta1. calc-parallel-bias-cut c beta0 beta1 tsq)
 
+-- the first bound is not looked at
 unfoldable pub calc-single-or-parallel-central-cut : EllCalc → CutChoice → Float → Answer
-calc-single-or-parallel-central-cut c (Single beta0) tsq = calc-central-cut c tsq
-calc-single-or-parallel-central-cut c (Parallel beta0 beta1) tsq = calc-parallel-central-cut c beta1 tsq
+calc-single-or-parallel-central-cut c beta tsq = chosen beta (λ beta0. calc-central-cut c tsq) (λ beta0 beta1. calc-parallel-central-cut c beta1 tsq)
 
 unfoldable pub calc-single-or-parallel-q : EllCalc → CutChoice → Float → Answer
-calc-single-or-parallel-q c (Single beta0) tsq = calc-bias-cut-q c beta0 tsq
-calc-single-or-parallel-q c (Parallel beta0 beta1) tsq = calc-parallel-q c beta0 beta1 tsq
+calc-single-or-parallel-q c beta tsq = chosen beta (λ beta0. calc-bias-cut-q c beta0 tsq) (λ beta0 beta1. calc-parallel-q c beta0 beta1 tsq)

@@ -7,48 +7,27 @@ use crate::cut::Params;
 use crate::refusal::Refusal;
 use crate::sqrt::sqrt;
 ghost use mathlib.Core.Path.{_≡_};
-ghost use Prim.Native.Nat.{_≤_};
-ghost use Rattle.numbers.specs.Cut.{success, no-soln, no-effect};
 ghost use Rattle.numbers.specs.EllCalcCore.{core-new, core-parallel-bias-cut-fast, core-parallel-bias-cut, core-parallel-central-cut, core-bias-cut-fast, core-bias-cut, core-central-cut};
-ghost use Rattle.numbers.specs.EllCalc.{made, new-answer, single-instead, calc-single-or-parallel-bias-cut, calc-single-or-parallel-central-cut, calc-single-or-parallel-q, calc-parallel-impl, calc-parallel-bias-cut, calc-parallel-q, calc-parallel-central-cut, calc-bias-cut, calc-bias-cut-q, calc-central-cut};
+ghost use Rattle.numbers.specs.EllCalc.{new-answer, single-instead, calc-single-or-parallel-bias-cut, calc-single-or-parallel-central-cut, calc-single-or-parallel-q, calc-parallel-impl, calc-parallel-bias-cut, calc-parallel-q, calc-parallel-central-cut, calc-bias-cut, calc-bias-cut-q, calc-central-cut};
 
-// The three kinds of answer.
-fn success(params: Params) -> Answer
-    ensures { λ r. ⌜ r ≡ success params ⌝ }
-{
-    Answer {
-        status: CutStatus::Success,
-        params: params,
-    }
-}
-
-fn no_soln() -> Answer
-    ensures { λ r. ⌜ r ≡ no-soln ⌝ }
-{
-    let params = Params {
+// What NoSoln and NoEffect carry.
+const NO_SOLN: Answer = Answer {
+    status: CutStatus::NoSoln,
+    params: Params {
         rho: 0.0,
         sigma: 0.0,
         delta: 0.0,
-    };
-    Answer {
-        status: CutStatus::NoSoln,
-        params: params,
-    }
-}
+    },
+};
 
-fn no_effect() -> Answer
-    ensures { λ r. ⌜ r ≡ no-effect ⌝ }
-{
-    let params = Params {
+const NO_EFFECT: Answer = Answer {
+    status: CutStatus::NoEffect,
+    params: Params {
         rho: 0.0,
         sigma: 0.0,
         delta: 1.0,
-    };
-    Answer {
-        status: CutStatus::NoEffect,
-        params: params,
-    }
-}
+    },
+};
 
 // Six numbers, worked out once from n.
 pub struct EllCalcCore {
@@ -190,20 +169,13 @@ impl EllCalc {
         if !is_dimension(n) {
             return NewEllCalc::Refused(Refusal::Dimension);
         }
-        NewEllCalc::Made(EllCalc::of_dimension(n))
-    }
-
-    fn of_dimension(n: usize) -> EllCalc
-        requires { ⌜ n ≤ 32 ⌝ }
-        ensures { λ r. ⌜ r ≡ made n ⌝ }
-    {
         let n_f = n as f64;
         let helper = EllCalcCore::new(n_f);
-        EllCalc {
+        NewEllCalc::Made(EllCalc {
             n_f: n_f,
             helper: helper,
             use_parallel_cut: true,
-        }
+        })
     }
 
     pub fn calc_single_or_parallel_bias_cut(self, beta: CutChoice, tsq: f64) -> Answer
@@ -245,7 +217,7 @@ impl EllCalc {
         ensures { λ r. ⌜ r ≡ calc-parallel-impl self beta0 beta1 tsq discrete ⌝ }
     {
         if beta1 < beta0 {
-            return no_soln();
+            return NO_SOLN;
         }
         if self.single_instead(beta1, tsq) {
             if discrete {
@@ -256,10 +228,13 @@ impl EllCalc {
         let b0b1 = beta0 * beta1;
         let eta = tsq + self.n_f * b0b1;
         if discrete && eta <= 0.0 {
-            return no_effect();
+            return NO_EFFECT;
         }
         let helper = self.helper;
-        success(helper.calc_parallel_bias_cut_fast(beta0, beta1, tsq, b0b1, eta))
+        Answer {
+            status: CutStatus::Success,
+            params: helper.calc_parallel_bias_cut_fast(beta0, beta1, tsq, b0b1, eta),
+        }
     }
 
     pub fn calc_parallel_bias_cut(self, beta0: f64, beta1: f64, tsq: f64) -> Answer
@@ -278,24 +253,30 @@ impl EllCalc {
         ensures { λ r. ⌜ r ≡ calc-parallel-central-cut self beta1 tsq ⌝ }
     {
         if beta1 < 0.0 {
-            return no_soln();
+            return NO_SOLN;
         }
         if tsq <= beta1 * beta1 || !self.use_parallel_cut {
             return self.calc_central_cut(tsq);
         }
         let helper = self.helper;
-        success(helper.calc_parallel_central_cut(beta1, tsq))
+        Answer {
+            status: CutStatus::Success,
+            params: helper.calc_parallel_central_cut(beta1, tsq),
+        }
     }
 
     pub fn calc_bias_cut(self, beta: f64, tsq: f64) -> Answer
         ensures { λ r. ⌜ r ≡ calc-bias-cut self beta tsq ⌝ }
     {
         if tsq < beta * beta {
-            return no_soln();
+            return NO_SOLN;
         }
         let tau = sqrt(tsq);
         let helper = self.helper;
-        success(helper.calc_bias_cut(beta, tau))
+        Answer {
+            status: CutStatus::Success,
+            params: helper.calc_bias_cut(beta, tau),
+        }
     }
 
     pub fn calc_bias_cut_q(self, beta: f64, tsq: f64) -> Answer
@@ -303,20 +284,26 @@ impl EllCalc {
     {
         let tau = sqrt(tsq);
         if tau < beta {
-            return no_soln();
+            return NO_SOLN;
         }
         let eta = tau + self.n_f * beta;
         if eta <= 0.0 {
-            return no_effect();
+            return NO_EFFECT;
         }
         let helper = self.helper;
-        success(helper.calc_bias_cut_fast(beta, tau, eta))
+        Answer {
+            status: CutStatus::Success,
+            params: helper.calc_bias_cut_fast(beta, tau, eta),
+        }
     }
 
     pub fn calc_central_cut(self, tsq: f64) -> Answer
         ensures { λ r. ⌜ r ≡ calc-central-cut self tsq ⌝ }
     {
         let helper = self.helper;
-        success(helper.calc_central_cut(tsq))
+        Answer {
+            status: CutStatus::Success,
+            params: helper.calc_central_cut(tsq),
+        }
     }
 }

@@ -1,5 +1,7 @@
--- `numbers::ell_calc::EllCalc::calc_bias_cut_q` meets its contract. Assumes nothing.
+-- `numbers::ell_calc::EllCalc::calc_bias_cut_q` meets its contract.
+use mathlib.Core.Path.{refl, ap}
 use Rattle.numbers.specs.Pick.{hit, skip}
+use Rattle.numbers.specs.Cut.{success}
 use Rattle.numbers.specs.EllCalc.{calc-bias-cut-q}
 use Rattle.numbers.proofs.ell_calc.EllCalc.calc_bias_cut_q.Statement.{statement}
 use Rattle.numbers.proofs.ell_calc.EllCalc.calc_bias_cut_q.Tie as tie
@@ -7,43 +9,21 @@ use Rattle.numbers.proofs.ell_calc.EllCalc.calc_bias_cut_q.Tie as tie
 sqrt-requires : tie.Need-sqrt-requires
 sqrt-requires c κs = tt
 
-no-soln-requires : tie.Need-no-soln-requires
-no-soln-requires c κs = tt
-
 returns : tie.Need-returns
 unfolding calc-bias-cut-q
-returns c = rw (← c .before .before .sqrt .ensures) (hit _ _ _ _ (c .before .if1 .taken) (c .no-soln .ensures))
-
-no-effect-requires : tie.Need-no-effect-requires
-no-effect-requires c κs = tt
+returns c = rw (← c .before .sqrt .ensures) (hit _ _ _ _ (c .if1 .taken) refl)
 
 returns-2 : tie.Need-returns-2
 unfolding calc-bias-cut-q
-returns-2 c =
-    rw (← c .before .before .before .before .sqrt .ensures)
-    (skip _ _ _ _ (c .before .before .before .if1 .left) (hit _ _ _ _ (c .before .if2 .taken) (c .no-effect .ensures)))
+returns-2 c = rw (← c .before .before .before .sqrt .ensures) (skip _ _ _ _ (c .before .before .if1 .left) (hit _ _ _ _ (c .if2 .taken) refl))
 
 calc-bias-cut-fast-requires : tie.Need-calc-bias-cut-fast-requires
 calc-bias-cut-fast-requires c κs = tt
 
-success-requires : tie.Need-success-requires
-success-requires c κs = tt
-
 returns-3 : tie.Need-returns-3
 unfolding calc-bias-cut-q
-returns-3 c =
-    rw (← c .before .before .before .before .before .before .sqrt .ensures)
-    (skip _ _ _ _ (c .before .before .before .before .before .if1 .left) (skip _ _ _ _ (c .before .before .before .if2 .left) (cc)))
+returns-3 c = rw (← c .before .before .before .before .before .sqrt .ensures) (skip _ _ _ _ (c .before .before .before .before .if1 .left) (skip _ _ _ _ (c .before .before .if2 .left) (ap success (c .calc-bias-cut-fast .ensures))))
 
 pub calc-bias-cut-q-spec : {M : Type 1} → statement M
 calc-bias-cut-q-spec =
-    tie.close
-    (tie.spec
-    sqrt-requires
-    no-soln-requires
-    returns
-    no-effect-requires
-    returns-2
-    calc-bias-cut-fast-requires
-    success-requires
-    returns-3)
+    tie.close (tie.spec sqrt-requires returns returns-2 calc-bias-cut-fast-requires returns-3)

@@ -1,10 +1,13 @@
--- `numbers::ell_calc::EllCalc::new` meets its contract. That n is at most 32 is what `is_dimension` says where it is true. Assumes nothing.
-use mathlib.Core.Path.{refl, sym, ap, _∙_}
-use borrow.Author.Tests.{not-false}
+-- `numbers::ell_calc::EllCalc::new` meets its contract. A dimension is at most 32, and so a number of binary64. Assumes nothing.
+use mathlib.Core.Path.{refl, sym, _∙_}
+use Prim.Native.Nat.{_^_}
+use native.Mathlib.Omega.{arith}
+use lib.Ieee.{inFloat}
+use borrow.Author.Tests.{le-leb, not-false}
+use denote.Floats.{passes}
 use Rattle.numbers.specs.ArrLaws.{dimension-most}
 use Rattle.numbers.specs.Pick.{hit, skip}
-use Rattle.numbers.specs.declared.ell_calc.NewEllCalc.the-variants.{Made}
-use Rattle.numbers.specs.EllCalc.{new-answer}
+use Rattle.numbers.specs.EllCalc.{made, new-answer}
 use Rattle.numbers.proofs.ell_calc.EllCalc.new.Statement.{statement}
 use Rattle.numbers.proofs.ell_calc.EllCalc.new.Tie as tie
 
@@ -15,13 +18,20 @@ returns : tie.Need-returns
 unfolding new-answer
 returns c = hit _ _ _ _ (rw (← c .before .is-dimension .ensures) (c .if1 .taken)) refl
 
-of-dimension-requires : tie.Need-of-dimension-requires
-of-dimension-requires c κs =
-    dimension-most _ (sym (c .before .is-dimension .ensures) ∙ not-false (c .before .is-dimension .result) (c .if1 .left))
+int-to-float-n-f : tie.Need-int-to-float-n-f
+unfolding inFloat
+int-to-float-n-f c =
+    let d = c .before .before .is-dimension in
+    let n = c .before .before .before .args .n in
+    let l = dimension-most n (sym (d .ensures) ∙ not-false (d .result) (c .before .if1 .left)) in
+    passes _ (le-leb n (2 ^ 53) (omega arith))
+
+new-requires : tie.Need-new-requires
+new-requires c κs = tt
 
 returns-2 : tie.Need-returns-2
-unfolding new-answer
-returns-2 c = skip _ _ _ _ (rw (← c .before .before .is-dimension .ensures) (c .before .if1 .left)) (ap Made (c .of-dimension .ensures))
+unfolding new-answer made
+returns-2 c = skip _ _ _ _ (rw (← c .before .before .before .is-dimension .ensures) (c .before .before .if1 .left)) (rw (c .new .ensures))
 
 pub new-spec : {M : Type 1} → statement M
-new-spec = tie.close (tie.spec is-dimension-requires returns of-dimension-requires returns-2)
+new-spec = tie.close (tie.spec is-dimension-requires returns int-to-float-n-f new-requires returns-2)
