@@ -15,7 +15,7 @@ pub enum CutStatus {
 }
 
 impl CutStatus {
-    pub fn number(self) -> u64
+    pub fn number(self) -> u8
         ensures { λ r. ⌜ r ≡ statusNumber self ⌝ }
     {
         match self {

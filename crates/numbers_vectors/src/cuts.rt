@@ -121,7 +121,7 @@ fn calc_answer(op: u64, c: EllCalc, inputs: &[u8]) -> Answer {
 fn put_answer(got: &mut [u8], answer: Answer) {
     let status = answer.status;
     let params = answer.params;
-    put(got, 0, status.number());
+    put(got, 0, status.number() as u64);
     put_params(got, 1, params);
 }
 
