@@ -598,6 +598,18 @@ fn slices(src: &mut Source, case: &mut Case, lengths: &Lengths) -> Vec<Vec<f64>>
     held
 }
 
+/// Draws a call with slices of any length, `square[k]` where slice k should hold a matrix: the dimension, the refusal expected and the slices.
+fn drawn<const K: usize>(
+    src: &mut Source,
+    case: &mut Case,
+    square: [bool; K],
+) -> (usize, u64, [Vec<f64>; K]) {
+    let lengths = Lengths::new(src, &square);
+    let held = slices(src, case, &lengths);
+    let no = lengths.refusal(&square);
+    (lengths.n as usize, no, held.try_into().unwrap())
+}
+
 /// What an argument or an output holds before the call.
 fn contents(src: &mut Source, len: usize) -> Vec<f64> {
     if len == 0 {
@@ -607,11 +619,7 @@ fn contents(src: &mut Source, len: usize) -> Vec<f64> {
 }
 
 fn dot_any(src: &mut Source, case: &mut Case) {
-    let rules = [false, false];
-    let lengths = Lengths::new(src, &rules);
-    let held = slices(src, case, &lengths);
-    let no = lengths.refusal(&rules);
-    let [a, b] = held.try_into().unwrap();
+    let (_, no, [a, b]) = drawn(src, case, [false, false]);
     let sum = if no == 0 {
         Arr::from(a).dot(&Arr::from(b))
     } else {
@@ -622,24 +630,16 @@ fn dot_any(src: &mut Source, case: &mut Case) {
 }
 
 fn dot_mv_into_any(src: &mut Source, case: &mut Case) {
-    let rules = [true, false, false];
-    let lengths = Lengths::new(src, &rules);
-    let held = slices(src, case, &lengths);
-    let no = lengths.refusal(&rules);
-    let [mat, x, mut out] = <[Vec<f64>; 3]>::try_from(held).unwrap();
+    let (n, no, [mat, x, mut out]) = drawn(src, case, [true, false, false]);
     if no == 0 {
-        out = product(lengths.n as usize, mat, x);
+        out = product(n, mat, x);
     }
     case.give(no);
     case.give_floats(&out);
 }
 
 fn copy_from_any(src: &mut Source, case: &mut Case) {
-    let rules = [false, false];
-    let lengths = Lengths::new(src, &rules);
-    let held = slices(src, case, &lengths);
-    let no = lengths.refusal(&rules);
-    let [dst, from] = <[Vec<f64>; 2]>::try_from(held).unwrap();
+    let (_, no, [dst, from]) = drawn(src, case, [false, false]);
     let mut dst = Arr::from(dst);
     if no == 0 {
         dst.copy_from(&Arr::from(from));
@@ -649,24 +649,16 @@ fn copy_from_any(src: &mut Source, case: &mut Case) {
 }
 
 fn eye_any(src: &mut Source, case: &mut Case) {
-    let rules = [true];
-    let lengths = Lengths::new(src, &rules);
-    let held = slices(src, case, &lengths);
-    let no = lengths.refusal(&rules);
-    let [mut out] = <[Vec<f64>; 1]>::try_from(held).unwrap();
+    let (n, no, [mut out]) = drawn(src, case, [true]);
     if no == 0 {
-        out = Arr::eye(lengths.n as usize).data().to_vec();
+        out = Arr::eye(n).data().to_vec();
     }
     case.give(no);
     case.give_floats(&out);
 }
 
 fn from_diag_any(src: &mut Source, case: &mut Case) {
-    let rules = [false, true];
-    let lengths = Lengths::new(src, &rules);
-    let held = slices(src, case, &lengths);
-    let no = lengths.refusal(&rules);
-    let [v, mut out] = <[Vec<f64>; 2]>::try_from(held).unwrap();
+    let (_, no, [v, mut out]) = drawn(src, case, [false, true]);
     if no == 0 {
         out = Arr::from_diag(&Arr::from(v)).data().to_vec();
     }

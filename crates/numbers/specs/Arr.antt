@@ -59,6 +59,7 @@ diagOf n v = setDiag n v n (replicate (n * n) 0ᶠ)
 unfoldable pub tested {ℓ} : {X : Type ℓ} → ℕ → Bool → X → X → X → X
 tested n fit one two done = pick (not (isDimension n)) one (pick (not fit) two done)
 
+-- `dot`: two vectors of n
 abbrev pub dot-answer : ℕ → List Float → List Float → Number
 dot-answer n a b = tested n (eqb (length a) n && eqb (length b) n) (Refused Dimension) (Refused Length) (Value (dotOf a b))
 
@@ -66,14 +67,18 @@ dot-answer n a b = tested n (eqb (length a) n && eqb (length b) n) (Refused Dime
 abbrev pub fills : ℕ → Bool → List Float → List Float → Written × List Float
 fills n fit filled out = tested n fit (NotWritten Dimension, out) (NotWritten Length, out) (Done, filled)
 
+-- `dot_mv_into`: an n by n matrix, a vector of n, and n numbers to fill
 abbrev pub dot-mv-into-answer : ℕ → List Float → List Float → List Float → Written × List Float
 dot-mv-into-answer n mat x out = fills n (eqb (length mat) (n * n) && eqb (length x) n && eqb (length out) n) (mvOf n mat x) out
 
+-- `copy_from`: two vectors of n
 abbrev pub copy-from-answer : ℕ → List Float → List Float → Written × List Float
 copy-from-answer n dst src = fills n (eqb (length dst) n && eqb (length src) n) src dst
 
+-- `eye`: an n by n matrix to fill, with ones on its diagonal
 abbrev pub eye-answer : ℕ → List Float → Written × List Float
 eye-answer n out = fills n (eqb (length out) (n * n)) (diagOf n (replicate n 1ᶠ)) out
 
+-- `from_diag`: a vector of n, and an n by n matrix to fill
 abbrev pub from-diag-answer : ℕ → List Float → List Float → Written × List Float
 from-diag-answer n v out = fills n (eqb (length v) n && eqb (length out) (n * n)) (diagOf n v) out

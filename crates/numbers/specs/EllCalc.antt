@@ -20,15 +20,17 @@ use Rattle.numbers.specs.declared.ell_calc.NewEllCalc.the-variants.{Made
 unfoldable pub made : ℕ → EllCalc
 made n = record { «n_f» = ofInt binary64 (pos n); helper = core-new (ofInt binary64 (pos n)); «use_parallel_cut» = true }
 
--- `EllCalc::new`
+-- `EllCalc::new`: refusal 1 outside 2 to 32
 unfoldable pub new-answer : ℕ → NewEllCalc
 new-answer n = pick (not (isDimension n)) (Refused Dimension) (Made (made n))
 
+-- one bound: nothing is left where tsq lies below its square
 unfoldable pub calc-bias-cut : EllCalc → Float → Float → Answer
 calc-bias-cut c beta tsq =
     pick (lt tsq (beta ⊗ beta)) no-soln
     (success (core-bias-cut (c .helper) beta (sqrtOf tsq)))
 
+-- the q form of one bound: it tests tau, the root, and then eta
 unfoldable pub calc-bias-cut-q : EllCalc → Float → Float → Answer
 calc-bias-cut-q c beta tsq =
     let tau = sqrtOf tsq in
@@ -37,6 +39,7 @@ calc-bias-cut-q c beta tsq =
     (pick (le eta 0ᶠ) no-effect
     (success (core-bias-cut-fast (c .helper) beta tau eta)))
 
+-- one bound that is zero: nothing is tested
 unfoldable pub calc-central-cut : EllCalc → Float → Answer
 calc-central-cut c tsq = success (core-central-cut (c .helper) tsq)
 
@@ -54,12 +57,14 @@ calc-parallel-impl c beta0 beta1 tsq discrete =
     (pick (discrete && le eta 0ᶠ) no-effect
     (success (core-parallel-bias-cut-fast (c .helper) beta0 beta1 tsq b0b1 eta))))
 
+-- two bounds, in the plain form and in the q form
 unfoldable pub calc-parallel-bias-cut : EllCalc → Float → Float → Float → Answer
 calc-parallel-bias-cut c beta0 beta1 tsq = calc-parallel-impl c beta0 beta1 tsq false
 
 unfoldable pub calc-parallel-q : EllCalc → Float → Float → Float → Answer
 calc-parallel-q c beta0 beta1 tsq = calc-parallel-impl c beta0 beta1 tsq true
 
+-- two bounds of which the first is zero
 unfoldable pub calc-parallel-central-cut : EllCalc → Float → Float → Answer
 calc-parallel-central-cut c beta1 tsq =
     pick (lt beta1 0ᶠ) no-soln

@@ -5,7 +5,7 @@ use Rattle.numbers.specs.Sqrt.{sqrtOf}
 use Rattle.numbers.specs.declared.cut.Params.{Params}
 use Rattle.numbers.specs.declared.ell_calc.EllCalcCore.{EllCalcCore}
 
--- `EllCalcCore::new`
+-- `EllCalcCore::new`: the six numbers of dimension n
 unfoldable pub core-new : Float → EllCalcCore
 core-new n =
     let n-sq = n ⊗ n in
@@ -19,6 +19,7 @@ core-new n =
       cst2 = 2ᶠ ⊗ cst0;
     }
 
+-- `calc_parallel_bias_cut_fast`: two bounds, whose product b0b1 and eta the caller has
 unfoldable pub core-parallel-bias-cut-fast : EllCalcCore → Float → Float → Float → Float → Float → Params
 core-parallel-bias-cut-fast c beta0 beta1 tsq b0b1 eta =
     let b0sq = beta0 ⊗ beta0 in
@@ -34,12 +35,14 @@ core-parallel-bias-cut-fast c beta0 beta1 tsq b0b1 eta =
     let delta = c .cst1 ⊗ ((zeta0 ⊕ zeta1) ⊘ 2ᶠ ⊕ xi ⊘ c .«n_f») ⊘ tsq in
     record { rho = rho; sigma = sigma; delta = delta }
 
+-- `calc_parallel_bias_cut`: two bounds alone
 unfoldable pub core-parallel-bias-cut : EllCalcCore → Float → Float → Float → Params
 core-parallel-bias-cut c beta0 beta1 tsq =
     let b0b1 = beta0 ⊗ beta1 in
     let eta = tsq ⊕ c .«n_f» ⊗ b0b1 in
     core-parallel-bias-cut-fast c beta0 beta1 tsq b0b1 eta
 
+-- `calc_parallel_central_cut`: two bounds of which the first is zero
 unfoldable pub core-parallel-central-cut : EllCalcCore → Float → Float → Params
 core-parallel-central-cut c beta1 tsq =
     let b1sq = beta1 ⊗ beta1 in
@@ -49,6 +52,7 @@ core-parallel-central-cut c beta1 tsq =
     let r-plus-1 = root ⊕ 1ᶠ in
     record { rho = beta1 ⊘ r-plus-1; sigma = 2ᶠ ⊘ r-plus-1; delta = root ⊘ (root ⊖ c .«inv_n») }
 
+-- `calc_bias_cut_fast`: one bound, with tau, the root of tsq, and eta
 unfoldable pub core-bias-cut-fast : EllCalcCore → Float → Float → Float → Params
 core-bias-cut-fast c beta tau eta =
     let rho = eta ⊘ c .«n_plus_1» in
@@ -56,8 +60,10 @@ core-bias-cut-fast c beta tau eta =
     let alpha = beta ⊘ tau in
     record { rho = rho; sigma = sigma; delta = c .cst1 ⊗ (1ᶠ ⊖ alpha ⊗ alpha) }
 
+-- `calc_bias_cut`: one bound and tau
 unfoldable pub core-bias-cut : EllCalcCore → Float → Float → Params
 core-bias-cut c beta tau = core-bias-cut-fast c beta tau (tau ⊕ c .«n_f» ⊗ beta)
 
+-- `calc_central_cut`: one bound that is zero
 unfoldable pub core-central-cut : EllCalcCore → Float → Params
 core-central-cut c tsq = record { rho = sqrtOf tsq ⊘ c .«n_plus_1»; sigma = c .cst2; delta = c .cst1 }

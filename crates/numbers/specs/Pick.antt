@@ -6,6 +6,7 @@ unfoldable pub pick {ℓ} : {X : Type ℓ} → Bool → X → X → X
 pick true a b = a
 pick false a b = b
 
+-- a test that holds, and one that does not
 pub hit {ℓ} : {X : Type ℓ} (t : Bool) (a b r : X) → t ≡ true → r ≡ a → r ≡ pick t a b
 unfolding pick
 hit t a b r h e = rw h e
