@@ -9,7 +9,6 @@ pub mod Cut
 pub mod EllCalcCore
 pub mod EllCalc
 -- Theorems about them, and the laws that these rest on.
-pub mod Known
 pub mod ArrLaws
 pub mod BitsLaws
 pub mod Values

@@ -1,0 +1,36 @@
+-- What both ellipsoids share. Definitions only.
+use Prim.Native.Nat.{ℕ}
+use mathlib.Core.Bool.{Bool, true, false}
+use mathlib.Core.List.{List}
+use lib.ListN.{length}
+use lib.Ieee.{Float, le, binary64, ofBits}
+use Rattle.numbers.specs.F64.{_⊖_, _⊗_}
+use Rattle.numbers.specs.Arr.{tab}
+use Rattle.numbers.specs.EllCalc.{calc-single-or-parallel-bias-cut, calc-single-or-parallel-central-cut, calc-single-or-parallel-q}
+use Rattle.numbers.specs.declared.cut.CutChoice.{CutChoice}
+use Rattle.numbers.specs.declared.cut.CutStatus.{CutStatus}
+use Rattle.numbers.specs.declared.cut.CutStatus.the-variants.{Success, NoSoln, NoEffect}
+use Rattle.numbers.specs.declared.cut.Answer.{Answer}
+use Rattle.numbers.specs.declared.ell_calc.EllCalc.{EllCalc}
+use Rattle.oracles.specs.Matrix.{entry}
+use Rattle.oracles.specs.declared.ell_common.CutStrategy.{CutStrategy}
+use Rattle.oracles.specs.declared.ell_common.CutStrategy.the-variants.{BiasCut, CentralCut, Q}
+
+-- the calculator that an update uses
+abbrev pub calcOf : CutStrategy → EllCalc → CutChoice → Float → Answer
+calcOf BiasCut helper beta tsq = calc-single-or-parallel-bias-cut helper beta tsq
+calcOf CentralCut helper beta tsq = calc-single-or-parallel-central-cut helper beta tsq
+calcOf Q helper beta tsq = calc-single-or-parallel-q helper beta tsq
+
+-- 2⁻¹⁰²², the Rust's `f64::MIN_POSITIVE`: an omega at or below it has no effect; NaN goes on
+abbrev pub is-tiny : Float → Bool
+is-tiny omega = le omega (ofBits binary64 0x0010_0000_0000_0000)
+
+abbrev pub is-success : CutStatus → Bool
+is-success Success = true
+is-success NoSoln = false
+is-success NoEffect = false
+
+-- the centre moved by −step × dir
+unfoldable pub centreOf : List Float → Float → List Float → List Float
+centreOf xc step dir = tab (λ i. entry xc i ⊖ step ⊗ entry dir i) (length xc)

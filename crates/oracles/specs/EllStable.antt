@@ -1,0 +1,149 @@
+-- The ellipsoid whose matrix is kept as factors L D Lᵀ (ell_stable.rs): D on the diagonal, L[i, j] above it at (j, i), scratch below. Definitions only.
+use Prim.Native.Nat.{ℕ, zero, suc, _+_, _-_, _*_}
+use mathlib.Core.Bool.{Bool, not, _&&_}
+use mathlib.Core.List.{List, [], _∷_}
+use lib.Dec.{ltb, eqb}
+use lib.ListN.{length}
+use lib.Ieee.{Float}
+use Rattle.numbers.specs.F64.{_⊕_, _⊖_, _⊗_, _⊘_, 0ᶠ, 1ᶠ}
+use Rattle.numbers.specs.Pick.{pick}
+use Rattle.numbers.specs.Arr.{isDimension, tab, tested}
+use Rattle.numbers.specs.EllCalc.{made}
+use Rattle.numbers.specs.declared.refusal.Refusal.the-variants.{Dimension, Length}
+use Rattle.numbers.specs.declared.cut.CutChoice.{CutChoice}
+use Rattle.numbers.specs.declared.cut.CutStatus.{CutStatus}
+use Rattle.numbers.specs.declared.cut.CutStatus.the-variants.{NoEffect}
+use Rattle.numbers.specs.declared.ell_calc.EllCalc.{EllCalc}
+use Rattle.oracles.specs.Matrix.{entry, at, grid, total}
+use Rattle.oracles.specs.EllCommon.{calcOf, is-tiny, is-success, centreOf}
+use Rattle.oracles.specs.declared.ell_common.CutStrategy.{CutStrategy}
+use Rattle.oracles.specs.declared.ell_common.Update.{Update}
+use Rattle.oracles.specs.declared.ell_common.Update.the-variants.{Status, Refused}
+use Rattle.oracles.specs.declared.ell_stable.EllStable.{EllStable}
+use Rattle.oracles.specs.declared.ell_stable.NewEllStable.{NewEllStable}
+use Rattle.oracles.specs.declared.ell_stable.NewEllStable.the-variants.{Made, Refused as NotMade}
+use Rattle.oracles.specs.declared.ell_stable.EllStableUpdate.{EllStableUpdate}
+
+-- `new_with_matrix`: the state beside the matrix and the centre; refusal 1
+unfoldable pub new-ell-stable-answer : ℕ → Float → NewEllStable
+new-ell-stable-answer n kappa = pick (not (isDimension n)) (NotMade Dimension) (Made (record { ndim = n; kappa = kappa; helper = made n; tsq = 0ᶠ }))
+
+-- the slices that an update is lent to write
+pub record StableBuffers : Type 0 where
+  pub mq : List Float
+  pub xc : List Float
+  pub inv-ml-g : List Float
+  pub inv-md-inv-ml-g : List Float
+  pub gg-t : List Float
+  pub g-t : List Float
+
+-- ---- the factors at work, for a matrix mq with rows of n and a gradient g
+
+-- entry l of the gradient when the columns below j have been taken from it; entry l of L⁻¹g where j is l
+unfoldable pub forward : ℕ → List Float → List Float → ℕ → ℕ → Float
+forward n mq g l zero = entry g l
+forward n mq g l (suc j) = forward n mq g l j ⊖ at n mq j l ⊗ forward n mq g j j
+
+-- inv(L) g
+unfoldable pub inv-ml-gOf : ℕ → List Float → List Float → ℕ → Float
+inv-ml-gOf n mq g i = forward n mq g i i
+
+-- inv(D) inv(L) g: the diagonal holds D's inverse
+unfoldable pub inv-md-inv-ml-gOf : ℕ → List Float → List Float → ℕ → Float
+inv-md-inv-ml-gOf n mq g i = inv-ml-gOf n mq g i ⊗ at n mq i i
+
+-- omega's terms, and omega
+unfoldable pub gg-tOf : ℕ → List Float → List Float → ℕ → Float
+gg-tOf n mq g i = inv-md-inv-ml-gOf n mq g i ⊗ inv-ml-gOf n mq g i
+
+unfoldable pub omegaOf : ℕ → List Float → List Float → Float
+omegaOf n mq g = total _⊕_ 0ᶠ (gg-tOf n mq g) n
+
+-- the strict lower triangle holds what `forward` subtracts
+unfoldable pub lowered : ℕ → List Float → List Float → List Float
+lowered n mq g = grid (λ r c. pick (ltb c r) (at n mq c r ⊗ inv-ml-gOf n mq g c) (at n mq r c)) n n
+
+-- the last `count` entries of inv(Lᵀ) z, from the last one back
+unfoldable pub backward : ℕ → List Float → List Float → ℕ → List Float
+backward n mq z zero = []
+backward n mq z (suc k) =
+    let after = backward n mq z k in
+    let i = n - suc k in
+    total _⊖_ (entry z i) (λ j. at n mq i (i + 1 + j) ⊗ entry after j) k ∷ after
+
+-- omega / mu, where mu = sigma / (1 − sigma); a sigma of 1 divides by zero and goes on
+unfoldable pub t-start : Float → Float → Float
+t-start omega sigma = omega ⊘ (sigma ⊘ (1ᶠ ⊖ sigma))
+
+-- the running number of the rank-one update: t0, and each column's product added
+unfoldable pub tOf : ℕ → List Float → List Float → Float → ℕ → Float
+tOf n mq g t0 j = total _⊕_ t0 (λ i. inv-ml-gOf n mq g i ⊗ inv-md-inv-ml-gOf n mq g i) j
+
+-- the factors after the rank-one update
+unfoldable pub updated : ℕ → List Float → List Float → Float → List Float
+updated n mq g t0 = grid (λ r c. pick (ltb c r) (at n mq c r ⊗ inv-ml-gOf n mq g c) (pick (eqb r c) (diagonal r) (upper r c))) n n
+  where
+    t : ℕ → Float
+    t j = tOf n mq g t0 j
+
+    diagonal : ℕ → Float
+    diagonal j = at n mq j j ⊗ (t j ⊘ t (suc j))
+
+    upper : ℕ → ℕ → Float
+    upper j l = at n mq j l ⊕ inv-md-inv-ml-gOf n mq g j ⊘ t (suc j) ⊗ forward n mq g l (suc j)
+
+-- ---- the update
+
+abbrev pub with-tsq : EllStable → Float → Float → EllStable
+with-tsq e kappa tsq = record { ndim = e .ndim; kappa = kappa; helper = e .helper; tsq = tsq }
+
+abbrev pub stable-said : EllStable → CutStatus → EllStableUpdate
+stable-said e status = record { ell = e; answer = Status status }
+
+-- what is written before the update is known to fail
+abbrev pub prepared : ℕ → List Float → StableBuffers → StableBuffers
+prepared n grad b =
+    record {
+      mq = lowered n (b .mq) grad;
+      xc = b .xc;
+      inv-ml-g = tab (inv-ml-gOf n (b .mq) grad) n;
+      inv-md-inv-ml-g = tab (inv-md-inv-ml-gOf n (b .mq) grad) n;
+      gg-t = tab (gg-tOf n (b .mq) grad) n;
+      g-t = b .g-t;
+    }
+
+-- a success; the working vector g_t ends as inv(L) g
+unfoldable pub succeeded : ℕ → List Float → StableBuffers → Float → Float → Float → StableBuffers
+succeeded n grad b omega rho sigma =
+    let c = prepared n grad b in
+    record {
+      mq = updated n (b .mq) grad (t-start omega sigma);
+      xc = centreOf (b .xc) (rho ⊘ omega) (backward n (b .mq) (c .inv-md-inv-ml-g) n);
+      inv-ml-g = c .inv-ml-g;
+      inv-md-inv-ml-g = c .inv-md-inv-ml-g;
+      gg-t = c .gg-t;
+      g-t = c .inv-ml-g;
+    }
+
+unfoldable pub stable-updateOf : EllStable → CutStrategy → List Float → CutChoice → StableBuffers → EllStableUpdate × StableBuffers
+stable-updateOf e strategy grad beta b =
+    let n = e .ndim in
+    let omega = omegaOf n (b .mq) grad in
+    let tsq = e .kappa ⊗ omega in
+    let a = calcOf strategy (e .helper) beta tsq in
+    let p = a .params in
+    pick (is-tiny omega) (stable-said e NoEffect, prepared n grad b)
+    (pick (not (is-success (a .status))) (stable-said (with-tsq e (e .kappa) tsq) (a .status), prepared n grad b)
+    (stable-said (with-tsq e (e .kappa ⊗ p .delta) tsq) (a .status), succeeded n grad b omega (p .rho) (p .sigma)))
+
+-- the lengths that n says
+abbrev pub stable-fits : ℕ → List Float → StableBuffers → Bool
+stable-fits n grad b =
+    eqb (length grad) n && eqb (length (b .mq)) (n * n) && eqb (length (b .xc)) n
+    && eqb (length (b .inv-ml-g)) n && eqb (length (b .inv-md-inv-ml-g)) n && eqb (length (b .gg-t)) n && eqb (length (b .g-t)) n
+
+-- `update_core`: refusals 1 and 2
+abbrev pub stable-update-answer : EllStable → CutStrategy → List Float → CutChoice → StableBuffers → EllStableUpdate × StableBuffers
+stable-update-answer e strategy grad beta b =
+    tested (e .ndim) (stable-fits (e .ndim) grad b) (record { ell = e; answer = Refused Dimension }, b) (record { ell = e; answer = Refused Length }, b)
+    (stable-updateOf e strategy grad beta b)

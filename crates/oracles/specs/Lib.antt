@@ -1,0 +1,15 @@
+-- Definitions, which a reader has to believe.
+pub mod RoundRobin
+pub mod Scan
+pub mod LowpassOracle
+pub mod Matrix
+pub mod LdltMgr
+pub mod LmiOracle
+pub mod EllCommon
+pub mod Ell
+pub mod EllStable
+-- Theorems about them, the laws that these rest on, and the steps of the inner functions.
+pub mod Known
+pub mod LdltLaws
+pub mod EllLaws
+pub mod EllStableLaws

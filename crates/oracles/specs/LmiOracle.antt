@@ -1,0 +1,53 @@
+-- The LMI assessment: is mat_b − Σ xc[k] mat_f[k] positive definite (lmi_oracle.rs, lmi_oracle_base.rs)? Definitions only.
+use Prim.Native.Nat.{ℕ, _-_, _*_}
+use mathlib.Core.Bool.{Bool, not, _&&_}
+use mathlib.Core.List.{List}
+use lib.Dec.{eqb}
+use lib.ListN.{length, take, drop}
+use lib.Ieee.{Float, neg}
+use Rattle.numbers.specs.F64.{_⊗_, 1ᶠ}
+use Rattle.numbers.specs.Pick.{pick}
+use Rattle.numbers.specs.Arr.{isDimension, tab}
+use Rattle.numbers.specs.declared.refusal.Refusal.the-variants.{Dimension, Length}
+use Rattle.oracles.specs.Matrix.{at}
+use Rattle.oracles.specs.LdltMgr.{isOrder, get-elem, rowsOf, posOf, witnessOf, quadOf}
+use Rattle.oracles.specs.declared.ldlt_mgr.Pos.{Pos}
+use Rattle.oracles.specs.declared.lmi_oracle.LmiVerdict.{LmiVerdict}
+use Rattle.oracles.specs.declared.lmi_oracle.LmiVerdict.the-variants.{Feasible, Cut, Refused}
+
+-- what a call leaves in the slices that it is lent to write
+pub record LmiBuffers : Type 0 where
+  pub storage : List Float
+  pub wit : List Float
+  pub grad : List Float
+
+-- mat_f[k], the part that begins at k × m²
+abbrev pub matOf : ℕ → List Float → ℕ → List Float
+matOf m mat-f k = take (m * m) (drop (k * (m * m)) mat-f)
+
+-- the gradient: each mat_f[k]'s quadratic form at the witness, times the sign, which is 1
+unfoldable pub lmi-gradient : ℕ → ℕ → Pos → List Float → List Float → List Float
+lmi-gradient m n pos wit mat-f = tab (λ k. 1ᶠ ⊗ quadOf m pos wit (matOf m mat-f k)) n
+
+-- factor; where that stops, the witness, the negated last pivot and the gradient
+unfoldable pub lmi-assessOf : ℕ → ℕ → List Float → List Float → List Float → LmiBuffers → LmiVerdict × LmiBuffers
+lmi-assessOf m n mat-b mat-f xc b =
+    let w = rowsOf (get-elem m mat-b mat-f xc) m (b .storage) in
+    let e = w .0 in
+    let storage = w .1 in
+    let wit = witnessOf m (posOf e) storage (b .wit) in
+    pick (eqb e 0) (Feasible, record { storage = storage; wit = b .wit; grad = b .grad })
+    (Cut (posOf e) (neg (at m storage (e - 1) (e - 1))), record { storage = storage; wit = wit; grad = lmi-gradient m n (posOf e) wit mat-f })
+
+-- the lengths that m and n say
+abbrev pub lmi-fits : ℕ → ℕ → List Float → List Float → List Float → LmiBuffers → Bool
+lmi-fits m n mat-b mat-f xc b =
+    eqb (length mat-b) (m * m) && eqb (length mat-f) (n * (m * m)) && eqb (length xc) n
+    && eqb (length (b .storage)) (m * m) && eqb (length (b .wit)) m && eqb (length (b .grad)) n
+
+-- `assess_feas`: refusals 1 (m or n) and 2
+unfoldable pub lmi-answer : ℕ → ℕ → List Float → List Float → List Float → LmiBuffers → LmiVerdict × LmiBuffers
+lmi-answer m n mat-b mat-f xc b =
+    pick (not (isOrder m && isDimension n)) (Refused Dimension, b)
+    (pick (not (lmi-fits m n mat-b mat-f xc b)) (Refused Length, b)
+    (lmi-assessOf m n mat-b mat-f xc b))

@@ -1,0 +1,141 @@
+-- The lowpass oracle (lowpass_oracle.rs): the assessment of a point, in the Rust's order. Definitions only.
+use Prim.Native.Nat.{ℕ, _≤_}
+use mathlib.Core.Path.{_≡_}
+use mathlib.Core.Bool.{Bool, true, false, not, _&&_}
+use mathlib.Core.List.{List}
+use lib.Dec.{eqb}
+use lib.ListN.{length, getD, set, replicate}
+use lib.IntN.{ℤ, pos, natAbs}
+use lib.Signed.{leZ, ltZ}
+use lib.Ieee.{Float, nan, lt, neg, binary64, ofBits}
+use Rattle.numbers.specs.F64.{0ᶠ}
+use Rattle.numbers.specs.Pick.{pick}
+use Rattle.numbers.specs.Arr.{rowOf, tested}
+use Rattle.numbers.specs.declared.refusal.Refusal.{Refusal}
+use Rattle.numbers.specs.declared.refusal.Refusal.the-variants.{Dimension, Length, Band, Cursor, NoStopValue}
+use Rattle.numbers.specs.declared.cut.CutChoice.the-variants.{Single, Parallel}
+use Rattle.oracles.specs.RoundRobin.{isAt, eqZ, moved}
+use Rattle.oracles.specs.Scan.{−∞, none, isRows, table-fits, scanOf, violated, band-beta, band-gradient}
+use Rattle.oracles.specs.declared.round_robin.RoundRobin.{RoundRobin}
+use Rattle.oracles.specs.declared.scan.Upper.the-variants.{Absent, At}
+use Rattle.oracles.specs.declared.scan.Scan.{Scan}
+use Rattle.oracles.specs.declared.lowpass_oracle.Group.{Group}
+use Rattle.oracles.specs.declared.lowpass_oracle.Group.the-variants.{Pass, Stop, Middle, Sign}
+use Rattle.oracles.specs.declared.lowpass_oracle.Verdict.{Verdict}
+use Rattle.oracles.specs.declared.lowpass_oracle.Verdict.the-variants.{Feasible, Cut, Refused}
+use Rattle.oracles.specs.declared.lowpass_oracle.OptimVerdict.{OptimVerdict}
+use Rattle.oracles.specs.declared.lowpass_oracle.OptimVerdict.the-variants.{Improved, Cut as CutOptim, Refused as RefusedOptim}
+use Rattle.oracles.specs.declared.lowpass_oracle.LowpassOracle.{LowpassOracle}
+use Rattle.oracles.specs.declared.lowpass_oracle.Assessed.{Assessed}
+use Rattle.oracles.specs.declared.lowpass_oracle.AssessedOptim.{AssessedOptim}
+
+-- −1
+abbrev pub −1ᶠ : Float
+−1ᶠ = ofBits binary64 0xbff0_0000_0000_0000
+
+-- ---- the assessment of a point, with `grad` as it is left
+
+-- after the pass scan: more_alt is set, and idx1 takes cur
+abbrev pub after-pass : LowpassOracle → ℤ → RoundRobin → LowpassOracle
+after-pass o last rr = record {
+  «more_alt» = true; idx1 = last; nwpass = o .nwpass; nwstop = o .nwstop; «lp_sq» = o .«lp_sq»; «up_sq» = o .«up_sq»; «sp_sq» = o .«sp_sq»;
+  idx2 = o .idx2; idx3 = o .idx3; fmax = o .fmax; kmax = o .kmax; rr1 = rr; rr2 = o .rr2; rr3 = o .rr3;
+}
+
+-- after the stop scan
+abbrev pub after-stop : LowpassOracle → ℤ → RoundRobin → Float → ℤ → LowpassOracle
+after-stop o last rr fmax kmax = record {
+  «more_alt» = o .«more_alt»; idx1 = o .idx1; nwpass = o .nwpass; nwstop = o .nwstop; «lp_sq» = o .«lp_sq»; «up_sq» = o .«up_sq»; «sp_sq» = o .«sp_sq»;
+  idx2 = o .idx2; idx3 = last; fmax = fmax; kmax = kmax; rr1 = o .rr1; rr2 = o .rr2; rr3 = rr;
+}
+
+-- after the middle scan
+abbrev pub after-middle : LowpassOracle → ℤ → RoundRobin → Bool → LowpassOracle
+after-middle o last rr more-alt = record {
+  «more_alt» = more-alt; idx1 = o .idx1; nwpass = o .nwpass; nwstop = o .nwstop; «lp_sq» = o .«lp_sq»; «up_sq» = o .«up_sq»; «sp_sq» = o .«sp_sq»;
+  idx2 = last; idx3 = o .idx3; fmax = o .fmax; kmax = o .kmax; rr1 = o .rr1; rr2 = rr; rr3 = o .rr3;
+}
+
+-- the last test: x[0] below zero, with the gradient −1, 0, .. 0
+unfoldable pub assess-sign : LowpassOracle → List Float → List Float → Assessed × List Float
+assess-sign o x grad =
+    pick (lt (getD x 0 nan) 0ᶠ)
+    (record { oracle = o; verdict = Cut Sign (Single (neg (getD x 0 nan))) }, set (replicate (length grad) 0ᶠ) 0 −1ᶠ)
+    (record { oracle = o; verdict = Feasible }, grad)
+
+-- the middle rows; more_alt turns false once they have passed
+unfoldable pub assess-middle : LowpassOracle → ℕ → List Float → List Float → List Float → Assessed × List Float
+assess-middle o n table x grad =
+    let s = scanOf n table x (o .rr2) 0ᶠ Absent in
+    let rr = moved (o .rr2) (s .last) in
+    violated (s .viol) (assess-sign (after-middle o (s .last) rr false) x grad)
+    (λ row v over. (record { oracle = after-middle o (s .last) rr (o .«more_alt»); verdict = Cut (Middle row) (band-beta v over 0ᶠ Absent) }, band-gradient n table row over))
+
+-- the stop rows; on a violation fmax and kmax are those of no row
+unfoldable pub assess-stop : LowpassOracle → ℕ → List Float → List Float → List Float → Assessed × List Float
+assess-stop o n table x grad =
+    let s = scanOf n table x (o .rr3) 0ᶠ (At (o .«sp_sq»)) in
+    let rr = moved (o .rr3) (s .last) in
+    violated (s .viol) (assess-middle (after-stop o (s .last) rr (s .fmax) (s .kmax)) n table x grad)
+    (λ row v over. (record { oracle = after-stop o (s .last) rr −∞ none; verdict = Cut (Stop row over) (band-beta v over 0ᶠ (At (o .«sp_sq»))) }, band-gradient n table row over))
+
+-- all of it: pass, stop, middle, sign
+unfoldable pub assessOf : LowpassOracle → ℕ → List Float → List Float → List Float → Assessed × List Float
+assessOf o n table x grad =
+    let s = scanOf n table x (o .rr1) (o .«lp_sq») (At (o .«up_sq»)) in
+    let o′ = after-pass o (s .last) (moved (o .rr1) (s .last)) in
+    violated (s .viol) (assess-stop o′ n table x grad)
+    (λ row v over. (record { oracle = o′; verdict = Cut (Pass row over) (band-beta v over (o .«lp_sq») (At (o .«up_sq»))) }, band-gradient n table row over))
+
+-- ---- the public calls
+
+-- a cursor of the band lo .. hi − 1
+abbrev pub isOf : RoundRobin → ℤ → ℤ → Bool
+isOf c lo hi = eqZ (c .lo) lo && eqZ (c .hi) hi
+
+-- refusal 3: the row count, the bands, and the cursors' lo and hi, which are their bands'
+abbrev pub bands-fit : LowpassOracle → ℕ → Bool
+bands-fit o rows =
+    isRows rows && leZ (pos 0) (o .nwpass) && leZ (o .nwpass) (o .nwstop) && leZ (o .nwstop) (pos rows)
+    && isOf (o .rr1) (pos 0) (o .nwpass) && isOf (o .rr2) (o .nwpass) (o .nwstop) && isOf (o .rr3) (o .nwstop) (pos rows)
+
+-- refusal 4
+abbrev pub cursors-fit : LowpassOracle → Bool
+cursors-fit o = isAt (o .rr1) && isAt (o .rr2) && isAt (o .rr3)
+
+-- a refusal gives the oracle as it came
+abbrev pub refusedOf : LowpassOracle → Refusal → Assessed
+refusedOf o why = record { oracle = o; verdict = Refused why }
+
+-- `assess_feas`: refusals 1 to 4
+unfoldable pub assess-feas-answer : LowpassOracle → ℕ → ℕ → List Float → List Float → List Float → Assessed × List Float
+assess-feas-answer o n rows table x grad =
+    tested n (table-fits n rows table x && eqb (length grad) n) (refusedOf o Dimension, grad) (refusedOf o Length, grad)
+    (pick (not (bands-fit o rows)) (refusedOf o Band, grad)
+    (pick (not (cursors-fit o)) (refusedOf o Cursor, grad)
+    (assessOf o n table x grad)))
+
+-- the oracle with the offered sp_sq
+abbrev pub offered : LowpassOracle → Float → LowpassOracle
+offered o gamma = record {
+  «more_alt» = o .«more_alt»; idx1 = o .idx1; nwpass = o .nwpass; nwstop = o .nwstop; «lp_sq» = o .«lp_sq»; «up_sq» = o .«up_sq»; «sp_sq» = gamma;
+  idx2 = o .idx2; idx3 = o .idx3; fmax = o .fmax; kmax = o .kmax; rr1 = o .rr1; rr2 = o .rr2; rr3 = o .rr3;
+}
+
+-- a feasible point's answer: the kmax row cuts with (0, fmax) and the caller's number is fmax; refusal 6, and the oracle as it came, where no stop row compares
+unfoldable pub improvedOf : LowpassOracle → Float → LowpassOracle → ℕ → List Float → List Float → AssessedOptim × List Float
+improvedOf o gamma o′ n table grad =
+    pick (ltZ (o′ .kmax) (pos 0)) (record { oracle = o; gamma = gamma; verdict = RefusedOptim NoStopValue }, grad)
+    (record { oracle = o′; gamma = o′ .fmax; verdict = Improved (Parallel 0ᶠ (o′ .fmax)) }, rowOf n table (natAbs (o′ .kmax)))
+
+-- what an assessment of the oracle with the offered number becomes
+abbrev pub optim-of : LowpassOracle → Float → ℕ → List Float → LowpassOracle → Verdict → List Float → AssessedOptim × List Float
+optim-of o gamma n table o′ Feasible grad = improvedOf o gamma o′ n table grad
+optim-of o gamma n table o′ (Cut group beta) grad = (record { oracle = o′; gamma = gamma; verdict = CutOptim group beta }, grad)
+optim-of o gamma n table o′ (Refused why) grad = (record { oracle = o; gamma = gamma; verdict = RefusedOptim why }, grad)
+
+-- `assess_optim`: the offered sp_sq is stored first
+abbrev pub assess-optim-answer : LowpassOracle → Float → ℕ → ℕ → List Float → List Float → List Float → AssessedOptim × List Float
+assess-optim-answer o gamma n rows table x grad =
+    let a = assess-feas-answer (offered o gamma) n rows table x grad in
+    optim-of o gamma n table (a .0 .oracle) (a .0 .verdict) (a .1)

@@ -1,0 +1,62 @@
+-- The cursor (round_robin.rs) and document 01's legal cursors. Definitions only.
+use Prim.Native.Nat.{ℕ, _≤_}
+use mathlib.Core.Path.{_≡_}
+use mathlib.Core.Bool.{Bool, true, false, not, _&&_}
+use lib.Dec.{eqb}
+use lib.IntN.{ℤ, pos, negsuc, predℤ, _+ℤ_, _-ℤ_}
+use lib.Signed.{leZ, ltZ}
+use Rattle.numbers.specs.Pick.{pick}
+use Rattle.numbers.specs.declared.refusal.Refusal.the-variants.{Band, Cursor}
+use Rattle.oracles.specs.declared.round_robin.RoundRobin.{RoundRobin}
+use Rattle.oracles.specs.declared.round_robin.CursorAnswer.{CursorAnswer}
+use Rattle.oracles.specs.declared.round_robin.CursorAnswer.the-variants.{At, Refused}
+
+-- a band: 0 ≤ lo ≤ hi ≤ 1,024
+abbrev pub isBand : ℤ → ℤ → Bool
+isBand lo hi = leZ (pos 0) lo && leZ lo hi && leZ hi (pos 1024)
+
+-- cur stands in its band, or just before it: lo − 1 ≤ cur ≤ hi − 1
+abbrev pub isAt : RoundRobin → Bool
+isAt c = ltZ (c .cur) (c .hi) && leZ (c .lo) (c .cur +ℤ pos 1)
+
+-- whether two numbers are equal
+abbrev pub eqZ : ℤ → ℤ → Bool
+eqZ (pos a) (pos b) = eqb a b
+eqZ (pos a) (negsuc b) = false
+eqZ (negsuc a) (pos b) = false
+eqZ (negsuc a) (negsuc b) = eqb a b
+
+-- the cursor moved to z
+abbrev pub moved : RoundRobin → ℤ → RoundRobin
+moved c z = record { cur = z; lo = c .lo; hi = c .hi }
+
+-- one on, and hi turns into lo
+unfoldable pub advanced : RoundRobin → RoundRobin
+advanced c = moved c (pick (eqZ (c .cur +ℤ pos 1) (c .hi)) (c .lo) (c .cur +ℤ pos 1))
+
+-- a fresh cursor stands just before its band
+abbrev pub fresh : ℤ → ℤ → RoundRobin
+fresh lo hi = record { cur = lo -ℤ pos 1; lo = lo; hi = hi }
+
+-- `new_range`: refusal 3 unless lo and hi are a band
+unfoldable pub new-range-answer : ℤ → ℤ → CursorAnswer
+new-range-answer lo hi = pick (not (isBand lo hi)) (Refused Band) (At (fresh lo hi))
+
+-- `advance`: refusal 3 also for an empty band, then 4
+unfoldable pub advance-answer : RoundRobin → CursorAnswer
+advance-answer c =
+    pick (not (isBand (c .lo) (c .hi) && ltZ (c .lo) (c .hi))) (Refused Band)
+    (pick (not (isAt c)) (Refused Cursor)
+    (At (advanced c)))
+
+-- a legal cursor, said in natural numbers: its band is from .. past − 1, and `next` is one more than `cur`
+pub record Legal (c : RoundRobin) : Type 0 where
+  pub from : ℕ
+  pub past : ℕ
+  pub next : ℕ
+  pub lo-is : c .lo ≡ pos from
+  pub hi-is : c .hi ≡ pos past
+  pub cur-is : c .cur ≡ predℤ (pos next)
+  pub above : from ≤ next
+  pub below : next ≤ past
+  pub small : past ≤ 1024

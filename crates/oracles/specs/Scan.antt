@@ -1,0 +1,109 @@
+-- A scan of a band of rows (`scan_band` of lowpass_oracle.rs), in the Rust's order. Definitions only.
+use Prim.Native.Nat.{ℕ, zero, suc, _≤_, _<_, _*_}
+use mathlib.Core.Path.{_≡_}
+use mathlib.Core.Bool.{Bool, true, false, not, _&&_}
+use mathlib.Core.List.{List, map}
+use lib.Dec.{leb, eqb}
+use lib.ListN.{length}
+use lib.IntN.{ℤ, pos, negsuc, natAbs, _-ℤ_}
+use lib.Signed.{leZ}
+use lib.Ieee.{Float, inf, lt, neg}
+use Rattle.numbers.specs.F64.{_⊖_}
+use Rattle.numbers.specs.Pick.{pick}
+use Rattle.numbers.specs.Arr.{isDimension, dotOf, rowOf, tested}
+use Rattle.numbers.specs.declared.refusal.Refusal.the-variants.{Dimension, Length, Band, Cursor}
+use Rattle.numbers.specs.declared.cut.CutChoice.{CutChoice}
+use Rattle.numbers.specs.declared.cut.CutChoice.the-variants.{Single, Parallel}
+use Rattle.oracles.specs.RoundRobin.{isBand, isAt, moved, advanced, Legal}
+use Rattle.oracles.specs.declared.round_robin.RoundRobin.{RoundRobin}
+use Rattle.oracles.specs.declared.scan.Upper.{Upper}
+use Rattle.oracles.specs.declared.scan.Upper.the-variants.{Absent, At}
+use Rattle.oracles.specs.declared.scan.Violation.{Violation}
+use Rattle.oracles.specs.declared.scan.Violation.the-variants.{Nothing, Broken}
+use Rattle.oracles.specs.declared.scan.Scan.{Scan}
+use Rattle.oracles.specs.declared.scan.ScanAnswer.{ScanAnswer}
+use Rattle.oracles.specs.declared.scan.ScanAnswer.the-variants.{Scanned, Refused as NotScanned}
+
+-- minus infinity, and the row number that stands for none
+abbrev pub −∞ : Float
+−∞ = inf true
+
+abbrev pub none : ℤ
+none = negsuc 0
+
+-- ---- a scan
+
+-- row i's value: its `dot` with the point
+unfoldable pub valueOf : ℕ → List Float → List Float → ℕ → Float
+valueOf n table x i = dotOf (rowOf n table i) x
+
+-- whether v lies above an upper limit, if there is one
+abbrev pub isOver : Upper → Float → Bool
+isOver Absent v = false
+isOver (At u) v = lt u v
+
+-- the rows that are left, from a cursor, with the largest value so far and its row
+unfoldable pub scanFrom : ℕ → List Float → List Float → Float → Upper → ℕ → RoundRobin → Float → ℤ → Scan
+scanFrom n table x lower upper zero c fmax kmax = record { viol = Nothing; fmax = fmax; kmax = kmax; last = c .cur }
+scanFrom n table x lower upper (suc left) c fmax kmax =
+    let d = advanced c in
+    let i = natAbs (d .cur) in
+    let v = valueOf n table x i in
+    pick (isOver upper v) (record { viol = Broken i v true; fmax = fmax; kmax = kmax; last = d .cur })
+    (pick (lt v lower) (record { viol = Broken i v false; fmax = fmax; kmax = kmax; last = d .cur })
+    (scanFrom n table x lower upper left d (pick (lt fmax v) v fmax) (pick (lt fmax v) (d .cur) kmax)))
+
+-- one advance for each row of the cursor's band at most
+unfoldable pub scanOf : ℕ → List Float → List Float → RoundRobin → Float → Upper → Scan
+scanOf n table x c lower upper = scanFrom n table x lower upper (natAbs (c .hi -ℤ c .lo)) c −∞ none
+
+-- a table has 1 to 1,024 rows
+abbrev pub isRows : ℕ → Bool
+isRows rows = leb 1 rows && leb rows 1024
+
+-- the lengths that n and the row count say
+abbrev pub table-fits : ℕ → ℕ → List Float → List Float → Bool
+table-fits n rows table x = eqb (length table) (rows * n) && eqb (length x) n
+
+-- lo and hi are a band of a table of so many rows
+abbrev pub band-fits : ℕ → ℤ → ℤ → Bool
+band-fits rows lo hi = isRows rows && (isBand lo hi && leZ hi (pos rows))
+
+-- `scan_band`: refusals 1, 2, 3 (row count, band, band within the rows) and 4; the answer, and the cursor as it is left
+unfoldable pub scan-band-answer : ℕ → ℕ → List Float → List Float → RoundRobin → Float → Upper → ScanAnswer × RoundRobin
+scan-band-answer n rows table x c lower upper =
+    let s = scanOf n table x c lower upper in
+    tested n (table-fits n rows table x) (NotScanned Dimension, c) (NotScanned Length, c)
+    (pick (not (band-fits rows (c .lo) (c .hi))) (NotScanned Band, c)
+    (pick (not (isAt c)) (NotScanned Cursor, c)
+    (Scanned s, moved c (s .last))))
+
+-- ---- what a violation becomes
+
+-- a violation taken apart
+abbrev pub violated {ℓ} : {X : Type ℓ} → Violation → X → (ℕ → Float → Bool → X) → X
+violated Nothing kept broken = kept
+violated (Broken row value over) kept broken = broken row value over
+
+-- the betas of `band_cut`
+unfoldable pub band-beta : Float → Bool → Float → Upper → CutChoice
+band-beta v over lower Absent = Single (lower ⊖ v)
+band-beta v over lower (At u) = pick over (Parallel (v ⊖ u) (v ⊖ lower)) (Parallel (lower ⊖ v) (u ⊖ v))
+
+-- its gradient: the row above an upper limit, the negated row below a lower one
+unfoldable pub band-gradient : ℕ → List Float → ℕ → Bool → List Float
+band-gradient n table row over = pick over (rowOf n table row) (map neg (rowOf n table row))
+
+-- ---- what the inner functions ask for
+
+-- rows that a scan from c can read
+pub record Ready (n : ℕ) (table x : List Float) (c : RoundRobin) : Type 0 where
+  pub legal : Legal c
+  pub high : legal .past * n ≤ length table
+
+-- a scan with nothing left to refuse
+pub record Scannable (n rows : ℕ) (table x : List Float) (c : RoundRobin) : Type 0 where
+  pub dimension : isDimension n ≡ true
+  pub long : table-fits n rows table x ≡ true
+  pub band : band-fits rows (c .lo) (c .hi) ≡ true
+  pub at : isAt c ≡ true

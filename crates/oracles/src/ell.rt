@@ -1,0 +1,185 @@
+// The ellipsoid { x | (x − xc)ᵀ mq⁻¹ (x − xc) ≤ kappa } (ell.rs). The caller lends the matrix, the centre and the scratch.
+use crate::ell_common::CutStrategy;
+use crate::ell_common::Update;
+use crate::ell_common::is_success;
+use crate::ell_common::is_tiny;
+use crate::ell_common::move_centre;
+use numbers::arr::dot_mv_into;
+use numbers::arr::dot_zip;
+use numbers::arr::is_dimension;
+use numbers::cut::CutChoice;
+use numbers::cut::CutStatus;
+use numbers::ell_calc::EllCalc;
+use numbers::ell_calc::NewEllCalc;
+use numbers::refusal::Refusal;
+ghost use mathlib.Core.Path.{_≡_};
+ghost use mathlib.Core.Bool.{true};
+ghost use Prim.Native.Nat.{_*_, _≤_, _<_};
+ghost use lib.ListN.{length};
+ghost use Rattle.numbers.specs.Arr.{isDimension};
+ghost use Rattle.oracles.specs.Ell.{new-ell-answer, rank-one, with-tsq, ell-said, ell-fits, ell-updateOf, ell-update-answer};
+ghost use Rattle.oracles.specs.EllLaws.{row-lowered, all-lowered, row-mirrored, mirrored};
+
+pub struct Ell {
+    ndim: usize,
+    pub kappa: f64,
+    helper: EllCalc,
+    pub tsq: f64,
+}
+
+pub enum NewEll {
+    Made(Ell),
+    Refused(Refusal),
+}
+
+pub struct EllUpdate {
+    pub ell: Ell,
+    pub answer: Update,
+}
+
+// Row i, lent as a part of the matrix: its entries 0 to i.
+fn lower_row(row: &mut [f64], r_qg: f64, gt: &[f64], i: usize)
+    requires { ⌜ (i < length (now row)) × (length (now row) ≡ length (now gt)) × (length (now row) ≤ 32) ⌝ }
+    ensures { λ _. ⌜ now (row .exit) ≡ row-lowered (now (row .entry)) «r_qg» (now (gt .entry)) i ⌝ }
+{
+    let mut j = 0;
+    while j <= i {
+        row[j] = row[j] - r_qg * gt[j];
+        j += 1;
+    }
+}
+
+fn lower_rows(n: usize, mq: &mut [f64], ratio: f64, gt: &[f64])
+    requires { ⌜ (n ≤ 32) × (length (now mq) ≡ n * n) × (length (now gt) ≡ n) ⌝ }
+    ensures { λ _. ⌜ now (mq .exit) ≡ all-lowered n ratio (now (gt .entry)) (now (mq .entry)) ⌝ }
+{
+    let mut i = 0;
+    while i < n {
+        let at = i * n;
+        let end = at + n;
+        lower_row(&mut mq[at..end], ratio * gt[i], gt, i);
+        i += 1;
+    }
+}
+
+// Row i's entries before the diagonal, copied into column i.
+fn mirror_row(n: usize, mq: &mut [f64], i: usize)
+    requires { ⌜ (n ≤ 32) × (length (now mq) ≡ n * n) × (i < n) ⌝ }
+    ensures { λ _. ⌜ now (mq .exit) ≡ row-mirrored n (now (mq .entry)) i ⌝ }
+{
+    let mut j = 0;
+    while j < i {
+        mq[j * n + i] = mq[i * n + j];
+        j += 1;
+    }
+}
+
+fn mirror(n: usize, mq: &mut [f64])
+    requires { ⌜ (n ≤ 32) × (length (now mq) ≡ n * n) ⌝ }
+    ensures { λ _. ⌜ now (mq .exit) ≡ mirrored n (now (mq .entry)) ⌝ }
+{
+    let mut i = 0;
+    while i < n {
+        mirror_row(n, mq, i);
+        i += 1;
+    }
+}
+
+// mq − ratio × gt gtᵀ.
+fn shrink(n: usize, mq: &mut [f64], ratio: f64, gt: &[f64])
+    requires { ⌜ (n ≤ 32) × (length (now mq) ≡ n * n) × (length (now gt) ≡ n) ⌝ }
+    ensures { λ _. ⌜ now (mq .exit) ≡ rank-one n ratio (now (gt .entry)) (now (mq .entry)) ⌝ }
+{
+    lower_rows(n, mq, ratio, gt);
+    mirror(n, mq);
+}
+
+impl Ell {
+    pub fn new_with_matrix(n: usize, kappa: f64) -> NewEll
+        ensures { λ r. ⌜ r ≡ new-ell-answer n kappa ⌝ }
+    {
+        match EllCalc::new(n) {
+            NewEllCalc::Made(helper) => NewEll::Made(Ell {
+                ndim: n,
+                kappa: kappa,
+                helper: helper,
+                tsq: 0.0,
+            }),
+            NewEllCalc::Refused(why) => NewEll::Refused(why),
+        }
+    }
+
+    // The same ellipsoid with another kappa and tsq, and a status.
+    fn said(self, kappa: f64, tsq: f64, status: CutStatus) -> EllUpdate
+        ensures { λ r. ⌜ r ≡ ell-said (with-tsq self kappa tsq) status ⌝ }
+    {
+        let helper = self.helper;
+        EllUpdate {
+            ell: Ell {
+                ndim: self.ndim,
+                kappa: kappa,
+                helper: helper,
+                tsq: tsq,
+            },
+            answer: Update::Status(status),
+        }
+    }
+
+    fn update(
+        self,
+        strategy: CutStrategy,
+        grad: &[f64],
+        beta: CutChoice,
+        mq: &mut [f64],
+        xc: &mut [f64],
+        grad_t: &mut [f64],
+    ) -> EllUpdate
+        requires { ⌜ (isDimension (self .ndim) ≡ true) × (ell-fits (self .ndim) (now grad) (record { mq = now mq; xc = now xc; grad-t = now «grad_t» }) ≡ true) ⌝ }
+        ensures { λ r. ⌜ (r, record { mq = now (mq .exit); xc = now (xc .exit); grad-t = now («grad_t» .exit) }) ≡ ell-updateOf self strategy (now (grad .entry)) beta (record { mq = now (mq .entry); xc = now (xc .entry); grad-t = now («grad_t» .entry) }) ⌝ }
+    {
+        let n = self.ndim;
+        dot_mv_into(n, mq, grad, grad_t);
+        let omega = dot_zip(grad, grad_t);
+        if is_tiny(omega) {
+            return self.said(self.kappa, self.tsq, CutStatus::NoEffect);
+        }
+        let tsq = self.kappa * omega;
+        let helper = self.helper;
+        let answer = strategy.calc(helper, beta, tsq);
+        let status = answer.status;
+        if !is_success(status) {
+            return self.said(self.kappa, tsq, status);
+        }
+        let params = answer.params;
+        move_centre(xc, params.rho / omega, grad_t);
+        shrink(n, mq, params.sigma / omega, grad_t);
+        self.said(self.kappa * params.delta, tsq, status)
+    }
+
+    pub fn update_core(
+        self,
+        strategy: CutStrategy,
+        grad: &[f64],
+        beta: CutChoice,
+        mq: &mut [f64],
+        xc: &mut [f64],
+        grad_t: &mut [f64],
+    ) -> EllUpdate
+        ensures { λ r. ⌜ (r, record { mq = now (mq .exit); xc = now (xc .exit); grad-t = now («grad_t» .exit) }) ≡ ell-update-answer self strategy (now (grad .entry)) beta (record { mq = now (mq .entry); xc = now (xc .entry); grad-t = now («grad_t» .entry) }) ⌝ }
+    {
+        let n = self.ndim;
+        if !is_dimension(n) {
+            return EllUpdate {
+                ell: self,
+                answer: Update::Refused(Refusal::Dimension),
+            };
+        }
+        if !(grad.len() == n && mq.len() == n * n && xc.len() == n && grad_t.len() == n) {
+            return EllUpdate {
+                ell: self,
+                answer: Update::Refused(Refusal::Length),
+            };
+        }
+        self.update(strategy, grad, beta, mq, xc, grad_t)
+    }
+}

@@ -1,0 +1,63 @@
+// What both ellipsoids share: the choice of a calculator, the answer of an update, and the move of the centre.
+use numbers::cut::Answer;
+use numbers::cut::CutChoice;
+use numbers::cut::CutStatus;
+use numbers::ell_calc::EllCalc;
+use numbers::refusal::Refusal;
+ghost use mathlib.Core.Path.{_≡_};
+ghost use lib.ListN.{length};
+ghost use Rattle.oracles.specs.EllCommon.{calcOf, is-tiny, is-success, centreOf};
+
+// Which calculator of `EllCalc` an update uses.
+pub enum CutStrategy {
+    BiasCut,
+    CentralCut,
+    Q,
+}
+
+pub enum Update {
+    Status(CutStatus),
+    Refused(Refusal),
+}
+
+// `f64::MIN_POSITIVE`, 2⁻¹⁰²².
+const MIN_POSITIVE: f64 = 2.2250738585072014e-308;
+
+// Whether omega has no effect; NaN goes on.
+pub(crate) fn is_tiny(omega: f64) -> bool
+    ensures { λ r. ⌜ r ≡ is-tiny omega ⌝ }
+{
+    omega <= MIN_POSITIVE
+}
+
+pub(crate) fn is_success(status: CutStatus) -> bool
+    ensures { λ r. ⌜ r ≡ is-success status ⌝ }
+{
+    match status {
+        CutStatus::Success => true,
+        _ => false,
+    }
+}
+
+impl CutStrategy {
+    pub fn calc(self, helper: EllCalc, beta: CutChoice, tsq: f64) -> Answer
+        ensures { λ r. ⌜ r ≡ calcOf self helper beta tsq ⌝ }
+    {
+        match self {
+            CutStrategy::BiasCut => helper.calc_single_or_parallel_bias_cut(beta, tsq),
+            CutStrategy::CentralCut => helper.calc_single_or_parallel_central_cut(beta, tsq),
+            CutStrategy::Q => helper.calc_single_or_parallel_q(beta, tsq),
+        }
+    }
+}
+
+pub(crate) fn move_centre(xc: &mut [f64], step: f64, dir: &[f64])
+    requires { ⌜ length (now xc) ≡ length (now dir) ⌝ }
+    ensures { λ _. ⌜ now (xc .exit) ≡ centreOf (now (xc .entry)) step (now (dir .entry)) ⌝ }
+{
+    let mut i = 0;
+    while i < dir.len() {
+        xc[i] = xc[i] - step * dir[i];
+        i += 1;
+    }
+}

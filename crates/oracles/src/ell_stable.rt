@@ -1,0 +1,302 @@
+// The ellipsoid whose matrix is kept as factors L D Lᵀ (ell_stable.rs): D on the diagonal, L[i, j] above it at (j, i), scratch below it.
+use crate::ell_common::CutStrategy;
+use crate::ell_common::Update;
+use crate::ell_common::is_success;
+use crate::ell_common::is_tiny;
+use crate::ell_common::move_centre;
+use numbers::arr::copy_from;
+use numbers::arr::is_dimension;
+use numbers::cut::CutChoice;
+use numbers::cut::CutStatus;
+use numbers::cut::Params;
+use numbers::ell_calc::EllCalc;
+use numbers::ell_calc::NewEllCalc;
+use numbers::refusal::Refusal;
+ghost use mathlib.Core.Path.{_≡_};
+ghost use mathlib.Core.Bool.{true};
+ghost use Prim.Native.Nat.{suc, _*_, _≤_, _<_};
+ghost use lib.ListN.{length};
+ghost use Rattle.numbers.specs.Arr.{isDimension, tab};
+ghost use Rattle.numbers.specs.F64.{_⊗_, _⊘_};
+ghost use Rattle.oracles.specs.Matrix.{entry, at};
+ghost use Rattle.oracles.specs.EllCommon.{centreOf};
+ghost use Rattle.oracles.specs.EllStable.{new-ell-stable-answer, inv-ml-gOf, inv-md-inv-ml-gOf, gg-tOf, omegaOf, lowered, backward, t-start, with-tsq, stable-said, stable-fits, stable-updateOf, stable-update-answer};
+ghost use Rattle.oracles.specs.EllStableLaws.{row-forwarded, summed, row-backwarded, column-taken, row-updated, rank-one};
+
+pub struct EllStable {
+    ndim: usize,
+    pub kappa: f64,
+    helper: EllCalc,
+    pub tsq: f64,
+}
+
+pub enum NewEllStable {
+    Made(EllStable),
+    Refused(Refusal),
+}
+
+pub struct EllStableUpdate {
+    pub ell: EllStable,
+    pub answer: Update,
+}
+
+// Row i of inv(L) g; what is subtracted stays in the lower triangle.
+fn forward_row(n: usize, mq: &mut [f64], w: &mut [f64], i: usize)
+    requires { ⌜ (n ≤ 32) × (length (now mq) ≡ n * n) × (length (now w) ≡ n) × (i < n) ⌝ }
+    ensures { λ _. ⌜ (now (mq .exit), now (w .exit)) ≡ row-forwarded n (now (mq .entry)) (now (w .entry)) i ⌝ }
+{
+    let mut j = 0;
+    while j < i {
+        let val = mq[j * n + i] * w[j];
+        mq[i * n + j] = val;
+        w[i] = w[i] - val;
+        j += 1;
+    }
+}
+
+// inv(L) g in place of g.
+fn forward(n: usize, mq: &mut [f64], w: &mut [f64])
+    requires { ⌜ (n ≤ 32) × (length (now mq) ≡ n * n) × (length (now w) ≡ n) ⌝ }
+    ensures { λ _. ⌜ (now (mq .exit) ≡ lowered n (now (mq .entry)) (now (w .entry))) × (now (w .exit) ≡ tab (inv-ml-gOf n (now (mq .entry)) (now (w .entry))) n) ⌝ }
+{
+    let mut i = 1;
+    while i < n {
+        forward_row(n, mq, w, i);
+        i += 1;
+    }
+}
+
+// Each entry of w times the diagonal's.
+fn scale_into(n: usize, mq: &[f64], w: &[f64], z: &mut [f64])
+    requires { ⌜ (n ≤ 32) × (length (now mq) ≡ n * n) × (length (now w) ≡ n) × (length (now z) ≡ n) ⌝ }
+    ensures { λ _. ⌜ now (z .exit) ≡ tab (λ i. entry (now (w .entry)) i ⊗ at n (now (mq .entry)) i i) n ⌝ }
+{
+    let mut i = 0;
+    while i < n {
+        z[i] = w[i] * mq[i * n + i];
+        i += 1;
+    }
+}
+
+// The products of z and w, and their sum.
+fn omega_into(w: &[f64], z: &[f64], gg: &mut [f64]) -> f64
+    requires { ⌜ (length (now w) ≡ length (now gg)) × (length (now z) ≡ length (now gg)) ⌝ }
+    ensures { λ r. ⌜ (r, now (gg .exit)) ≡ summed (λ i. entry (now (z .entry)) i ⊗ entry (now (w .entry)) i) (length (now (gg .entry))) ⌝ }
+{
+    let mut omega = 0.0;
+    let mut i = 0;
+    while i < w.len() {
+        gg[i] = z[i] * w[i];
+        omega = omega + gg[i];
+        i += 1;
+    }
+    omega
+}
+
+// Row i of inv(Lᵀ) z, from the rows after it.
+fn backward_row(n: usize, mq: &[f64], q: &mut [f64], i: usize)
+    requires { ⌜ (n ≤ 32) × (length (now mq) ≡ n * n) × (length (now q) ≡ n) × (i < n) ⌝ }
+    ensures { λ _. ⌜ now (q .exit) ≡ row-backwarded n (now (mq .entry)) (now (q .entry)) i ⌝ }
+{
+    let mut j = i + 1;
+    while j < n {
+        q[i] = q[i] - mq[i * n + j] * q[j];
+        j += 1;
+    }
+}
+
+// inv(Lᵀ) z in place of z.
+fn backward(n: usize, mq: &[f64], q: &mut [f64])
+    requires { ⌜ (1 ≤ n) × (n ≤ 32) × (length (now mq) ≡ n * n) × (length (now q) ≡ n) ⌝ }
+    ensures { λ _. ⌜ now (q .exit) ≡ backward n (now (mq .entry)) (now (q .entry)) n ⌝ }
+{
+    let mut i = n - 1;
+    while i > 0 {
+        i -= 1;
+        backward_row(n, mq, q, i);
+    }
+}
+
+// Column j of the lower triangle taken from v.
+fn take_column(n: usize, mq: &[f64], v: &mut [f64], j: usize)
+    requires { ⌜ (n ≤ 32) × (length (now mq) ≡ n * n) × (length (now v) ≡ n) × (j < n) ⌝ }
+    ensures { λ _. ⌜ now (v .exit) ≡ column-taken n (now (mq .entry)) (now (v .entry)) j ⌝ }
+{
+    let mut l = j + 1;
+    while l < n {
+        v[l] = v[l] - mq[l * n + j];
+        l += 1;
+    }
+}
+
+// A row of the matrix, lent from its diagonal on: D's entry times `ratio`, and L's entries with beta2 × v.
+fn update_row(row: &mut [f64], ratio: f64, beta2: f64, v: &[f64])
+    requires { ⌜ (0 < length (now row)) × (length (now row) ≡ length (now v)) ⌝ }
+    ensures { λ _. ⌜ now (row .exit) ≡ row-updated (now (row .entry)) ratio beta2 (now (v .entry)) ⌝ }
+{
+    row[0] = row[0] * ratio;
+    let mut l = 1;
+    while l < row.len() {
+        row[l] = row[l] + beta2 * v[l];
+        l += 1;
+    }
+}
+
+// The rank-one update of the factors; v begins as the gradient.
+fn rank_one(n: usize, mq: &mut [f64], z: &[f64], v: &mut [f64], t0: f64)
+    requires { ⌜ (n ≤ 32) × (length (now mq) ≡ n * n) × (length (now z) ≡ n) × (length (now v) ≡ n) ⌝ }
+    ensures { λ _. ⌜ (now (mq .exit), now (v .exit)) ≡ rank-one n (now (mq .entry)) (now (z .entry)) (now (v .entry)) t0 ⌝ }
+{
+    let mut oldt = t0;
+    let mut j = 0;
+    while j < n {
+        let temp = z[j];
+        let newt = oldt + v[j] * temp;
+        take_column(n, mq, v, j);
+        let at = j * n + j;
+        let end = j * n + n;
+        update_row(&mut mq[at..end], oldt / newt, temp / newt, &v[j..n]);
+        oldt = newt;
+        j += 1;
+    }
+}
+
+// What is written before the update is known to fail; omega.
+fn prepare(
+    n: usize,
+    grad: &[f64],
+    mq: &mut [f64],
+    inv_ml_g: &mut [f64],
+    inv_md_inv_ml_g: &mut [f64],
+    gg_t: &mut [f64],
+) -> f64
+    requires { ⌜ (isDimension n ≡ true) × (length (now grad) ≡ n) × (length (now mq) ≡ n * n) × (length (now «inv_ml_g») ≡ n) × (length (now «inv_md_inv_ml_g») ≡ n) × (length (now «gg_t») ≡ n) ⌝ }
+    ensures { λ r. ⌜ (r ≡ omegaOf n (now (mq .entry)) (now (grad .entry))) × (now (mq .exit) ≡ lowered n (now (mq .entry)) (now (grad .entry))) × (now («inv_ml_g» .exit) ≡ tab (inv-ml-gOf n (now (mq .entry)) (now (grad .entry))) n) × (now («inv_md_inv_ml_g» .exit) ≡ tab (inv-md-inv-ml-gOf n (now (mq .entry)) (now (grad .entry))) n) × (now («gg_t» .exit) ≡ tab (gg-tOf n (now (mq .entry)) (now (grad .entry))) n) ⌝ }
+{
+    copy_from(n, inv_ml_g, grad);
+    forward(n, mq, inv_ml_g);
+    scale_into(n, mq, inv_ml_g, inv_md_inv_ml_g);
+    omega_into(inv_ml_g, inv_md_inv_ml_g, gg_t)
+}
+
+// The centre, and the factors, after a success.
+fn succeed(
+    n: usize,
+    grad: &[f64],
+    mq: &mut [f64],
+    xc: &mut [f64],
+    z: &[f64],
+    g_t: &mut [f64],
+    omega: f64,
+    params: Params,
+)
+    requires { ⌜ (isDimension n ≡ true) × (length (now grad) ≡ n) × (length (now mq) ≡ n * n) × (length (now xc) ≡ n) × (length (now z) ≡ n) × (length (now «g_t») ≡ n) ⌝ }
+    ensures { λ _. ⌜ (now (xc .exit) ≡ centreOf (now (xc .entry)) (params .rho ⊘ omega) (backward n (now (mq .entry)) (now (z .entry)) n)) × ((now (mq .exit), now («g_t» .exit)) ≡ rank-one n (now (mq .entry)) (now (z .entry)) (now (grad .entry)) (t-start omega (params .sigma))) ⌝ }
+{
+    copy_from(n, g_t, z);
+    backward(n, mq, g_t);
+    move_centre(xc, params.rho / omega, g_t);
+    let mu = params.sigma / (1.0 - params.sigma);
+    copy_from(n, g_t, grad);
+    rank_one(n, mq, z, g_t, omega / mu);
+}
+
+impl EllStable {
+    pub fn new_with_matrix(n: usize, kappa: f64) -> NewEllStable
+        ensures { λ r. ⌜ r ≡ new-ell-stable-answer n kappa ⌝ }
+    {
+        match EllCalc::new(n) {
+            NewEllCalc::Made(helper) => NewEllStable::Made(EllStable {
+                ndim: n,
+                kappa: kappa,
+                helper: helper,
+                tsq: 0.0,
+            }),
+            NewEllCalc::Refused(why) => NewEllStable::Refused(why),
+        }
+    }
+
+    // The same ellipsoid with another kappa and tsq, and a status.
+    fn said(self, kappa: f64, tsq: f64, status: CutStatus) -> EllStableUpdate
+        ensures { λ r. ⌜ r ≡ stable-said (with-tsq self kappa tsq) status ⌝ }
+    {
+        let helper = self.helper;
+        EllStableUpdate {
+            ell: EllStable {
+                ndim: self.ndim,
+                kappa: kappa,
+                helper: helper,
+                tsq: tsq,
+            },
+            answer: Update::Status(status),
+        }
+    }
+
+    fn update(
+        self,
+        strategy: CutStrategy,
+        grad: &[f64],
+        beta: CutChoice,
+        mq: &mut [f64],
+        xc: &mut [f64],
+        inv_ml_g: &mut [f64],
+        inv_md_inv_ml_g: &mut [f64],
+        gg_t: &mut [f64],
+        g_t: &mut [f64],
+    ) -> EllStableUpdate
+        requires { ⌜ (isDimension (self .ndim) ≡ true) × (stable-fits (self .ndim) (now grad) (record { mq = now mq; xc = now xc; inv-ml-g = now «inv_ml_g»; inv-md-inv-ml-g = now «inv_md_inv_ml_g»; gg-t = now «gg_t»; g-t = now «g_t» }) ≡ true) ⌝ }
+        ensures { λ r. ⌜ (r, record { mq = now (mq .exit); xc = now (xc .exit); inv-ml-g = now («inv_ml_g» .exit); inv-md-inv-ml-g = now («inv_md_inv_ml_g» .exit); gg-t = now («gg_t» .exit); g-t = now («g_t» .exit) }) ≡ stable-updateOf self strategy (now (grad .entry)) beta (record { mq = now (mq .entry); xc = now (xc .entry); inv-ml-g = now («inv_ml_g» .entry); inv-md-inv-ml-g = now («inv_md_inv_ml_g» .entry); gg-t = now («gg_t» .entry); g-t = now («g_t» .entry) }) ⌝ }
+    {
+        let n = self.ndim;
+        let omega = prepare(n, grad, mq, inv_ml_g, inv_md_inv_ml_g, gg_t);
+        if is_tiny(omega) {
+            return self.said(self.kappa, self.tsq, CutStatus::NoEffect);
+        }
+        let tsq = self.kappa * omega;
+        let helper = self.helper;
+        let answer = strategy.calc(helper, beta, tsq);
+        let status = answer.status;
+        if !is_success(status) {
+            return self.said(self.kappa, tsq, status);
+        }
+        let params = answer.params;
+        succeed(n, grad, mq, xc, inv_md_inv_ml_g, g_t, omega, params);
+        self.said(self.kappa * params.delta, tsq, status)
+    }
+
+    pub fn update_core(
+        self,
+        strategy: CutStrategy,
+        grad: &[f64],
+        beta: CutChoice,
+        mq: &mut [f64],
+        xc: &mut [f64],
+        inv_ml_g: &mut [f64],
+        inv_md_inv_ml_g: &mut [f64],
+        gg_t: &mut [f64],
+        g_t: &mut [f64],
+    ) -> EllStableUpdate
+        ensures { λ r. ⌜ (r, record { mq = now (mq .exit); xc = now (xc .exit); inv-ml-g = now («inv_ml_g» .exit); inv-md-inv-ml-g = now («inv_md_inv_ml_g» .exit); gg-t = now («gg_t» .exit); g-t = now («g_t» .exit) }) ≡ stable-update-answer self strategy (now (grad .entry)) beta (record { mq = now (mq .entry); xc = now (xc .entry); inv-ml-g = now («inv_ml_g» .entry); inv-md-inv-ml-g = now («inv_md_inv_ml_g» .entry); gg-t = now («gg_t» .entry); g-t = now («g_t» .entry) }) ⌝ }
+    {
+        let n = self.ndim;
+        if !is_dimension(n) {
+            return EllStableUpdate {
+                ell: self,
+                answer: Update::Refused(Refusal::Dimension),
+            };
+        }
+        if !(grad.len() == n && mq.len() == n * n && xc.len() == n) {
+            return EllStableUpdate {
+                ell: self,
+                answer: Update::Refused(Refusal::Length),
+            };
+        }
+        if !(inv_ml_g.len() == n && inv_md_inv_ml_g.len() == n && gg_t.len() == n && g_t.len() == n) {
+            return EllStableUpdate {
+                ell: self,
+                answer: Update::Refused(Refusal::Length),
+            };
+        }
+        self.update(strategy, grad, beta, mq, xc, inv_ml_g, inv_md_inv_ml_g, gg_t, g_t)
+    }
+}

@@ -1,0 +1,456 @@
+// The lowpass oracle (lowpass_oracle.rs): what a point breaks, and the cut that follows.
+use crate::round_robin::RoundRobin;
+use crate::scan::Scan;
+use crate::scan::Upper;
+use crate::scan::Violation;
+use crate::scan::is_rows;
+use crate::scan::scan_ready;
+use crate::scan::table_fits;
+use numbers::arr::copy_from;
+use numbers::arr::fill_zero;
+use numbers::arr::is_dimension;
+use numbers::cut::CutChoice;
+use numbers::refusal::Refusal;
+ghost use mathlib.Core.Path.{_≡_};
+ghost use mathlib.Core.List.{map};
+ghost use Prim.Native.Nat.{_+_, _*_, _≤_, _<_};
+ghost use lib.Ieee.{neg};
+ghost use lib.ListN.{length};
+ghost use Rattle.oracles.specs.Scan.{Scannable, band-beta, band-gradient};
+ghost use lib.IntN.{pos, natAbs};
+ghost use lib.Signed.{ltZ};
+ghost use mathlib.Core.Bool.{false};
+ghost use Rattle.oracles.specs.LowpassOracle.{bands-fit, cursors-fit, isOf, after-pass, after-stop, after-middle, offered, improvedOf, refusedOf, assess-sign, assess-middle, assess-stop, assessOf, assess-feas-answer, assess-optim-answer};
+
+// The state of an oracle over a row table that the caller lends: pass rows are 0 to nwpass − 1, middle rows reach nwstop − 1, stop rows the end.
+pub struct LowpassOracle {
+    pub more_alt: bool,
+    pub idx1: i32,
+    pub nwpass: i32,
+    pub nwstop: i32,
+    pub lp_sq: f64,
+    pub up_sq: f64,
+    pub sp_sq: f64,
+    pub idx2: i32,
+    pub idx3: i32,
+    pub fmax: f64,
+    pub kmax: i32,
+    pub rr1: RoundRobin,
+    pub rr2: RoundRobin,
+    pub rr3: RoundRobin,
+}
+
+// The group of constraints that a point breaks: of a band with the row that breaks it and whether it lies above its limit (a middle row has no upper one).
+pub enum Group {
+    Pass(usize, bool),
+    Stop(usize, bool),
+    Middle(usize),
+    Sign,
+}
+
+pub enum Verdict {
+    Feasible,
+    Cut(Group, CutChoice),
+    Refused(Refusal),
+}
+
+pub struct Assessed {
+    pub oracle: LowpassOracle,
+    pub verdict: Verdict,
+}
+
+pub enum OptimVerdict {
+    Improved(CutChoice),
+    Cut(Group, CutChoice),
+    Refused(Refusal),
+}
+
+// `gamma` is the caller's sp_sq.
+pub struct AssessedOptim {
+    pub oracle: LowpassOracle,
+    pub gamma: f64,
+    pub verdict: OptimVerdict,
+}
+
+// The gradient of a row below its lower limit.
+fn negate_into(row: &[f64], grad: &mut [f64])
+    requires { ⌜ length (now grad) ≡ length (now row) ⌝ }
+    ensures { λ _. ⌜ now (grad .exit) ≡ map neg (now (row .entry)) ⌝ }
+{
+    let mut i = 0;
+    while i < row.len() {
+        grad[i] = -row[i];
+        i += 1;
+    }
+}
+
+// The gradient of a row's cut.
+fn gradient_into(n: usize, table: &[f64], row: usize, is_over: bool, grad: &mut [f64])
+    requires { ⌜ (2 ≤ n) × (n ≤ 32) × (row * n + n ≤ length (now table)) × (length (now grad) ≡ n) ⌝ }
+    ensures { λ _. ⌜ now (grad .exit) ≡ band-gradient n (now (table .entry)) row «is_over» ⌝ }
+{
+    let at = row * n;
+    let end = at + n;
+    if is_over {
+        copy_from(n, grad, &table[at..end]);
+    } else {
+        negate_into(&table[at..end], grad);
+    }
+}
+
+// The betas of a row's cut (`band_cut`).
+fn band_beta(value: f64, is_over: bool, lower: f64, upper: Upper) -> CutChoice
+    ensures { λ r. ⌜ r ≡ band-beta value «is_over» lower upper ⌝ }
+{
+    match upper {
+        Upper::Absent => CutChoice::Single(lower - value),
+        Upper::At(u) => {
+            if is_over {
+                return CutChoice::Parallel(value - u, value - lower);
+            }
+            CutChoice::Parallel(lower - value, u - value)
+        }
+    }
+}
+
+// Whether the cursor's band is lo .. hi − 1.
+fn is_of(rr: RoundRobin, lo: i32, hi: i32) -> bool
+    ensures { λ r. ⌜ r ≡ isOf rr lo hi ⌝ }
+{
+    rr.lo == lo && rr.hi == hi
+}
+
+impl LowpassOracle {
+    // Refusal 3: the row count, the bands, and the cursors' lo and hi.
+    fn bands_fit(self, rows: usize) -> bool
+        ensures { λ r. ⌜ r ≡ bands-fit self rows ⌝ }
+    {
+        if !is_rows(rows) {
+            return false;
+        }
+        let mdim = rows as i32;
+        let lo = self.nwpass;
+        let hi = self.nwstop;
+        if !(0 <= lo && lo <= hi && hi <= mdim) {
+            return false;
+        }
+        let rr1 = self.rr1;
+        let rr2 = self.rr2;
+        let rr3 = self.rr3;
+        is_of(rr1, 0, lo) && is_of(rr2, lo, hi) && is_of(rr3, hi, mdim)
+    }
+
+    // Refusal 4.
+    fn cursors_fit(self) -> bool
+        ensures { λ r. ⌜ r ≡ cursors-fit self ⌝ }
+    {
+        let rr1 = self.rr1;
+        let rr2 = self.rr2;
+        let rr3 = self.rr3;
+        rr1.is_at() && rr2.is_at() && rr3.is_at()
+    }
+
+    // The oracle after the pass scan.
+    fn after_pass(self, last: i32, rr: RoundRobin) -> LowpassOracle
+        ensures { λ r. ⌜ r ≡ after-pass self last rr ⌝ }
+    {
+        let rr2 = self.rr2;
+        let rr3 = self.rr3;
+        LowpassOracle {
+            more_alt: true,
+            idx1: last,
+            nwpass: self.nwpass,
+            nwstop: self.nwstop,
+            lp_sq: self.lp_sq,
+            up_sq: self.up_sq,
+            sp_sq: self.sp_sq,
+            idx2: self.idx2,
+            idx3: self.idx3,
+            fmax: self.fmax,
+            kmax: self.kmax,
+            rr1: rr,
+            rr2: rr2,
+            rr3: rr3,
+        }
+    }
+
+    // After the stop scan.
+    fn after_stop(self, last: i32, rr: RoundRobin, fmax: f64, kmax: i32) -> LowpassOracle
+        ensures { λ r. ⌜ r ≡ after-stop self last rr fmax kmax ⌝ }
+    {
+        let rr1 = self.rr1;
+        let rr2 = self.rr2;
+        LowpassOracle {
+            more_alt: self.more_alt,
+            idx1: self.idx1,
+            nwpass: self.nwpass,
+            nwstop: self.nwstop,
+            lp_sq: self.lp_sq,
+            up_sq: self.up_sq,
+            sp_sq: self.sp_sq,
+            idx2: self.idx2,
+            idx3: last,
+            fmax: fmax,
+            kmax: kmax,
+            rr1: rr1,
+            rr2: rr2,
+            rr3: rr,
+        }
+    }
+
+    // After the middle scan.
+    fn after_middle(self, last: i32, rr: RoundRobin, more_alt: bool) -> LowpassOracle
+        ensures { λ r. ⌜ r ≡ after-middle self last rr «more_alt» ⌝ }
+    {
+        let rr1 = self.rr1;
+        let rr3 = self.rr3;
+        LowpassOracle {
+            more_alt: more_alt,
+            idx1: self.idx1,
+            nwpass: self.nwpass,
+            nwstop: self.nwstop,
+            lp_sq: self.lp_sq,
+            up_sq: self.up_sq,
+            sp_sq: self.sp_sq,
+            idx2: last,
+            idx3: self.idx3,
+            fmax: self.fmax,
+            kmax: self.kmax,
+            rr1: rr1,
+            rr2: rr,
+            rr3: rr3,
+        }
+    }
+
+    // With the offered sp_sq.
+    fn offered(self, gamma: f64) -> LowpassOracle
+        ensures { λ r. ⌜ r ≡ offered self gamma ⌝ }
+    {
+        let rr1 = self.rr1;
+        let rr2 = self.rr2;
+        let rr3 = self.rr3;
+        LowpassOracle {
+            more_alt: self.more_alt,
+            idx1: self.idx1,
+            nwpass: self.nwpass,
+            nwstop: self.nwstop,
+            lp_sq: self.lp_sq,
+            up_sq: self.up_sq,
+            sp_sq: gamma,
+            idx2: self.idx2,
+            idx3: self.idx3,
+            fmax: self.fmax,
+            kmax: self.kmax,
+            rr1: rr1,
+            rr2: rr2,
+            rr3: rr3,
+        }
+    }
+
+    fn assess_sign(self, x: &[f64], grad: &mut [f64]) -> Assessed
+        requires { ⌜ (0 < length (now x)) × (0 < length (now grad)) ⌝ }
+        ensures { λ r. ⌜ (r, now (grad .exit)) ≡ assess-sign self (now (x .entry)) (now (grad .entry)) ⌝ }
+    {
+        if x[0] < 0.0 {
+            fill_zero(grad);
+            grad[0] = -1.0;
+            return Assessed {
+                oracle: self,
+                verdict: Verdict::Cut(Group::Sign, CutChoice::Single(-x[0])),
+            };
+        }
+        Assessed {
+            oracle: self,
+            verdict: Verdict::Feasible,
+        }
+    }
+
+    fn assess_middle(
+        self,
+        n: usize,
+        rows: usize,
+        table: &[f64],
+        x: &[f64],
+        grad: &mut [f64],
+    ) -> Assessed
+        requires { ⌜ Scannable n rows (now table) (now x) (self .rr2) × (length (now grad) ≡ n) ⌝ }
+        ensures { λ r. ⌜ (r, now (grad .exit)) ≡ assess-middle self n (now (table .entry)) (now (x .entry)) (now (grad .entry)) ⌝ }
+    {
+        let rr = self.rr2;
+        let swept = scan_ready(n, rows, table, x, rr, 0.0, Upper::Absent);
+        let scan = swept.scan;
+        let moved = swept.cursor;
+        let viol = scan.viol;
+        match viol {
+            Violation::Nothing => {
+                let omega = self.after_middle(scan.last, moved, false);
+                omega.assess_sign(x, grad)
+            }
+            Violation::Broken(row, value, is_over) => {
+                gradient_into(n, table, row, is_over, grad);
+                let beta = band_beta(value, is_over, 0.0, Upper::Absent);
+                Assessed {
+                    oracle: self.after_middle(scan.last, moved, self.more_alt),
+                    verdict: Verdict::Cut(Group::Middle(row), beta),
+                }
+            }
+        }
+    }
+
+    fn assess_stop(
+        self,
+        n: usize,
+        rows: usize,
+        table: &[f64],
+        x: &[f64],
+        grad: &mut [f64],
+    ) -> Assessed
+        requires { ⌜ Scannable n rows (now table) (now x) (self .rr3) × Scannable n rows (now table) (now x) (self .rr2) × (length (now grad) ≡ n) ⌝ }
+        ensures { λ r. ⌜ (r, now (grad .exit)) ≡ assess-stop self n (now (table .entry)) (now (x .entry)) (now (grad .entry)) ⌝ }
+    {
+        let upper = Upper::At(self.sp_sq);
+        let rr = self.rr3;
+        let swept = scan_ready(n, rows, table, x, rr, 0.0, upper);
+        let scan = swept.scan;
+        let moved = swept.cursor;
+        let viol = scan.viol;
+        match viol {
+            Violation::Nothing => {
+                let omega = self.after_stop(scan.last, moved, scan.fmax, scan.kmax);
+                omega.assess_middle(n, rows, table, x, grad)
+            }
+            Violation::Broken(row, value, is_over) => {
+                gradient_into(n, table, row, is_over, grad);
+                let beta = band_beta(value, is_over, 0.0, upper);
+                Assessed {
+                    oracle: self.after_stop(scan.last, moved, -1.0 / 0.0, -1),
+                    verdict: Verdict::Cut(Group::Stop(row, is_over), beta),
+                }
+            }
+        }
+    }
+
+    fn assess(
+        self,
+        n: usize,
+        rows: usize,
+        table: &[f64],
+        x: &[f64],
+        grad: &mut [f64],
+    ) -> Assessed
+        requires { ⌜ Scannable n rows (now table) (now x) (self .rr1) × Scannable n rows (now table) (now x) (self .rr3) × Scannable n rows (now table) (now x) (self .rr2) × (length (now grad) ≡ n) ⌝ }
+        ensures { λ r. ⌜ (r, now (grad .exit)) ≡ assessOf self n (now (table .entry)) (now (x .entry)) (now (grad .entry)) ⌝ }
+    {
+        let lower = self.lp_sq;
+        let upper = Upper::At(self.up_sq);
+        let rr = self.rr1;
+        let swept = scan_ready(n, rows, table, x, rr, lower, upper);
+        let scan = swept.scan;
+        let moved = swept.cursor;
+        let omega = self.after_pass(scan.last, moved);
+        let viol = scan.viol;
+        match viol {
+            Violation::Nothing => omega.assess_stop(n, rows, table, x, grad),
+            Violation::Broken(row, value, is_over) => {
+                gradient_into(n, table, row, is_over, grad);
+                let beta = band_beta(value, is_over, lower, upper);
+                Assessed {
+                    oracle: omega,
+                    verdict: Verdict::Cut(Group::Pass(row, is_over), beta),
+                }
+            }
+        }
+    }
+
+    pub fn assess_feas(
+        self,
+        n: usize,
+        rows: usize,
+        table: &[f64],
+        x: &[f64],
+        grad: &mut [f64],
+    ) -> Assessed
+        ensures { λ r. ⌜ (r, now (grad .exit)) ≡ assess-feas-answer self n rows (now (table .entry)) (now (x .entry)) (now (grad .entry)) ⌝ }
+    {
+        if !is_dimension(n) {
+            return self.refused(Refusal::Dimension);
+        }
+        if !(table_fits(n, rows, table.len(), x.len()) && grad.len() == n) {
+            return self.refused(Refusal::Length);
+        }
+        if !self.bands_fit(rows) {
+            return self.refused(Refusal::Band);
+        }
+        if !self.cursors_fit() {
+            return self.refused(Refusal::Cursor);
+        }
+        self.assess(n, rows, table, x, grad)
+    }
+
+    // The oracle as it came, with the reason.
+    fn refused(self, why: Refusal) -> Assessed
+        ensures { λ r. ⌜ r ≡ refusedOf self why ⌝ }
+    {
+        Assessed {
+            oracle: self,
+            verdict: Verdict::Refused(why),
+        }
+    }
+
+    pub fn assess_optim(
+        self,
+        gamma: f64,
+        n: usize,
+        rows: usize,
+        table: &[f64],
+        x: &[f64],
+        grad: &mut [f64],
+    ) -> AssessedOptim
+        ensures { λ r. ⌜ (r, now (grad .exit)) ≡ assess-optim-answer self gamma n rows (now (table .entry)) (now (x .entry)) (now (grad .entry)) ⌝ }
+    {
+        let omega = self.offered(gamma);
+        let assessed = omega.assess_feas(n, rows, table, x, grad);
+        let oracle = assessed.oracle;
+        let verdict = assessed.verdict;
+        match verdict {
+            Verdict::Feasible => self.improved(gamma, oracle, n, table, grad),
+            Verdict::Cut(group, beta) => AssessedOptim {
+                oracle: oracle,
+                gamma: gamma,
+                verdict: OptimVerdict::Cut(group, beta),
+            },
+            Verdict::Refused(why) => AssessedOptim {
+                oracle: self,
+                gamma: gamma,
+                verdict: OptimVerdict::Refused(why),
+            },
+        }
+    }
+
+    // What a feasible point gives: the row of the largest stop value, or refusal 6 and the oracle as it came.
+    fn improved(
+        self,
+        gamma: f64,
+        omega: LowpassOracle,
+        n: usize,
+        table: &[f64],
+        grad: &mut [f64],
+    ) -> AssessedOptim
+        requires { ⌜ (2 ≤ n) × (n ≤ 32) × (ltZ (omega .kmax) (pos 0) ≡ false → natAbs (omega .kmax) * n + n ≤ length (now table)) × (length (now grad) ≡ n) ⌝ }
+        ensures { λ r. ⌜ (r, now (grad .exit)) ≡ improvedOf self gamma omega n (now (table .entry)) (now (grad .entry)) ⌝ }
+    {
+        if omega.kmax < 0 {
+            return AssessedOptim {
+                oracle: self,
+                gamma: gamma,
+                verdict: OptimVerdict::Refused(Refusal::NoStopValue),
+            };
+        }
+        gradient_into(n, table, omega.kmax as usize, true, grad);
+        AssessedOptim {
+            oracle: omega,
+            gamma: omega.fmax,
+            verdict: OptimVerdict::Improved(CutChoice::Parallel(0.0, omega.fmax)),
+        }
+    }
+}
