@@ -10,6 +10,7 @@ pub mod Ell
 pub mod EllStable
 -- Theorems about them, the laws that these rest on, and the steps of the inner functions.
 pub mod Known
+pub mod MatrixLaws
 pub mod LdltLaws
 pub mod EllLaws
 pub mod EllStableLaws

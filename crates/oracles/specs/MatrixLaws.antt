@@ -1,0 +1,96 @@
+-- Laws of matrices over flat lists and of sums, for the proofs here and in the crate above. Assumes nothing.
+use mathlib.Core.Path.{_≡_, refl, sym, ap, _∙_}
+use mathlib.Core.List.{List, [], _∷_}
+use mathlib.Core.Logic.{⊎-elim}
+use Prim.Native.Nat.{ℕ, zero, suc, _≤_, _<_, _+_, _*_}
+use native.Mathlib.Nat.{le-of-suc-le-suc, eq-or-lt-of-le, suc-mul, zero-mul}
+use native.Mathlib.Omega.{arith}
+use lib.Ieee.{Float, nan}
+use lib.ListN.{length, take, drop, set, length-append, length-drop, List·getD-append}
+use lib.Seq.{getD-at, getD-append-add, getD-set-same, getD-set-other, getD-take, getD-drop, ext-getD, take-add, take-all, length-take-le}
+use Rattle.numbers.specs.Arr.{tab}
+use Rattle.numbers.specs.ArrLaws.{length-tab, row-in, row-unique}
+use Rattle.oracles.specs.Matrix.{entry, at, grid, total}
+
+-- ---- vectors
+
+-- entry i of a table
+pub tab-entry : (f : ℕ → Float) (n i : ℕ) → i < n → entry (tab f n) i ≡ f i
+unfolding tab
+tab-entry f zero i h = absurd (omega (arith, h))
+tab-entry f (suc n) i h =
+    ⊎-elim
+    (λ (e : i ≡ n). rw e (getD-at (tab f n) (f n) [] nan n (length-tab f n)))
+    (λ (l : i < n). List·getD-append (tab f n) (f n ∷ []) nan i (rw (length-tab f n) l) ∙ tab-entry f n i l)
+    (eq-or-lt-of-le (le-of-suc-le-suc h))
+
+-- a list with the entries f i is their table
+pub tab-ext : (f : ℕ → Float) (n : ℕ) (xs : List Float) → length xs ≡ n → ((i : ℕ) → i < n → entry xs i ≡ f i) → xs ≡ tab f n
+tab-ext f n xs l h = ext-getD nan xs (tab f n) (l ∙ sym (length-tab f n)) (λ i k. let k′ : i < n = rw (← l) k in h i k′ ∙ sym (tab-entry f n i k′))
+
+-- two tables of equal entries
+pub tab-cong : (f g : ℕ → Float) (n : ℕ) → ((i : ℕ) → i < n → f i ≡ g i) → tab f n ≡ tab g n
+tab-cong f g n h = tab-ext g n (tab f n) (length-tab f n) (λ i k. tab-entry f n i k ∙ h i k)
+
+-- ---- matrices
+
+-- place (i, j) is one of m rows of n
+pub place-in : (m n i j : ℕ) → i < m → j < n → i * n + j < m * n
+place-in m n i j h k = omega (arith, row-in n i m h)
+
+pub length-grid : (f : ℕ → ℕ → Float) (m n : ℕ) → length (grid f m n) ≡ m * n
+unfolding grid
+length-grid f zero n = sym (zero-mul n)
+length-grid f (suc m) n = simp (length-append, length-grid f m n, length-tab (f m) n) (sym (suc-mul m n))
+
+-- entry (i, j) of a grid
+pub grid-at : (f : ℕ → ℕ → Float) (m n i j : ℕ) → i < m → j < n → at n (grid f m n) i j ≡ f i j
+unfolding grid
+grid-at f zero n i j h k = absurd (omega (arith, h))
+grid-at f (suc m) n i j h k =
+    ⊎-elim
+    (λ (e : i ≡ m).
+    let q : i * n + j ≡ length (grid f m n) + j = rw (e, length-grid f m n) in
+    rw q (getD-append-add (grid f m n) (tab (f m) n) j nan) ∙ tab-entry (f m) n j k ∙ ap (λ (z : ℕ). f z j) (sym e))
+    (λ (l : i < m).
+    List·getD-append (grid f m n) (tab (f m) n) nan (i * n + j) (rw (length-grid f m n) (place-in m n i j l k)) ∙ grid-at f m n i j l k)
+    (eq-or-lt-of-le (le-of-suc-le-suc h))
+
+front : (f : ℕ → ℕ → Float) (m n : ℕ) (mat : List Float) → m * n ≤ length mat → ((i j : ℕ) → i < m → j < n → at n mat i j ≡ f i j) → take (m * n) mat ≡ grid f m n
+unfolding grid
+front f zero n mat l h = rw (zero-mul n)
+front f (suc m) n mat l h =
+    let l′ : m * n + n ≤ length mat = omega (arith, suc-mul m n) in
+    let last : take n (drop (m * n) mat) ≡ tab (f m) n =
+        tab-ext (f m) n (take n (drop (m * n) mat)) (length-take-le n (drop (m * n) mat) (rw (length-drop (m * n) mat) (omega arith)))
+        (λ j k. getD-take n (drop (m * n) mat) j nan k ∙ getD-drop (m * n) mat j nan ∙ h m j (omega arith) k)
+    in
+    rw (suc-mul m n, take-add (m * n) n mat, last, front f m n mat (omega arith) (λ i j a b. h i j (omega arith) b))
+
+-- a list with the entries f i j is their grid
+pub grid-ext : (f : ℕ → ℕ → Float) (m n : ℕ) (mat : List Float) → length mat ≡ m * n → ((i j : ℕ) → i < m → j < n → at n mat i j ≡ f i j) → mat ≡ grid f m n
+grid-ext f m n mat l h = sym (take-all (m * n) mat (omega (arith, l))) ∙ front f m n mat (omega (arith, l)) h
+
+-- two grids of equal entries
+pub grid-cong : (f g : ℕ → ℕ → Float) (m n : ℕ) → ((i j : ℕ) → i < m → j < n → f i j ≡ g i j) → grid f m n ≡ grid g m n
+grid-cong f g m n h = grid-ext g m n (grid f m n) (length-grid f m n) (λ i j a b. grid-at f m n i j a b ∙ h i j a b)
+
+-- an entry that is set, and the others
+pub at-set-same : (n : ℕ) (mat : List Float) (i j : ℕ) (v : Float) → i * n + j < length mat → at n (set mat (i * n + j) v) i j ≡ v
+at-set-same n mat i j v h = getD-set-same mat (i * n + j) v nan h
+
+pub at-set-other : (n : ℕ) (mat : List Float) (i j r c : ℕ) (v : Float) → j < n → c < n → (r ≡ i → c ≡ j → ⊥) → at n (set mat (i * n + j) v) r c ≡ at n mat r c
+at-set-other n mat i j r c v h k apart =
+    getD-set-other mat (i * n + j) (r * n + c) v nan
+    (λ q.
+    let e : r ≡ i = row-unique n r c i j k h q in
+    let p : r * n ≡ i * n = ap (λ (z : ℕ). z * n) e in
+    apart e (omega arith))
+
+-- ---- sums
+
+-- sums of equal terms
+pub total-cong : (op : Float → Float → Float) (s : Float) (f g : ℕ → Float) (k : ℕ) → ((j : ℕ) → j < k → f j ≡ g j) → total op s f k ≡ total op s g k
+unfolding total
+total-cong op s f g zero h = refl
+total-cong op s f g (suc k) h = rw (total-cong op s f g k (λ j l. h j (omega arith)), h k (omega arith))
