@@ -105,6 +105,11 @@ pub mod ell {
         pub fn grad_t(&self) -> &Arr {
             &self.grad_t
         }
+
+        /// Sets the scratch, which an earlier update may have left with anything.
+        pub fn set_grad_t(&mut self, grad_t: Arr) {
+            self.grad_t = grad_t;
+        }
     }
 }
 
@@ -129,6 +134,11 @@ pub mod ell_stable {
         /// The four scratch vectors, in the order of the fields.
         pub fn scratch(&self) -> [&Arr; 4] {
             [&self.inv_ml_g, &self.inv_md_inv_ml_g, &self.gg_t, &self.g_t]
+        }
+
+        /// Sets them, since an earlier update may have left them with anything.
+        pub fn set_scratch(&mut self, scratch: [Arr; 4]) {
+            [self.inv_ml_g, self.inv_md_inv_ml_g, self.gg_t, self.g_t] = scratch;
         }
     }
 }

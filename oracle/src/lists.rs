@@ -1,6 +1,7 @@
 //! A list: cases to the end of the input, every item a 64-bit little-endian word.
 
 use crate::words::word;
+use ellalgo_rs::cutting_plane::CutStatus;
 use std::io::{self, ErrorKind, Read, Write};
 
 /// Stands for a number that is not there.
@@ -31,12 +32,28 @@ impl Case {
         self.input.extend(xs.iter().map(|&x| word(x)));
     }
 
+    pub fn take_signed(&mut self, i: i32) {
+        self.input.push(signed(i));
+    }
+
+    pub fn take_optional(&mut self, x: Option<f64>) {
+        self.input.push(x.map_or(ABSENT, word));
+    }
+
     pub fn give(&mut self, n: u64) {
         self.output.push(n);
     }
 
     pub fn give_floats(&mut self, xs: &[f64]) {
         self.output.extend(xs.iter().map(|&x| word(x)));
+    }
+
+    pub fn give_signed(&mut self, i: i32) {
+        self.output.push(signed(i));
+    }
+
+    pub fn give_optional(&mut self, x: Option<f64>) {
+        self.output.push(x.map_or(ABSENT, word));
     }
 
     pub fn write(&self, to: &mut impl Write) -> io::Result<()> {
@@ -67,6 +84,20 @@ impl Case {
             }
         }
         Ok(true)
+    }
+}
+
+/// A signed number at 64 bits.
+fn signed(i: i32) -> u64 {
+    i as i64 as u64
+}
+
+pub fn status_word(status: CutStatus) -> u64 {
+    match status {
+        CutStatus::Success => 0,
+        CutStatus::NoSoln => 1,
+        CutStatus::NoEffect => 2,
+        CutStatus::Unknown => panic!("no calculator answers Unknown"),
     }
 }
 

@@ -1,7 +1,10 @@
 //! Writes, checks and shows lists of the published Rust's answers.
 
+mod draw;
+mod lengths;
 mod lists;
 mod numbers;
+mod oracles;
 mod rng;
 mod show;
 mod sqrt_check;
@@ -14,10 +17,11 @@ use std::io::{self, BufReader, BufWriter, ErrorKind, Write};
 use std::process::ExitCode;
 
 const USAGE: &str = "usage:
-  oracle gen numbers --seed S --count N [--only OP[,OP..]]   write a list to standard output
-  oracle check-sqrt                                          check the roots of a list
-  oracle count                                               count a list's cases and answers
-  oracle show                                                print a list as text";
+  oracle gen LAYER --seed S --count N [--only OP[,OP..]]   write a list to standard output
+  oracle check-sqrt                                        check the roots of a list
+  oracle count                                             count a list's cases and answers
+  oracle show                                              print a list as text
+layers: numbers, oracles";
 
 /// A layer of the project: its operations, and what fills a case of one.
 struct Layer {
@@ -26,11 +30,18 @@ struct Layer {
     fill: fn(u64, &mut words::Source, &mut Case),
 }
 
-const LAYERS: &[Layer] = &[Layer {
-    name: "numbers",
-    ops: numbers::OPS,
-    fill: numbers::fill,
-}];
+const LAYERS: &[Layer] = &[
+    Layer {
+        name: "numbers",
+        ops: numbers::OPS,
+        fill: numbers::fill,
+    },
+    Layer {
+        name: "oracles",
+        ops: oracles::OPS,
+        fill: oracles::fill,
+    },
+];
 
 fn main() -> ExitCode {
     let args: Vec<String> = env::args().skip(1).collect();

@@ -1,9 +1,11 @@
 //! The cases of the first layer: root, vectors and matrices, calculators, and their refusals.
 
-use crate::lists::{Case, ABSENT};
-use crate::words::{scale, Source};
+use crate::draw::{choice, dimension, parallel, row_against, single, vector};
+use crate::lengths::{contents, of_shapes, Lengths};
+use crate::lists::{status_word, Case};
+use crate::words::Source;
 use ellalgo_rs::arr::Arr;
-use ellalgo_rs::cutting_plane::{CutStatus, ParallelCut};
+use ellalgo_rs::cutting_plane::ParallelCut;
 use ellalgo_rs::ell_calc::{EllCalc, EllCalcCore};
 
 /// Each operation, its name, and how often it stands in a round of a mixed list.
@@ -105,39 +107,6 @@ fn product(n: usize, mat: Vec<f64>, x: Vec<f64>) -> Vec<f64> {
     out.data().to_vec()
 }
 
-/// 2 to 32, small ones more often so that a list stays short.
-fn dimension(src: &mut Source) -> usize {
-    if src.rng.coin() {
-        src.rng.range(2, 6) as usize
-    } else {
-        src.rng.range(2, 32) as usize
-    }
-}
-
-/// A vector of one kind of number, sometimes with one entry of another.
-fn vector(src: &mut Source, n: usize) -> Vec<f64> {
-    let kind = src.rng.below(8);
-    let mut v: Vec<f64> = (0..n).map(|_| entry(src, kind)).collect();
-    if src.rng.once_in(4) {
-        let at = src.rng.below(n as u64) as usize;
-        v[at] = src.any();
-    }
-    v
-}
-
-fn entry(src: &mut Source, kind: u64) -> f64 {
-    let x = match kind {
-        0 => return src.any(),
-        1 => src.simple(),
-        2 => src.zero(),
-        3 => src.wide(-540, -480), // products run out of the range below
-        4 => src.wide(480, 520),   // and above
-        5 => src.wide(-60, 60),    // sums lose the small ones
-        _ => src.positive(),
-    };
-    src.either_sign(x)
-}
-
 /// Two vectors whose products are of a kind that matters for a sum; either may come first.
 fn vector_pair(src: &mut Source, n: usize) -> (Vec<f64>, Vec<f64>) {
     let x = vector(src, n);
@@ -152,53 +121,6 @@ fn vector_pair(src: &mut Source, n: usize) -> (Vec<f64>, Vec<f64>) {
 fn rows_against(src: &mut Source, x: &[f64]) -> Vec<f64> {
     let rows: Vec<Vec<f64>> = x.iter().map(|_| row_against(src, x)).collect();
     rows.concat()
-}
-
-/// A row chosen against the vector it is multiplied with.
-fn row_against(src: &mut Source, x: &[f64]) -> Vec<f64> {
-    let n = x.len();
-    match src.rng.below(6) {
-        0 => minus_zeros(x),
-        1 => {
-            // One product is plus zero, often the first, and the others minus zero.
-            let mut row = minus_zeros(x);
-            let at = if src.rng.coin() {
-                0
-            } else {
-                src.rng.below(n as u64) as usize
-            };
-            row[at] = -row[at];
-            row
-        }
-        2 => cancelling(src, x),
-        3 => {
-            // Minus zeros round a pair that cancels.
-            let mut row = minus_zeros(x);
-            let at = src.rng.below(n as u64 - 1) as usize;
-            row[at] = x[at + 1];
-            row[at + 1] = -x[at];
-            row
-        }
-        _ => vector(src, n),
-    }
-}
-
-/// Zeros whose products with x are minus zero wherever x is finite.
-fn minus_zeros(x: &[f64]) -> Vec<f64> {
-    x.iter()
-        .map(|v| if v.is_sign_negative() { 0.0 } else { -0.0 })
-        .collect()
-}
-
-/// Each product is followed by the same one with the other sign. Both are rounded, so the
-/// sum of the two is zero; an addition fused with its product would leave the rounding error.
-fn cancelling(src: &mut Source, x: &[f64]) -> Vec<f64> {
-    let mut row = vector(src, x.len());
-    for at in (0..x.len() - 1).step_by(2) {
-        row[at] = x[at + 1];
-        row[at + 1] = -x[at];
-    }
-    row
 }
 
 // Calculators
@@ -260,10 +182,7 @@ fn calculator(op: u64, src: &mut Source, case: &mut Case) {
         20..=22 => {
             let (b0, b1, tsq) = choice(src, n);
             case.take_floats(&[b0]);
-            match b1 {
-                Some(b1) => case.take_floats(&[b1]),
-                None => case.take(ABSENT),
-            }
+            case.take_optional(b1);
             case.take_floats(&[tsq]);
             let beta = ParallelCut(b0, b1);
             match op {
@@ -295,107 +214,8 @@ fn calculator(op: u64, src: &mut Source, case: &mut Case) {
             calc.calc_central_cut(tsq)
         }
     };
-    case.give(number(status));
+    case.give(status_word(status));
     case.give_floats(&[rho, sigma, delta]);
-}
-
-fn number(status: CutStatus) -> u64 {
-    match status {
-        CutStatus::Success => 0,
-        CutStatus::NoSoln => 1,
-        CutStatus::NoEffect => 2,
-        CutStatus::Unknown => panic!("no calculator answers Unknown"),
-    }
-}
-
-/// A beta and a tsq that stand to each other in a way some test asks about.
-fn single(src: &mut Source, n: usize) -> (f64, f64) {
-    match src.rng.below(16) {
-        0 => (src.any(), src.any()),
-        1 => (src.any(), src.positive()),
-        2 => (src.ordinary(), src.any()),
-        3 => {
-            // tsq is beta² or beside it.
-            let beta = src.ordinary();
-            (beta, src.neighbour(beta * beta))
-        }
-        4 => {
-            let beta = src.wide(-537, 511);
-            let tsq = src.neighbour(beta * beta);
-            (src.either_sign(beta), tsq)
-        }
-        5 | 6 => {
-            // beta is tau or beside it.
-            let tsq = if src.rng.coin() {
-                src.square()
-            } else {
-                src.positive()
-            };
-            let beta = src.neighbour(tsq.sqrt());
-            (src.either_sign(beta), tsq)
-        }
-        7 => {
-            // eta is exactly zero, or beside it.
-            let beta = src.short();
-            let tau = n as f64 * beta;
-            (src.neighbour(-beta), tau * tau)
-        }
-        8 => {
-            let tsq = src.positive();
-            let beta = -(tsq.sqrt() / n as f64);
-            (src.neighbour(beta), tsq)
-        }
-        9 => tiny(src),
-        10 => {
-            // beta² runs out of the range above.
-            let beta = src.wide(505, 520);
-            let tsq = src.pick_of_two(f64::INFINITY, f64::MAX);
-            (src.either_sign(beta), src.neighbour(tsq))
-        }
-        11 => (src.ordinary(), src.pick_of_two(0.0, -1.0)),
-        12 => (src.zero(), src.pick_of_two(0.0, 1.0)),
-        13 => {
-            // Just one of the two is a zero, an infinity or NaN.
-            let (beta, tsq) = within(src);
-            if src.rng.coin() {
-                (src.special(), tsq)
-            } else {
-                (beta, src.special())
-            }
-        }
-        _ => within(src),
-    }
-}
-
-/// beta² is zero or subnormal although beta is not zero; tsq is of its size.
-fn tiny(src: &mut Source) -> (f64, f64) {
-    let beta = src.wide(-560, -520);
-    let tsq = match src.rng.below(3) {
-        0 => src.zero(),
-        1 => src.subnormal(),
-        _ => src.neighbour(beta * beta),
-    };
-    (src.either_sign(beta), tsq)
-}
-
-/// An ordinary cut: beta between minus tau and tau, or a little outside. Sometimes it is made
-/// larger or smaller as a whole, so that a square or a product of two squares leaves the range.
-fn within(src: &mut Source) -> (f64, f64) {
-    let k = if src.rng.once_in(4) { size(src) } else { 0 };
-    let tsq = scale(src.positive(), 2 * k);
-    (part(src) * tsq.sqrt(), tsq)
-}
-
-/// The power of two of a beta whose square, or the square's square, is near an end of the range.
-fn size(src: &mut Source) -> i32 {
-    let ends = [(-540, -500), (-275, -245), (245, 258), (500, 513)];
-    let (lo, hi) = src.rng.pick(&ends);
-    src.rng.range(lo, hi) as i32
-}
-
-/// From −1.1 to 1.1.
-fn part(src: &mut Source) -> f64 {
-    src.rng.range(-1100, 1100) as f64 / 1000.0
 }
 
 /// A beta and a tau for the helper, which tests nothing.
@@ -414,79 +234,6 @@ fn beta_tau(src: &mut Source, n: usize) -> (f64, f64) {
     }
 }
 
-/// A cut of one number or two.
-fn choice(src: &mut Source, n: usize) -> (f64, Option<f64>, f64) {
-    if src.rng.once_in(3) {
-        let (b0, tsq) = single(src, n);
-        (b0, None, tsq)
-    } else {
-        let (b0, b1, tsq) = parallel(src, n);
-        (b0, Some(b1), tsq)
-    }
-}
-
-/// Two betas and a tsq. Betas as an oracle gives them stand in half of the cases.
-fn parallel(src: &mut Source, n: usize) -> (f64, f64, f64) {
-    if src.rng.coin() {
-        let (b0, b1, tsq) = band(src, n);
-        // Sometimes just one of the three is a zero, an infinity or NaN.
-        return match src.rng.below(40) {
-            0 => (src.special(), b1, tsq),
-            1 => (b0, src.special(), tsq),
-            2 => (b0, b1, src.special()),
-            _ => (b0, b1, tsq),
-        };
-    }
-    let (b0, tsq) = single(src, n);
-    let b1 = match src.rng.below(12) {
-        0 => b0,
-        1 => src.neighbour(b0),
-        2 => b0 + src.positive(),
-        3 => b0 - src.positive(),
-        4 => -b0,
-        5 => src.neighbour(tsq.sqrt()),
-        6 => src.neighbour(-tsq / (n as f64 * b0)), // eta is zero or close to it
-        7 => src.zero(),
-        8 => src.any(),
-        9 => src.ordinary(),
-        10 => b0 / 2.0,
-        _ => return (src.any(), b0, tsq),
-    };
-    (b0, b1, tsq)
-}
-
-/// Betas as an oracle gives them, and the same with an eta that is exactly zero.
-fn band(src: &mut Source, n: usize) -> (f64, f64, f64) {
-    match src.rng.below(8) {
-        0 => {
-            // tsq = n p q and the betas are -p and q, all exact.
-            let p = src.short();
-            let q = p * src.rng.range(1, n as i64) as f64;
-            let tsq = n as f64 * p * q;
-            (-p, q, src.neighbour(tsq))
-        }
-        1 => {
-            // Both below zero: beta1² may exceed tsq and the parallel form is still used.
-            let (b0, tsq) = (-src.positive(), src.positive());
-            (b0, b0 + src.positive() * 0.1, tsq)
-        }
-        2 => {
-            // beta1 is zero and tsq is at most beta1²: no way back to one beta.
-            let (b0, tsq) = (-src.positive(), src.pick_of_two(0.0, -1.0));
-            (b0, src.zero(), tsq * src.positive())
-        }
-        _ => {
-            let (a, tsq) = within(src);
-            let b = part(src) * tsq.sqrt();
-            if src.rng.once_in(8) {
-                (a, b, tsq)
-            } else {
-                (a.min(b), a.max(b), tsq)
-            }
-        }
-    }
-}
-
 /// The two products a caller hands on; sometimes others, since the helper tests nothing.
 fn products(src: &mut Source, n: usize, b0: f64, b1: f64, tsq: f64) -> (f64, f64) {
     let b0b1 = b0 * b1;
@@ -499,90 +246,29 @@ fn products(src: &mut Source, n: usize, b0: f64, b1: f64, tsq: f64) -> (f64, f64
     }
 }
 
-// Calls of any lengths. The refusals are the project's own, not the Rust's: what is expected
-// comes from the scope's table. 1: n outside 2 to 32, tested first. 2: a length is not what n
-// says. A refused call leaves its output as it was. An accepted one gives what the Rust gives.
+// Calls of any lengths
 
-const OUTSIDE: [u64; 10] = [
-    0,
-    1,
-    33,
-    34,
-    1 << 32,
-    (1 << 32) + 2, // 2 if its high half is lost
-    (1 << 32) + 32,
-    1 << 63, // its square is 0 if the high half is lost
-    u64::MAX,
-    u64::MAX - 31,
-];
-
-/// The dimension, and the lengths of some slices, right where the rule of each says so.
-struct Lengths {
-    n: u64,
-    of: Vec<usize>,
+/// Draws a call with slices of any length, `squares[k]` where slice k should hold a matrix: the
+/// dimension, the refusal expected and the slices.
+fn drawn<const K: usize>(
+    src: &mut Source,
+    case: &mut Case,
+    squares: [bool; K],
+) -> (usize, u64, [Vec<f64>; K]) {
+    let lengths = any_lengths(src, &squares);
+    let held = slices(src, case, &lengths);
+    let no = lengths.refusal(2, |n| of_shapes(n, &squares));
+    (lengths.n as usize, no, held.try_into().unwrap())
 }
 
-impl Lengths {
-    /// `squares` says of each slice whether n² (a matrix) or n (a vector) is right.
-    fn new(src: &mut Source, squares: &[bool]) -> Self {
-        let mut n = dimension(src) as u64;
-        let mut of = right(n, squares);
-        match src.rng.below(8) {
-            0 => {
-                n = if src.rng.once_in(8) {
-                    src.rng.next()
-                } else {
-                    src.rng.pick(&OUTSIDE)
-                };
-                // Right for n, or for what is left of n if its high bits are lost.
-                of = right(if src.rng.coin() { n } else { n & 63 }, squares);
-            }
-            1..=3 => {
-                // Just one length is wrong, so that no test can stand in for another.
-                let at = src.rng.below(of.len() as u64) as usize;
-                of[at] = wrong(src, n as usize, of[at], squares[at]);
-            }
-            _ => {}
-        }
-        Lengths { n, of }
-    }
-
-    fn refusal(&self, squares: &[bool]) -> u64 {
-        if !(2..=32).contains(&self.n) {
-            1
-        } else if self.of != right(self.n, squares) {
-            2
-        } else {
-            0
-        }
-    }
-}
-
-/// The right lengths for n, none of them above 33².
-fn right(n: u64, squares: &[bool]) -> Vec<usize> {
-    let n = n.min(33) as usize;
-    squares
-        .iter()
-        .map(|&sq| if sq { n * n } else { n })
-        .collect()
-}
-
-fn wrong(src: &mut Source, n: usize, len: usize, square: bool) -> usize {
-    let other = match src.rng.below(8) {
-        0 => 0,
-        1 | 2 => len - 1,
-        3 | 4 => len + 1,
-        5 if square => n * (n + 1),
-        6 if square => n,
-        5 => n * n,
-        _ => src.rng.below(41) as usize,
+fn any_lengths(src: &mut Source, squares: &[bool]) -> Lengths {
+    let n = dimension(src);
+    let mut lengths = Lengths {
+        n: n as u64,
+        of: of_shapes(n, squares),
     };
-    let other = other.min(33 * 33);
-    if other == len {
-        len + 1
-    } else {
-        other
-    }
+    lengths.spoil(src, 2, |n| of_shapes(n, squares));
+    lengths
 }
 
 /// Takes the dimension and the lengths, then hands out what the slices hold.
@@ -596,26 +282,6 @@ fn slices(src: &mut Source, case: &mut Case, lengths: &Lengths) -> Vec<Vec<f64>>
         case.take_floats(part);
     }
     held
-}
-
-/// Draws a call with slices of any length, `square[k]` where slice k should hold a matrix: the dimension, the refusal expected and the slices.
-fn drawn<const K: usize>(
-    src: &mut Source,
-    case: &mut Case,
-    square: [bool; K],
-) -> (usize, u64, [Vec<f64>; K]) {
-    let lengths = Lengths::new(src, &square);
-    let held = slices(src, case, &lengths);
-    let no = lengths.refusal(&square);
-    (lengths.n as usize, no, held.try_into().unwrap())
-}
-
-/// What an argument or an output holds before the call.
-fn contents(src: &mut Source, len: usize) -> Vec<f64> {
-    if len == 0 {
-        return Vec::new();
-    }
-    vector(src, len)
 }
 
 fn dot_any(src: &mut Source, case: &mut Case) {
@@ -667,7 +333,7 @@ fn from_diag_any(src: &mut Source, case: &mut Case) {
 }
 
 fn ell_calc_new(src: &mut Source, case: &mut Case) {
-    let n = Lengths::new(src, &[false]).n;
+    let n = any_lengths(src, &[false]).n;
     case.take(n);
     if !(2..=32).contains(&n) {
         case.give(1);
@@ -684,6 +350,7 @@ fn ell_calc_new(src: &mut Source, case: &mut Case) {
 #[cfg(test)]
 mod tests {
     use super::*;
+    use ellalgo_rs::cutting_plane::CutStatus;
 
     /// A calculator's case, taken apart again.
     struct Seen {

@@ -21,22 +21,24 @@ pub fn show(from: &mut impl Read, to: &mut impl Write) -> io::Result<bool> {
     Ok(true)
 }
 
-/// For each operation: its cases and bytes, and how often its first output word is 0, 1 or 2
-/// where that word is a status or a refusal.
+/// For each operation: its cases and bytes, and how often its first output word is 0, 1, 2 and
+/// so on where that word is a status, a refusal or a kind of answer.
 pub fn count(from: &mut impl Read, to: &mut impl Write) -> io::Result<bool> {
     let mut case = Case::default();
-    let mut tally: BTreeMap<u64, [u64; 5]> = BTreeMap::new();
+    let mut tally: BTreeMap<u64, [u64; 9]> = BTreeMap::new();
     while case.read(from)? {
         let row = tally.entry(case.op).or_default();
         row[0] += 1;
         row[1] += 8 * (3 + case.input.len() + case.output.len()) as u64;
-        if let Some(&first @ 0..=2) = case.output.first() {
+        if let Some(&first @ 0..=6) = case.output.first() {
             row[2 + first as usize] += 1;
         }
     }
     for (op, [cases, bytes, answers @ ..]) in tally {
+        let last = answers.iter().rposition(|&count| count > 0);
+        let shown = &answers[..=last.unwrap_or(0).max(2)];
         let answers = if tells(op) {
-            format!(", first word {answers:?}")
+            format!(", first word {shown:?}")
         } else {
             String::new()
         };
@@ -49,9 +51,9 @@ pub fn count(from: &mut impl Read, to: &mut impl Write) -> io::Result<bool> {
     Ok(true)
 }
 
-/// Whether the first output word is a status or a refusal.
+/// Whether the first output word is a status, a refusal or a kind of answer.
 fn tells(op: u64) -> bool {
-    (20..=28).contains(&op) || op >= 100
+    matches!(op, 20..=28 | 42 | 43 | 50 | 53 | 60 | 61 | 100..=129)
 }
 
 fn name(op: u64) -> &'static str {
