@@ -2,6 +2,7 @@
 pub mod RoundRobin
 pub mod Scan
 pub mod LowpassOracle
+pub mod Verdict
 pub mod Matrix
 pub mod LdltMgr
 pub mod LmiOracle
@@ -9,6 +10,7 @@ pub mod EllCommon
 pub mod Ell
 pub mod EllStable
 -- Theorems about them, the laws that these rest on, and the steps of the inner functions.
+pub mod RoundRobinLaws
 pub mod Known
 pub mod MatrixLaws
 pub mod LdltLaws

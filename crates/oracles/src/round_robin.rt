@@ -21,7 +21,7 @@ pub enum CursorAnswer {
 pub fn is_band(lo: i32, hi: i32) -> bool
     ensures { λ r. ⌜ r ≡ isBand lo hi ⌝ }
 {
-    0 <= lo && lo <= hi && hi <= 1024
+    (0 <= lo) & (lo <= hi) & (hi <= 1024)
 }
 
 impl RoundRobin {
@@ -76,7 +76,7 @@ impl RoundRobin {
     {
         let lo = self.lo;
         let hi = self.hi;
-        if !(is_band(lo, hi) && lo < hi) {
+        if !(is_band(lo, hi) & (lo < hi)) {
             return CursorAnswer::Refused(Refusal::Band);
         }
         if !self.is_at() {

@@ -55,7 +55,7 @@ pub(crate) struct Swept {
 pub fn is_rows(rows: usize) -> bool
     ensures { λ r. ⌜ r ≡ isRows rows ⌝ }
 {
-    1 <= rows && rows <= 1024
+    (1 <= rows) & (rows <= 1024)
 }
 
 // Whether the table has `rows` rows of n, and the point n numbers. By division, since rows × n may be beyond the machine's numbers.
@@ -63,7 +63,7 @@ pub(crate) fn table_fits(n: usize, rows: usize, table: usize, x: usize) -> bool
     requires { ⌜ 0 < n ⌝ }
     ensures { λ r. ⌜ r ≡ (eqb table (rows * n) && eqb x n) ⌝ }
 {
-    table / n == rows && table % n == 0 && x == n
+    (table / n == rows) & (table % n == 0) & (x == n)
 }
 
 // Whether lo and hi are a band of a table of so many rows.
@@ -73,7 +73,7 @@ fn band_fits(rows: usize, lo: i32, hi: i32) -> bool
     if !is_rows(rows) {
         return false;
     }
-    is_band(lo, hi) && hi <= rows as i32
+    is_band(lo, hi) & (hi <= rows as i32)
 }
 
 fn is_over(upper: Upper, value: f64) -> bool

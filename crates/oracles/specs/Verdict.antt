@@ -1,0 +1,166 @@
+-- Demand 3 in document 01's words ("Verdict"): what a point breaks, said without a cursor, and what an assessment owes to it. Definitions only.
+use Prim.Native.Nat.{ℕ, zero, suc, _≤_, _<_, _+_, _-_}
+use mathlib.Core.Path.{_≡_}
+use mathlib.Core.Bool.{Bool, true, false, not, _&&_, _||_}
+use mathlib.Core.List.{List}
+use mathlib.Core.Logic.{_⊎_}
+use lib.Dec.{leb, ltb, eqb}
+use lib.ListN.{length, getD}
+use lib.IntN.{ℤ, pos, natAbs}
+use lib.Ieee.{Float, nan, lt, isNan}
+use Rattle.numbers.specs.F64.{0ᶠ}
+use Rattle.numbers.specs.Pick.{pick}
+use Rattle.numbers.specs.Arr.{isDimension}
+use Rattle.numbers.specs.Refusal.{refusalNumber}
+use Rattle.oracles.specs.Scan.{−∞, none, valueOf, table-fits}
+use Rattle.oracles.specs.LowpassOracle.{bands-fit, cursors-fit}
+use Rattle.oracles.specs.declared.lowpass_oracle.LowpassOracle.{LowpassOracle}
+use Rattle.oracles.specs.declared.lowpass_oracle.Group.the-variants.{Pass, Stop, Middle, Sign}
+use Rattle.oracles.specs.declared.lowpass_oracle.Verdict.{Verdict}
+use Rattle.oracles.specs.declared.lowpass_oracle.Verdict.the-variants.{Feasible, Cut, Refused}
+use Rattle.oracles.specs.declared.lowpass_oracle.OptimVerdict.{OptimVerdict}
+use Rattle.oracles.specs.declared.lowpass_oracle.OptimVerdict.the-variants.{Improved, Cut as CutOptim, Refused as RefusedOptim}
+use Rattle.oracles.specs.declared.lowpass_oracle.Assessed.{Assessed}
+use Rattle.oracles.specs.declared.lowpass_oracle.AssessedOptim.{AssessedOptim}
+
+-- a verdict: feasible, or the first broken group; `refused` is none
+pub data Judgement : Type 0 where
+  feasible : Judgement
+  pass : Judgement
+  stop : Judgement
+  middle : Judgement
+  sign : Judgement
+  refused : Judgement
+
+-- a point before a table: n, the rows, the bands and the limits, with no cursor in it
+pub record Question : Type 0 where
+  pub n : ℕ
+  pub rows : ℕ
+  pub nwpass : ℕ
+  pub nwstop : ℕ
+  pub lp-sq : Float
+  pub up-sq : Float
+  pub sp-sq : Float
+  pub table : List Float
+  pub x : List Float
+
+-- a row's value is its `dot` with the point
+abbrev pub valueIn : Question → ℕ → Float
+valueIn q i = valueOf (q .n) (q .table) (q .x) i
+
+-- above its limit, or below it; a test on NaN is false
+abbrev pub pass-breaks : Question → ℕ → Bool
+pass-breaks q i = lt (q .up-sq) (valueIn q i) || lt (valueIn q i) (q .lp-sq)
+
+abbrev pub stop-breaks : Question → ℕ → Bool
+stop-breaks q i = lt (q .sp-sq) (valueIn q i) || lt (valueIn q i) 0ᶠ
+
+abbrev pub middle-breaks : Question → ℕ → Bool
+middle-breaks q i = lt (valueIn q i) 0ᶠ
+
+abbrev pub sign-breaks : Question → Bool
+sign-breaks q = lt (getD (q .x) 0 nan) 0ᶠ
+
+-- whether f holds for one of the rows lo, lo + 1, .. lo + count − 1
+unfoldable pub some-row : (ℕ → Bool) → ℕ → ℕ → Bool
+some-row f lo zero = false
+some-row f lo (suc count) = some-row f lo count || f (lo + count)
+
+-- the first broken of pass, stop, middle and sign
+unfoldable pub judge : Question → Judgement
+judge q =
+    pick (some-row (pass-breaks q) 0 (q .nwpass)) pass
+    (pick (some-row (stop-breaks q) (q .nwstop) (q .rows - q .nwstop)) stop
+    (pick (some-row (middle-breaks q) (q .nwpass) (q .nwstop - q .nwpass)) middle
+    (pick (sign-breaks q) sign feasible)))
+
+-- no stop value compares: the stop band is empty or all its values are NaN
+unfoldable pub no-stop-value : Question → Bool
+no-stop-value q = not (some-row (λ i. not (isNan (valueIn q i))) (q .nwstop) (q .rows - q .nwstop))
+
+-- ---- what an assessment says
+
+-- what is asked of an oracle with this sp_sq: nothing of its cursors, idx, fmax, kmax and more_alt
+abbrev pub asked : LowpassOracle → Float → ℕ → ℕ → List Float → List Float → Question
+asked o sp n rows table x =
+    record { n = n; rows = rows; nwpass = natAbs (o .nwpass); nwstop = natAbs (o .nwstop); lp-sq = o .«lp_sq»; up-sq = o .«up_sq»; sp-sq = sp; table = table; x = x }
+
+-- nothing is refused by 1 to 4
+abbrev pub is-accepted : LowpassOracle → ℕ → ℕ → List Float → List Float → List Float → Bool
+is-accepted o n rows table x grad = isDimension n && (table-fits n rows table x && eqb (length grad) n) && bands-fit o rows && cursors-fit o
+
+abbrev pub judgement : Verdict → Judgement
+judgement Feasible = feasible
+judgement (Cut (Pass row over) beta) = pass
+judgement (Cut (Stop row over) beta) = stop
+judgement (Cut (Middle row) beta) = middle
+judgement (Cut Sign beta) = sign
+judgement (Refused why) = refused
+
+-- whether a cut's row is one of its group's and breaks it on the side that is reported
+abbrev pub side-breaks : Bool → Float → Float → Float → Bool
+side-breaks over upper lower v = pick over (lt upper v) (lt v lower)
+
+abbrev pub cut-breaks : Question → Verdict → Bool
+cut-breaks q Feasible = true
+cut-breaks q (Cut (Pass row over) beta) = ltb row (q .nwpass) && side-breaks over (q .up-sq) (q .lp-sq) (valueIn q row)
+cut-breaks q (Cut (Stop row over) beta) = leb (q .nwstop) row && ltb row (q .rows) && side-breaks over (q .sp-sq) 0ᶠ (valueIn q row)
+cut-breaks q (Cut (Middle row) beta) = leb (q .nwpass) row && ltb row (q .nwstop) && lt (valueIn q row) 0ᶠ
+cut-breaks q (Cut Sign beta) = sign-breaks q
+cut-breaks q (Refused why) = true
+
+-- fmax is the largest stop value that compares, and kmax a stop row that has it
+pub record Has (q : Question) (fmax : Float) (kmax : ℤ) : Type 0 where
+  pub row : ℕ
+  pub row-is : kmax ≡ pos row
+  pub low : q .nwstop ≤ row
+  pub high : row < q .rows
+  pub value-is : valueIn q row ≡ fmax
+  pub compares : isNan fmax ≡ false
+  pub largest : (i : ℕ) → q .nwstop ≤ i → i < q .rows → lt fmax (valueIn q i) ≡ false
+
+-- no stop value compares: minus infinity and −1
+pub record HasNone (q : Question) (fmax : Float) (kmax : ℤ) : Type 0 where
+  pub nothing : no-stop-value q ≡ true
+  pub fmax-is : fmax ≡ −∞
+  pub kmax-is : kmax ≡ none
+
+abbrev pub Peak : Question → Float → ℤ → Type 0
+Peak q fmax kmax = Has q fmax kmax ⊎ HasNone q fmax kmax
+
+-- what `assess_feas` owes to an accepted call
+pub record FeasRule (q : Question) (r : Assessed) : Type 0 where
+  pub verdict-is : judgement (r .verdict) ≡ judge q
+  pub cut-is : cut-breaks q (r .verdict) ≡ true
+  pub peak : judge q ≡ feasible → Peak q (r .oracle .fmax) (r .oracle .kmax)
+
+-- `assess_optim`: refusal 6 counts as feasible
+abbrev pub optim-judgement : OptimVerdict → Judgement
+optim-judgement (Improved beta) = feasible
+optim-judgement (CutOptim group beta) = judgement (Cut group beta)
+optim-judgement (RefusedOptim why) = pick (eqb (refusalNumber why) 6) feasible refused
+
+abbrev pub is-six : OptimVerdict → Bool
+is-six (Improved beta) = false
+is-six (CutOptim group beta) = false
+is-six (RefusedOptim why) = eqb (refusalNumber why) 6
+
+abbrev pub is-feasible : Judgement → Bool
+is-feasible feasible = true
+is-feasible pass = false
+is-feasible stop = false
+is-feasible middle = false
+is-feasible sign = false
+is-feasible refused = false
+
+abbrev pub optim-cut-breaks : Question → OptimVerdict → Bool
+optim-cut-breaks q (Improved beta) = true
+optim-cut-breaks q (CutOptim group beta) = cut-breaks q (Cut group beta)
+optim-cut-breaks q (RefusedOptim why) = true
+
+-- what `assess_optim` owes to a call that 1 to 4 do not refuse: 6 exactly where the point is feasible and no stop value compares
+pub record OptimRule (q : Question) (r : AssessedOptim) : Type 0 where
+  pub verdict-is : optim-judgement (r .verdict) ≡ judge q
+  pub cut-is : optim-cut-breaks q (r .verdict) ≡ true
+  pub six-is : is-six (r .verdict) ≡ (is-feasible (judge q) && no-stop-value q)
+  pub peak : is-six (r .verdict) ≡ false → judge q ≡ feasible → Has q (r .oracle .fmax) (r .oracle .kmax)
