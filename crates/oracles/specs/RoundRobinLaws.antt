@@ -1,10 +1,10 @@
 -- Laws of the cursor. Assumes nothing.
 use mathlib.Core.Path.{_≡_, refl, sym, ap, _∙_}
 use mathlib.Core.Bool.{Bool, true, false, _&&_, and-eq-true-iff, true≢false}
-use Prim.Native.Nat.{ℕ, zero, suc, _+_}
+use Prim.Native.Nat.{ℕ, zero, suc, _≤_, _+_, _-_}
 use native.Mathlib.Omega.{arith}
-use borrow.Author.Tests.{leb-true, ltb-true, eq-eqb, ne-eqb}
-use lib.IntN.{ℤ, pos, negsuc, predℤ, sucℤ, _+ℤ_, +ℤ-one, suc-pred}
+use borrow.Author.Tests.{le-ltb, leb-true, ltb-true, eq-eqb, ne-eqb}
+use lib.IntN.{ℤ, pos, negsuc, predℤ, _+ℤ_, _-ℤ_, +ℤ-one, suc-pred}
 use lib.Signed.{leZ, ltZ}
 use Rattle.numbers.specs.Pick.{pick, hit, skip}
 use Rattle.oracles.specs.RoundRobin.{isBand, isAt, eqZ, moved, advanced, Legal}
@@ -67,3 +67,11 @@ adv-next from past k h = rw (one-on k, ne-eqb k past h)
 pub adv-wrap : (from past : ℕ) → advanced (canon from past past) ≡ canon from past (suc from)
 unfolding advanced pick
 adv-wrap from past = rw (one-on past, eq-eqb past past refl)
+
+-- how many rows a legal cursor's band has
+pub band-is : (c : RoundRobin) (L : Legal c) → c .hi -ℤ c .lo ≡ pos (L .past - L .from)
+band-is c L = (λ i. L .hi-is i -ℤ L .lo-is i) ∙ go (L .past) (L .from) (omega (arith, L .above, L .below))
+  where
+    go : (p f : ℕ) → f ≤ p → pos p -ℤ pos f ≡ pos (p - f)
+    go p zero h = ap pos (let e : p + 0 ≡ p - 0 = omega arith in e)
+    go p (suc f) h = rw (le-ltb p (suc f) h)

@@ -1,0 +1,70 @@
+-- What the tests of a scan say: the refusals by what a test found, and what is known when all have passed. Assumes nothing.
+use mathlib.Core.Path.{_≡_, refl, sym, ap, _∙_}
+use mathlib.Core.Bool.{Bool, true, false, not, _&&_}
+use mathlib.Core.List.{List}
+use Prim.Native.Nat.{ℕ, _≤_, _<_, _*_}
+use native.Mathlib.Nat.{mul-le-mul-right, le-trans, le-of-eq}
+use native.Mathlib.Omega.{arith}
+use borrow.Author.Tests.{not-true, not-false, leb-true, eqb-true}
+use lib.Dec.{leb, eqb}
+use lib.IntN.{ℤ, pos}
+use lib.Signed.{leZ}
+use lib.ListN.{length}
+use lib.Ieee.{Float}
+use Rattle.numbers.specs.Pick.{hit, skip}
+use Rattle.numbers.specs.Arr.{isDimension}
+use Rattle.numbers.specs.ArrLaws.{wrong-dimension, wrong-length, accepted}
+use Rattle.numbers.specs.declared.refusal.Refusal.the-variants.{Dimension, Length, Band, Cursor}
+use Rattle.oracles.specs.RoundRobin.{isBand, isAt, moved, Legal}
+use Rattle.oracles.specs.RoundRobinLaws.{and-parts, legal-of}
+use Rattle.oracles.specs.Scan.{isRows, table-fits, band-fits, scanOf, scan-band-answer, Ready, Scannable}
+use Rattle.oracles.specs.declared.round_robin.RoundRobin.{RoundRobin}
+use Rattle.oracles.specs.declared.scan.Upper.{Upper}
+use Rattle.oracles.specs.declared.scan.Scan.{Scan}
+use Rattle.oracles.specs.declared.scan.ScanAnswer.the-variants.{Scanned, Refused}
+
+-- the dimension is at least 2
+pub dimension-least : (n : ℕ) → isDimension n ≡ true → 2 ≤ n
+dimension-least n h = leb-true 2 n (and-parts (leb 2 n) (leb n 32) h .0)
+
+-- rows that the tests allow can be read
+pub ready-of : (n rows : ℕ) (table x : List Float) (c : RoundRobin) → Scannable n rows table x c → Ready n table x c
+ready-of n rows table x c S =
+    let b = and-parts (isRows rows) (isBand (c .lo) (c .hi) && leZ (c .hi) (pos rows)) (S .band) .1 in
+    let p = and-parts (isBand (c .lo) (c .hi)) (leZ (c .hi) (pos rows)) b in
+    let L = legal-of c (p .0) (S .at) in
+    let h : L .past ≤ rows = leb-true (L .past) rows (ap (λ (z : ℤ). leZ z (pos rows)) (sym (L .hi-is)) ∙ p .1) in
+    let e : length table ≡ rows * n = eqb-true (length table) (rows * n) (and-parts (eqb (length table) (rows * n)) (eqb (length x) n) (S .long) .0) in
+    record { legal = L; high = le-trans (mul-le-mul-right n h) (le-of-eq (sym e)) }
+
+-- with nothing to refuse, the answer is the scan
+pub scanned : (n rows : ℕ) (table x : List Float) (c : RoundRobin) (lower : Float) (upper : Upper) → Scannable n rows table x c
+    → (Scanned (scanOf n table x c lower upper), moved c (scanOf n table x c lower upper .last)) ≡ scan-band-answer n rows table x c lower upper
+unfolding scan-band-answer
+scanned n rows table x c lower upper S =
+    skip _ _ _ _ (ap not (S .band)) (skip _ _ _ _ (ap not (S .at)) refl) ∙ accepted n _ _ _ _ (S .dimension) (S .long)
+
+module _ (n rows : ℕ) (table x : List Float) (c : RoundRobin) (lower : Float) (upper : Upper) where
+  pub no-dimension : isDimension n ≡ false → (Refused Dimension, c) ≡ scan-band-answer n rows table x c lower upper
+  unfolding scan-band-answer
+  no-dimension h = wrong-dimension n _ _ _ _ h
+
+  pub no-length : isDimension n ≡ true → table-fits n rows table x ≡ false → (Refused Length, c) ≡ scan-band-answer n rows table x c lower upper
+  unfolding scan-band-answer
+  no-length d h = wrong-length n _ _ _ _ d h
+
+  pub no-band : isDimension n ≡ true → table-fits n rows table x ≡ true → band-fits rows (c .lo) (c .hi) ≡ false → (Refused Band, c) ≡ scan-band-answer n rows table x c lower upper
+  unfolding scan-band-answer
+  no-band d f h = hit _ _ _ _ (ap not h) refl ∙ accepted n _ _ _ _ d f
+
+  pub no-cursor : isDimension n ≡ true → table-fits n rows table x ≡ true → band-fits rows (c .lo) (c .hi) ≡ true → isAt c ≡ false
+      → (Refused Cursor, c) ≡ scan-band-answer n rows table x c lower upper
+  unfolding scan-band-answer
+  no-cursor d f b h = skip _ _ _ _ (ap not b) (hit _ _ _ _ (ap not h) refl) ∙ accepted n _ _ _ _ d f
+
+-- a test that was made of t, where t is u
+pub passed : {t u : Bool} → t ≡ u → not t ≡ false → u ≡ true
+passed {t} e h = sym e ∙ not-false t h
+
+pub failed : {t u : Bool} → t ≡ u → not t ≡ true → u ≡ false
+failed {t} e h = sym e ∙ not-true t h

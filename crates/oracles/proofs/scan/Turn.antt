@@ -1,0 +1,134 @@
+-- The turn of the scan's loop: where the cursor goes, and what each way through leaves to be found. Assumes nothing.
+use mathlib.Core.Path.{_≡_, refl, sym, ap, _∙_, subst}
+use mathlib.Core.Bool.{Bool, true, false}
+use mathlib.Core.List.{List}
+use Prim.Native.Nat.{ℕ, zero, suc, _≤_, _<_, _+_, _*_, _-_}
+use native.Mathlib.Nat.{suc-mul, le-trans, le-of-eq, mul-le-mul-right}
+use native.Mathlib.Omega.{arith}
+use lib.IntN.{ℤ, pos, negsuc, natAbs, _-ℤ_}
+use lib.Signed.{nonNeg}
+use lib.Dec.{T, eqb}
+use lib.ListN.{length}
+use lib.Ieee.{Float, lt}
+use mir.Syntax.{w32}
+use mir.Val.{SFits}
+use borrow.Author.Tests.{eqb-true, eqb-false}
+use Rattle.numbers.specs.Pick.{pick}
+use Rattle.oracles.specs.RoundRobin.{advanced, Legal}
+use Rattle.oracles.specs.RoundRobinLaws.{canon, legal-canon, adv-next, adv-wrap, band-is}
+use Rattle.oracles.specs.Scan.{−∞, none, valueOf, isOver, scanFrom, scanOf, Ready}
+use Rattle.oracles.specs.declared.round_robin.RoundRobin.{RoundRobin}
+use Rattle.oracles.specs.declared.scan.Upper.{Upper}
+use Rattle.oracles.specs.declared.scan.Violation.the-variants.{Nothing, Broken}
+use Rattle.oracles.specs.declared.scan.Scan.{Scan}
+use Rattle.oracles.proofs.Signed.{pos-fits}
+
+-- ---- where a legal cursor goes
+
+record Moved (c : RoundRobin) (from past : ℕ) : Type 0 where
+  at : ℕ
+  is : advanced c ≡ canon from past (suc at)
+  low : from ≤ at
+  high : at < past
+
+to : (c : RoundRobin) (L : Legal c) → L .from < L .past → Moved c (L .from) (L .past)
+to c L h = go (eqb (L .next) (L .past)) refl
+  where
+    go : (b : Bool) → eqb (L .next) (L .past) ≡ b → Moved c (L .from) (L .past)
+    go true e =
+        let q : L .next ≡ L .past = eqb-true (L .next) (L .past) e in
+        record {
+          at = L .from;
+          is = ap advanced (legal-canon c L ∙ ap (canon (L .from) (L .past)) q) ∙ adv-wrap (L .from) (L .past);
+          low = omega arith;
+          high = h;
+        }
+    go false e =
+        let n = eqb-false (L .next) (L .past) e in
+        record {
+          at = L .next;
+          is = ap advanced (legal-canon c L) ∙ adv-next (L .from) (L .past) (L .next) n;
+          low = L .above;
+          high = less n;
+        }
+      where
+        less : (L .next ≡ L .past → ⊥) → L .next < L .past
+        less n = omega (arith, L .below)
+
+-- a scan with rows left: where there are some, the band has one
+pub record Going (n : ℕ) (table : List Float) (c : RoundRobin) (left : ℕ) : Type 0 where
+  pub legal : Legal c
+  pub room : 0 < left → legal .from < legal .past
+  pub high : legal .past * n ≤ length table
+
+pub starts : (n : ℕ) (table x : List Float) (c : RoundRobin) (left : ℕ) → Ready n table x c → left ≡ natAbs (c .hi -ℤ c .lo) → Going n table c left
+starts n table x c left R e =
+    let q : left ≡ R .legal .past - R .legal .from = e ∙ ap natAbs (band-is c (R .legal)) in
+    record { legal = R .legal; room = λ p. omega (arith, p, q); high = R .high }
+
+module _ {n : ℕ} {table : List Float} {c : RoundRobin} {left : ℕ} (G : Going n table c left) (some : 0 < left) (d : RoundRobin) (ed : d ≡ advanced c) where
+  abbrev m : Moved c (G .legal .from) (G .legal .past)
+  m = to c (G .legal) (G .room some)
+
+  at-is : d .cur ≡ pos (m .at)
+  at-is = ap (λ (e : RoundRobin). e .cur) (ed ∙ m .is)
+
+  pub at-nonNeg : T (nonNeg (d .cur))
+  at-nonNeg = rw at-is tt
+
+  pub at-fits : SFits w32 (d .cur)
+  at-fits = rw at-is (pos-fits (m .at) (omega (arith, m .high, G .legal .small)))
+
+  pub at-within : natAbs (d .cur) * n + n ≤ length table
+  at-within = rw at-is (le-trans (le-of-eq (sym (suc-mul (m .at) n))) (le-trans (mul-le-mul-right n (m .high)) (G .high)))
+
+  pub goes-on : Going n table d (left - 1)
+  goes-on = subst (λ (e : RoundRobin). Going n table e (left - 1)) (sym (ed ∙ m .is)) (record {
+    legal = record {
+      from = G .legal .from;
+      past = G .legal .past;
+      next = suc (m .at);
+      lo-is = refl;
+      hi-is = refl;
+      cur-is = refl;
+      above = omega (arith, m .low);
+      below = m .high;
+      small = G .legal .small;
+    };
+    room = λ _. G .room some;
+    high = G .high;
+  })
+
+-- ---- what a turn finds
+
+module _ (n : ℕ) (table x : List Float) (lower : Float) (upper : Upper) (left : ℕ) (c : RoundRobin) (fmax : Float) (k : ℤ) (whole : Scan)
+    (inv : scanFrom n table x lower upper left c fmax k ≡ whole) where
+  pub clear : left ≤ 0 → record { viol = Nothing; fmax = fmax; kmax = k; last = c .cur } ≡ whole
+  unfolding scanFrom
+  clear h = let e : left ≡ 0 = omega arith in rw e at inv
+
+  module _ (some : 0 < left) (d : RoundRobin) (i : ℕ) (v : Float) (ed : d ≡ advanced c) (ei : i ≡ natAbs (d .cur)) (ev : v ≡ valueOf n table x i) where
+    opened : pick (isOver upper v) (record { viol = Broken i v true; fmax = fmax; kmax = k; last = d .cur })
+        (pick (lt v lower) (record { viol = Broken i v false; fmax = fmax; kmax = k; last = d .cur })
+        (scanFrom n table x lower upper (left - 1) d (pick (lt fmax v) v fmax) (pick (lt fmax v) (d .cur) k))) ≡ whole
+    unfolding scanFrom
+    opened = rw (ev, ei, ed) (subst (λ (l : ℕ). scanFrom n table x lower upper l c fmax k ≡ whole) e inv)
+      where
+        e : left ≡ suc (left - 1)
+        e = omega arith
+
+    pub turn-over : isOver upper v ≡ true → record { viol = Broken i v true; fmax = fmax; kmax = k; last = d .cur } ≡ whole
+    unfolding pick
+    turn-over o = rw o at opened
+
+    pub turn-under : isOver upper v ≡ false → lt v lower ≡ true → record { viol = Broken i v false; fmax = fmax; kmax = k; last = d .cur } ≡ whole
+    unfolding pick
+    turn-under o u = rw (o, u) at opened
+
+    pub turn-more : isOver upper v ≡ false → lt v lower ≡ false → lt fmax v ≡ true → scanFrom n table x lower upper (left - 1) d v (d .cur) ≡ whole
+    unfolding pick
+    turn-more o u h = rw (o, u, h) at opened
+
+    pub turn-same : isOver upper v ≡ false → lt v lower ≡ false → lt fmax v ≡ false → scanFrom n table x lower upper (left - 1) d fmax k ≡ whole
+    unfolding pick
+    turn-same o u h = rw (o, u, h) at opened

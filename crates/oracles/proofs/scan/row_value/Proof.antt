@@ -1,0 +1,54 @@
+-- `oracles::scan::row_value` meets its contract. Assumes nothing.
+use mathlib.Core.Path.{_≡_, _∙_}
+use mathlib.Core.List.{List}
+use Prim.Native.Nat.{ℕ, _+_, _-_, _*_}
+use native.Mathlib.Omega.{arith}
+use lib.Ieee.{Float}
+use lib.ListN.{take, drop}
+use Rattle.numbers.specs.Arr.{dotOf}
+use Rattle.oracles.specs.Scan.{valueOf}
+use borrow.Author.Needs.{needs}
+use Rattle.oracles.proofs.scan.row_value.Statement.{statement}
+use Rattle.oracles.proofs.scan.row_value.Tie as tie
+
+-- the part from i × n to i × n + n is row i
+row-is : (n : ℕ) (table x : List Float) (i : ℕ) → dotOf (take (i * n + n - i * n) (drop (i * n) table)) x ≡ valueOf n table x i
+unfolding valueOf
+row-is n table x i = let e : i * n + n - i * n ≡ n = omega arith in rw e
+
+mul-at : tie.Need-mul-at
+mul-at c = search needs
+
+add-end : tie.Need-add-end
+add-end c = search needs
+
+mul-dot-zip : tie.Need-mul-dot-zip
+mul-dot-zip c = search needs
+
+sub-dot-zip : tie.Need-sub-dot-zip
+sub-dot-zip c = search needs
+
+part-dot-zip-start : tie.Need-part-dot-zip-start
+part-dot-zip-start c = search needs
+
+part-dot-zip-end : tie.Need-part-dot-zip-end
+part-dot-zip-end c = search needs
+
+dot-zip-requires : tie.Need-dot-zip-requires
+dot-zip-requires c κs = search needs
+
+returns : tie.Need-returns
+returns c = let a = c .before .before .before .before .args in c .dot-zip .ensures ∙ row-is (a .n) (a .table .now) (a .x .now) (a .i)
+
+pub row-value-spec : {M : Type 1} → statement M
+row-value-spec =
+    tie.close
+    (tie.spec
+    mul-at
+    add-end
+    mul-dot-zip
+    sub-dot-zip
+    part-dot-zip-start
+    part-dot-zip-end
+    dot-zip-requires
+    returns)

@@ -1,0 +1,114 @@
+-- `oracles::scan::scan_by_value` meets its contract. Assumes nothing.
+use mathlib.Core.Path.{_≡_, refl, sym, ap, _∙_}
+use mathlib.Core.Bool.{Bool, true, false, not}
+use Prim.Native.Nat.{ℕ, _≤_}
+use native.Mathlib.Omega.{arith}
+use lib.IntN.{ℤ, pos}
+use mir.Syntax.{w32}
+use mir.Val.{SFits}
+use mir.Facts.{toZ-ofZ}
+use lib.Ieee.{Float}
+use mathlib.Core.List.{List}
+use Rattle.oracles.specs.Scan.{band-fits, scanOf, scan-band-answer, Scannable}
+use Rattle.oracles.specs.declared.scan.Upper.{Upper}
+use Rattle.oracles.specs.declared.scan.Scan.{Scan}
+use Rattle.oracles.specs.declared.scan.ScanAnswer.{ScanAnswer}
+use Rattle.oracles.specs.declared.scan.ScanAnswer.the-variants.{Scanned}
+use Rattle.oracles.specs.declared.round_robin.RoundRobin.{RoundRobin}
+use Rattle.oracles.proofs.Signed.{read}
+use Rattle.oracles.proofs.scan.Tests.{dimension-least, ready-of, scanned, no-dimension, no-length, no-band, no-cursor, passed, failed}
+use Rattle.oracles.proofs.scan.scan_by_value.Statement.{statement}
+use Rattle.oracles.proofs.scan.scan_by_value.Tie as tie
+
+-- the band's test, of lo and hi as they are read
+band-read : (rows : ℕ) (c : RoundRobin) → SFits w32 (c .lo) → SFits w32 (c .hi) → {t : Bool} → t ≡ band-fits rows (read (c .lo)) (read (c .hi)) → t ≡ band-fits rows (c .lo) (c .hi)
+band-read rows c fl fh e = e ∙ (λ i. band-fits rows (toZ-ofZ fl i) (toZ-ofZ fh i))
+
+-- the cursor that is made of the scan's last row
+ends : (n rows : ℕ) (table x : List Float) (c : RoundRobin) (lower : Float) (upper : Upper) → Scannable n rows table x c
+    → (s : Scan) → s ≡ scanOf n table x c lower upper → SFits w32 (s .last) → SFits w32 (c .lo) → SFits w32 (c .hi)
+    → _≡_ {A = ScanAnswer × RoundRobin} (Scanned s, record { cur = read (s .last); lo = read (c .lo); hi = read (c .hi) }) (scan-band-answer n rows table x c lower upper)
+ends n rows table x c lower upper S s e f fl fh =
+    rw (toZ-ofZ f, toZ-ofZ fl, toZ-ofZ fh) (rw e (scanned n rows table x c lower upper S))
+
+is-dimension-requires : tie.Need-is-dimension-requires
+is-dimension-requires c κs = tt
+
+returns : tie.Need-returns
+returns c =
+    let a = c .before .before .before .before .args in
+    no-dimension (a .n) (a .rows) (a .table .now) (a .x .now) (a .rr) (a .lower) (a .upper) (failed (c .before .is-dimension .ensures) (c .if1 .taken))
+
+table-fits-requires : tie.Need-table-fits-requires
+table-fits-requires c κs = let n = c .before .before .before .before .args .n in omega (arith, dimension-least n (passed (c .before .is-dimension .ensures) (c .if1 .left)))
+
+returns-2 : tie.Need-returns-2
+returns-2 c =
+    let e = c .before .before in
+    let a = e .before .before .before .before .args in
+    no-length (a .n) (a .rows) (a .table .now) (a .x .now) (a .rr) (a .lower) (a .upper) (passed (e .before .is-dimension .ensures) (e .if1 .left)) (failed (c .before .table-fits .ensures) (c .if2 .taken))
+
+band-fits-requires : tie.Need-band-fits-requires
+band-fits-requires c κs = tt
+
+returns-3 : tie.Need-returns-3
+returns-3 c =
+    let t = c .before .before in
+    let g = t .struct-told2 .given in
+    let f = t .before .before in
+    let e = f .before .before in
+    let a = e .before .before .before .before .args in
+    no-band (a .n) (a .rows) (a .table .now) (a .x .now) (a .rr) (a .lower) (a .upper) (passed (e .before .is-dimension .ensures) (e .if1 .left)) (passed (f .before .table-fits .ensures) (f .if2 .left))
+    (failed (band-read (a .rows) (a .rr) (record { sfits = g .1 .0 .1 }) (record { sfits = g .1 .1 .0 .1 }) (c .before .band-fits .ensures)) (c .if3 .taken))
+
+is-at-requires : tie.Need-is-at-requires
+is-at-requires c κs = tt
+
+returns-4 : tie.Need-returns-4
+returns-4 c =
+    let b = c .before .before in
+    let t = b .before .before in
+    let g = t .struct-told2 .given in
+    let f = t .before .before in
+    let e = f .before .before in
+    let a = e .before .before .before .before .args in
+    no-cursor (a .n) (a .rows) (a .table .now) (a .x .now) (a .rr) (a .lower) (a .upper) (passed (e .before .is-dimension .ensures) (e .if1 .left)) (passed (f .before .table-fits .ensures) (f .if2 .left))
+    (passed (band-read (a .rows) (a .rr) (record { sfits = g .1 .0 .1 }) (record { sfits = g .1 .1 .0 .1 }) (b .before .band-fits .ensures)) (b .if3 .left)) (failed (c .before .is-at .ensures) (c .if4 .taken))
+
+scan-rows-requires : tie.Need-scan-rows-requires
+scan-rows-requires c κs =
+    let b = c .before .before in
+    let t = b .before .before in
+    let g = t .struct-told2 .given in
+    let f = t .before .before in
+    let e = f .before .before in
+    let a = e .before .before .before .before .args in
+    ready-of (a .n) (a .rows) (a .table .now) (a .x .now) (a .rr) (record {
+      dimension = passed (e .before .is-dimension .ensures) (e .if1 .left);
+      long = passed (f .before .table-fits .ensures) (f .if2 .left);
+      band = passed (band-read (a .rows) (a .rr) (record { sfits = g .1 .0 .1 }) (record { sfits = g .1 .1 .0 .1 }) (b .before .band-fits .ensures)) (b .if3 .left);
+      at = passed (c .before .is-at .ensures) (c .if4 .left);
+    })
+
+returns-5 : tie.Need-returns-5
+returns-5 c =
+    let h = c .before .before .before in
+    let b = h .before .before in
+    let t = b .before .before in
+    let g = t .struct-told2 .given in
+    let f = t .before .before in
+    let e = f .before .before in
+    let a = e .before .before .before .before .args in
+    let n = a .n in
+    let z = c .before .struct-told3 .given in
+    ends n (a .rows) (a .table .now) (a .x .now) (a .rr) (a .lower) (a .upper) (record {
+      dimension = passed (e .before .is-dimension .ensures) (e .if1 .left);
+      long = passed (f .before .table-fits .ensures) (f .if2 .left);
+      band = passed (band-read (a .rows) (a .rr) (record { sfits = g .1 .0 .1 }) (record { sfits = g .1 .1 .0 .1 }) (b .before .band-fits .ensures)) (b .if3 .left);
+      at = passed (h .before .is-at .ensures) (h .if4 .left);
+    }) (c .before .before .scan-rows .result) (c .before .before .scan-rows .ensures) (record { sfits = z .1 .1 .1 .0 .1 }) (record { sfits = g .1 .0 .1 }) (record { sfits = g .1 .1 .0 .1 })
+
+pub scan-by-value-spec : {M : Type 1} → statement M
+scan-by-value-spec =
+    tie.close
+    (tie.spec is-dimension-requires returns table-fits-requires returns-2 band-fits-requires returns-3 is-at-requires returns-4 scan-rows-requires returns-5)

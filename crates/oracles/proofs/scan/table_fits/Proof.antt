@@ -1,0 +1,41 @@
+-- `oracles::scan::table_fits` meets its contract: the quotient is rows and the remainder 0 exactly where the length is rows × n. Assumes nothing.
+use mathlib.Core.Path.{_≡_, refl, sym, ap, _∙_}
+use mathlib.Core.Bool.{Bool, true, false, _&&_}
+use Prim.Native.Nat.{ℕ, _<_, _+_, _*_, _/_, _%_}
+use native.Mathlib.Nat.{mul-div-cancel, mul-mod-left, div-add-mod'}
+use native.Mathlib.Omega.{arith}
+use borrow.Author.Tests.{eqb-true, eqb-false, eq-eqb, ne-eqb}
+use lib.Dec.{eqb}
+use Rattle.oracles.proofs.scan.table_fits.Statement.{statement}
+use Rattle.oracles.proofs.scan.table_fits.Tie as tie
+
+divides : (t n rows : ℕ) → 0 < n → (eqb (t / n) rows && eqb (t % n) 0) ≡ eqb t (rows * n)
+divides t n rows p = go (eqb t (rows * n)) refl
+  where
+    go : (u : Bool) → eqb t (rows * n) ≡ u → (eqb (t / n) rows && eqb (t % n) 0) ≡ eqb t (rows * n)
+    go true e =
+        let q : t ≡ rows * n = eqb-true t (rows * n) e in
+        rw (e, q, mul-div-cancel rows p, mul-mod-left rows n, eq-eqb rows rows refl)
+    go false e = rw e (not-both (eqb (t / n) rows) (eqb (t % n) 0) refl refl)
+      where
+        not-both : (a b : Bool) → eqb (t / n) rows ≡ a → eqb (t % n) 0 ≡ b → (a && b) ≡ false
+        not-both false b ea eb = refl
+        not-both true false ea eb = refl
+        not-both true true ea eb =
+            let q : t / n * n + t % n ≡ t = div-add-mod' t n in
+            let d : t / n ≡ rows = eqb-true (t / n) rows ea in
+            let m : t % n ≡ 0 = eqb-true (t % n) 0 eb in
+            let w : t / n * n ≡ rows * n = ap (λ (z : ℕ). z * n) d in
+            absurd (eqb-false t (rows * n) e (omega (arith, q, m, w)))
+
+div-result : tie.Need-div-result
+div-result c = c .pre
+
+rem-result : tie.Need-rem-result
+rem-result c = c .pre
+
+returns : tie.Need-returns
+returns c = ap (λ (b : Bool). b && eqb (c .args .x) (c .args .n)) (divides (c .args .table) (c .args .n) (c .args .rows) (c .pre))
+
+pub table-fits-spec : {M : Type 1} → statement M
+table-fits-spec = tie.close (tie.spec div-result rem-result returns)
