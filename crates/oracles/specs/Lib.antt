@@ -11,6 +11,8 @@ pub mod Ell
 pub mod EllStable
 -- Theorems about them, the laws that these rest on, and the steps of the inner functions.
 pub mod RoundRobinLaws
+pub mod FloatOrder
+pub mod ScanLaws
 pub mod Known
 pub mod MatrixLaws
 pub mod LdltLaws

@@ -1,9 +1,9 @@
 -- Laws of the cursor. Assumes nothing.
 use mathlib.Core.Path.{_≡_, refl, sym, ap, _∙_}
-use mathlib.Core.Bool.{Bool, true, false, _&&_, and-eq-true-iff, true≢false}
+use mathlib.Core.Bool.{Bool, true, false, _&&_, _||_, and-eq-true-iff, true≢false}
 use Prim.Native.Nat.{ℕ, zero, suc, _≤_, _+_, _-_}
 use native.Mathlib.Omega.{arith}
-use borrow.Author.Tests.{le-ltb, leb-true, ltb-true, eq-eqb, ne-eqb}
+use borrow.Author.Tests.{le-ltb, leb-true, ltb-true, le-leb, lt-ltb, eq-eqb, ne-eqb}
 use lib.IntN.{ℤ, pos, negsuc, predℤ, _+ℤ_, _-ℤ_, +ℤ-one, suc-pred}
 use lib.Signed.{leZ, ltZ}
 use Rattle.numbers.specs.Pick.{pick, hit, skip}
@@ -13,6 +13,10 @@ use Rattle.oracles.specs.declared.round_robin.RoundRobin.{RoundRobin}
 -- the two parts of a test
 pub and-parts : (a b : Bool) → (a && b) ≡ true → (a ≡ true) × (b ≡ true)
 and-parts a b = and-eq-true-iff a b .0
+
+pub or-parts : (a b : Bool) → (a || b) ≡ false → (a ≡ false) × (b ≡ false)
+or-parts true b e = absurd (true≢false e)
+or-parts false b e = (refl, e)
 
 -- equal numbers, and unequal ones
 pub eqZ-yes : (a b : ℤ) → a ≡ b → eqZ a b ≡ true
@@ -75,3 +79,14 @@ band-is c L = (λ i. L .hi-is i -ℤ L .lo-is i) ∙ go (L .past) (L .from) (ome
     go : (p f : ℕ) → f ≤ p → pos p -ℤ pos f ≡ pos (p - f)
     go p zero h = ap pos (let e : p + 0 ≡ p - 0 = omega arith in e)
     go p (suc f) h = rw (le-ltb p (suc f) h)
+
+-- a legal cursor passes its tests
+pub legal-band : (c : RoundRobin) → Legal c → isBand (c .lo) (c .hi) ≡ true
+legal-band c L = rw (L .lo-is, L .hi-is, le-leb 0 (L .from) (omega arith), le-leb (L .from) (L .past) (omega arith), le-leb (L .past) 1024 (L .small))
+
+pub legal-at : (c : RoundRobin) → Legal c → isAt c ≡ true
+legal-at c L = rw (legal-canon c L, one-on (L .next), le-leb (L .from) (L .next) (L .above), before (L .next) (L .below))
+  where
+    before : (k : ℕ) → k ≤ L .past → ltZ (predℤ (pos k)) (pos (L .past)) ≡ true
+    before zero h = refl
+    before (suc k) h = lt-ltb k (L .past) h
