@@ -3,7 +3,7 @@ use mathlib.Core.Path.{_≡_, refl, sym, ap, _∙_}
 use mathlib.Core.Bool.{Bool, true, false, _&&_, _||_, and-eq-true-iff, true≢false}
 use Prim.Native.Nat.{ℕ, zero, suc, _+_, _≤_}
 use native.Mathlib.Omega.{arith}
-use borrow.Author.Tests.{leb-true, ltb-true, le-leb, lt-ltb, eq-eqb, ne-eqb}
+use borrow.Author.Tests.{leb-true, ltb-true, le-leb, lt-ltb, eqb-true, eq-eqb, ne-eqb}
 use lib.IntN.{ℤ, pos, negsuc, predℤ, sucℤ, _+ℤ_, +ℤ-one, suc-pred}
 use lib.Signed.{leZ, ltZ}
 use Rattle.numbers.specs.Pick.{pick, hit, skip}
@@ -28,6 +28,12 @@ eqZ-no (pos a) (pos b) h = ne-eqb a b (λ e. h (ap pos e))
 eqZ-no (pos a) (negsuc b) h = refl
 eqZ-no (negsuc a) (pos b) h = refl
 eqZ-no (negsuc a) (negsuc b) h = ne-eqb a b (λ e. h (ap negsuc e))
+
+pub eqZ-true : (a b : ℤ) → eqZ a b ≡ true → a ≡ b
+eqZ-true (pos a) (pos b) e = ap pos (eqb-true a b e)
+eqZ-true (pos a) (negsuc b) e = absurd (true≢false (sym e))
+eqZ-true (negsuc a) (pos b) e = absurd (true≢false (sym e))
+eqZ-true (negsuc a) (negsuc b) e = ap negsuc (eqb-true a b e)
 
 -- the tests of a cursor make it legal
 pub legal-of : (c : RoundRobin) → isBand (c .lo) (c .hi) ≡ true → isAt c ≡ true → Legal c
