@@ -1,34 +1,35 @@
 -- Demand 3: the verdict on a point, its cut's row and its largest stop value follow from the point alone, wherever the cursors stand. Assumes nothing.
-use mathlib.Core.Path.{_≡_, refl, sym, ap, _∙_, subst}
-use mathlib.Core.Bool.{Bool, true, false, not, _&&_, _||_, true≢false}
-use mathlib.Core.Logic.{_⊎_, inl, inr}
+use mathlib.Core.Path.{_≡_, refl, sym, ap, _∙_}
+use mathlib.Core.Bool.{Bool, true, false, not, _&&_, true≢false}
+use mathlib.Core.Logic.{inl, inr}
 use mathlib.Core.List.{List}
-use Prim.Native.Nat.{ℕ, zero, suc, _≤_, _<_, _+_, _*_, _-_}
-use native.Mathlib.Nat.{sub-zero}
+use Prim.Native.Nat.{ℕ, _≤_, _<_, _+_, _*_, _-_}
+use native.Mathlib.Nat.{sub-zero, le-refl, le-trans}
 use native.Mathlib.Omega.{arith}
-use borrow.Author.Tests.{leb-true, le-leb, lt-ltb, le-ltb, eq-eqb}
-use lib.Dec.{leb, eqb}
-use lib.ListN.{length, getD, set, replicate}
-use lib.IntN.{ℤ, pos, negsuc, natAbs}
-use lib.Signed.{leZ, ltZ}
+use borrow.Author.Tests.{le-leb, lt-ltb, le-ltb, eq-eqb}
+use lib.Dec.{eqb}
+use lib.ListN.{length, getD, drop, replicate, length-drop, length-map, length-set, length-replicate}
+use lib.Seq.{length-take-le}
+use lib.IntN.{ℤ, pos, natAbs}
+use lib.Signed.{ltZ}
 use lib.Ieee.{Float, nan, lt, eq, neg, isNan}
 use Rattle.numbers.specs.F64.{0ᶠ}
 use Rattle.numbers.specs.Pick.{pick}
-use Rattle.numbers.specs.Arr.{isDimension, tested}
+use Rattle.numbers.specs.Arr.{isDimension, rowOf, tested}
+use Rattle.numbers.specs.ArrLaws.{row-in}
 use Rattle.numbers.specs.declared.cut.CutChoice.the-variants.{Single}
-use Rattle.oracles.specs.RoundRobin.{isBand, isAt, moved, Legal}
-use Rattle.oracles.specs.RoundRobinLaws.{and-parts, or-parts, eqZ-yes, eqZ-true, legal-of, legal-at}
+use Rattle.oracles.specs.RoundRobin.{isAt}
+use Rattle.oracles.specs.RoundRobinLaws.{eqZ-yes, legal-at}
 use Rattle.oracles.specs.FloatOrder.{nlt-eq, only-nan}
-use Rattle.oracles.specs.Scan.{−∞, none, valueOf, isRows, table-fits, scanOf, violated, band-beta, band-gradient}
+use Rattle.oracles.specs.Scan.{−∞, none, valueOf, table-fits, scanOf, band-beta, band-gradient}
 use Rattle.oracles.specs.ScanLaws.{some-row-false, none-some-row, some-row-holds, row-breaks, Found, Passed, found-in, top-in, last-legal, passed-in, nothing-none, broken-some}
-use Rattle.oracles.specs.LowpassOracle.{−1ᶠ, isOf, bands-fit, cursors-fit, after-pass, after-stop, after-middle, offered, assess-sign, assess-middle, assess-stop, assessOf, improvedOf, optim-of, assess-feas-answer, assess-optim-answer}
-use Rattle.oracles.specs.Verdict.{Judgement, feasible, pass, stop, middle, sign, refused, Question, valueIn, pass-breaks, stop-breaks, middle-breaks, sign-breaks, some-row, judge, Unbroken, no-stop-value, asked, limits, is-accepted, judgement, side-breaks, cut-breaks, cut-stands, Has, HasNone, Peak, FeasRule, as-feas, is-six, is-feasible, OptimRule}
+use Rattle.oracles.specs.LowpassOracle.{−1ᶠ, bands-fit, cursors-fit, offered, assessOf, improvedOf, optim-of, assess-feas-answer, assess-optim-answer}
+use Rattle.oracles.specs.AssessLaws.{Spans, Fit, fit, by-test, pass-scan, stop-scan, middle-scan, pass-left, stop-left, middle-left, assess-cases, accepted-of, accepted-is}
+use Rattle.oracles.specs.Verdict.{feasible, pass, stop, middle, sign, refused, Question, valueIn, pass-breaks, stop-breaks, middle-breaks, sign-breaks, some-row, judge, Unbroken, no-stop-value, asked, limits, is-accepted, judgement, side-breaks, cut-breaks, cut-stands, Has, Peak, FeasRule, as-feas, is-six, is-feasible, OptimRule}
 use Rattle.oracles.specs.declared.round_robin.RoundRobin.{RoundRobin}
 use Rattle.oracles.specs.declared.scan.Upper.{Upper}
 use Rattle.oracles.specs.declared.scan.Upper.the-variants.{Absent, At}
-use Rattle.oracles.specs.declared.scan.Violation.{Violation}
 use Rattle.oracles.specs.declared.scan.Violation.the-variants.{Nothing, Broken}
-use Rattle.oracles.specs.declared.scan.Scan.{Scan}
 use Rattle.oracles.specs.declared.lowpass_oracle.LowpassOracle.{LowpassOracle}
 use Rattle.oracles.specs.declared.lowpass_oracle.Group.{Group}
 use Rattle.oracles.specs.declared.lowpass_oracle.Group.the-variants.{Pass, Stop, Middle, Sign}
@@ -39,56 +40,9 @@ use Rattle.oracles.specs.declared.lowpass_oracle.OptimVerdict.the-varian
 use Rattle.oracles.specs.declared.lowpass_oracle.Assessed.{Assessed}
 use Rattle.oracles.specs.declared.lowpass_oracle.AssessedOptim.{AssessedOptim}
 
--- ---- what the tests of refusals 3 and 4 say
-
--- a legal cursor of the band from .. past − 1
-pub record Spans (c : RoundRobin) (from past : ℕ) : Type 0 where
-  pub legal : Legal c
-  pub from-is : legal .from ≡ from
-  pub past-is : legal .past ≡ past
-
-spans : (c : RoundRobin) (from past : ℕ) → isOf c (pos from) (pos past) ≡ true → isAt c ≡ true → from ≤ past → past ≤ 1024 → Spans c from past
-spans c from past h a le small =
-    let p = and-parts _ _ h in
-    let lo : c .lo ≡ pos from = eqZ-true (c .lo) (pos from) (p .0) in
-    let hi : c .hi ≡ pos past = eqZ-true (c .hi) (pos past) (p .1) in
-    let l = legal-of c (rw (lo, hi, le-leb 0 from (omega arith), le-leb from past le, le-leb past 1024 small)) a in
-    let lo′ = l .lo-is in
-    let hi′ = l .hi-is in
-    record { legal = l; from-is = cc; past-is = cc }
-
--- the three cursors, each over its group's rows
-pub record Fit (o : LowpassOracle) (rows : ℕ) : Type 0 where
-  pub pass-rows : Spans (o .rr1) 0 (natAbs (o .nwpass))
-  pub stop-rows : Spans (o .rr3) (natAbs (o .nwstop)) rows
-  pub middle-rows : Spans (o .rr2) (natAbs (o .nwpass)) (natAbs (o .nwstop))
-
-pub fit : (o : LowpassOracle) (rows : ℕ) → bands-fit o rows ≡ true → cursors-fit o ≡ true → Fit o rows
-fit o rows b a =
-    let b₃ = and-parts _ (isOf (o .rr3) (o .nwstop) (pos rows)) b in
-    let b₂ = and-parts _ (isOf (o .rr2) (o .nwpass) (o .nwstop)) (b₃ .0) in
-    let b₁ = and-parts _ (isOf (o .rr1) (pos 0) (o .nwpass)) (b₂ .0) in
-    let h₃ = and-parts _ (leZ (o .nwstop) (pos rows)) (b₁ .0) in
-    let h₂ = and-parts _ (leZ (o .nwpass) (o .nwstop)) (h₃ .0) in
-    let h₁ = and-parts (isRows rows) (leZ (pos 0) (o .nwpass)) (h₂ .0) in
-    let small = leb-true rows 1024 (and-parts (leb 1 rows) (leb rows 1024) (h₁ .0) .1) in
-    let a₃ = and-parts _ (isAt (o .rr3)) a in
-    let a₂ = and-parts (isAt (o .rr1)) (isAt (o .rr2)) (a₃ .0) in
-    let r = go (o .nwpass) (o .nwstop) small (h₁ .1) (h₂ .1) (h₃ .1) (b₁ .1) (b₂ .1) (b₃ .1) (a₂ .0) (a₂ .1) (a₃ .1) in
-    record { pass-rows = r .0; stop-rows = r .1; middle-rows = r .2 }
-  where
-    go : (p s : ℤ) → rows ≤ 1024 → leZ (pos 0) p ≡ true → leZ p s ≡ true → leZ s (pos rows) ≡ true
-        → isOf (o .rr1) (pos 0) p ≡ true → isOf (o .rr2) p s ≡ true → isOf (o .rr3) s (pos rows) ≡ true → isAt (o .rr1) ≡ true → isAt (o .rr2) ≡ true → isAt (o .rr3) ≡ true
-        → Spans (o .rr1) 0 (natAbs p) × Spans (o .rr3) (natAbs s) rows × Spans (o .rr2) (natAbs p) (natAbs s)
-    go (negsuc p) s m h₁ h₂ h₃ b₁ b₂ b₃ a₁ a₂ a₃ = absurd (true≢false (sym h₁))
-    go (pos p) (negsuc s) m h₁ h₂ h₃ b₁ b₂ b₃ a₁ a₂ a₃ = absurd (true≢false (sym h₂))
-    go (pos p) (pos s) m h₁ h₂ h₃ b₁ b₂ b₃ a₁ a₂ a₃ =
-        let u = leb-true p s h₂ in
-        let w = leb-true s rows h₃ in
-        (spans (o .rr1) 0 p b₁ a₁ (omega arith) (omega arith), spans (o .rr3) s rows b₃ a₃ w m, spans (o .rr2) p s b₂ a₂ u (omega arith))
-
 -- ---- the judgement of a point, a test at a time
 module _ (q : Question) where
+  -- its first three tests
   abbrev pass-broken : Bool
   pass-broken = some-row (pass-breaks q) 0 (q .nwpass)
 
@@ -98,6 +52,7 @@ module _ (q : Question) where
   abbrev middle-broken : Bool
   middle-broken = some-row (middle-breaks q) (q .nwpass) (q .nwstop - q .nwpass)
 
+  -- the first that holds decides
   judge-pass : pass-broken ≡ true → judge q ≡ pass
   unfolding judge pick
   judge-pass e = rw e
@@ -152,58 +107,6 @@ module _ (q : Question) where
       (none-some-row (middle-breaks q) (q .nwpass) (q .nwstop - q .nwpass) (λ i l h. u .middle-rows i l (omega arith)))
       (u .sign-holds)
 
--- ---- the ways of an assessment
-by-violation : {X : Type 0} (P : X → Type 0) (w : Violation) (kept : X) (broken : ℕ → Float → Bool → X)
-    → (w ≡ Nothing → P kept) → ((row : ℕ) (v : Float) (over : Bool) → w ≡ Broken row v over → P (broken row v over)) → P (violated w kept broken)
-by-violation P Nothing kept broken f g = f refl
-by-violation P (Broken row v over) kept broken f g = g row v over refl
-
-by-test : {X : Type 0} (P : X → Type 0) (t : Bool) (a b : X) → (t ≡ true → P a) → (t ≡ false → P b) → P (pick t a b)
-unfolding pick
-by-test P true a b f g = f refl
-by-test P false a b f g = g refl
-
-module _ (o : LowpassOracle) (n : ℕ) (table x : List Float) where
-  abbrev pass-scan : Scan
-  pass-scan = scanOf n table x (o .rr1) (o .«lp_sq») (At (o .«up_sq»))
-
-  abbrev stop-scan : Scan
-  stop-scan = scanOf n table x (o .rr3) 0ᶠ (At (o .«sp_sq»))
-
-  abbrev middle-scan : Scan
-  middle-scan = scanOf n table x (o .rr2) 0ᶠ Absent
-
-  -- the oracle after each scan
-  abbrev pass-left : LowpassOracle
-  pass-left = after-pass o (pass-scan .last) (moved (o .rr1) (pass-scan .last))
-
-  abbrev stop-left : Float → ℤ → LowpassOracle
-  stop-left fmax kmax = after-stop pass-left (stop-scan .last) (moved (o .rr3) (stop-scan .last)) fmax kmax
-
-  abbrev middle-left : Bool → LowpassOracle
-  middle-left more-alt = after-middle (stop-left (stop-scan .fmax) (stop-scan .kmax)) (middle-scan .last) (moved (o .rr2) (middle-scan .last)) more-alt
-
-  -- what holds of each holds of the assessment
-  assess-cases : (grad : List Float) (P : Assessed × List Float → Type 0)
-      → ((row : ℕ) (v : Float) (over : Bool) → pass-scan .viol ≡ Broken row v over
-          → P (record { oracle = pass-left; verdict = Cut (Pass row over) (band-beta v over (o .«lp_sq») (At (o .«up_sq»))) }, band-gradient n table row over))
-      → (pass-scan .viol ≡ Nothing → (row : ℕ) (v : Float) (over : Bool) → stop-scan .viol ≡ Broken row v over
-          → P (record { oracle = stop-left −∞ none; verdict = Cut (Stop row over) (band-beta v over 0ᶠ (At (o .«sp_sq»))) }, band-gradient n table row over))
-      → (pass-scan .viol ≡ Nothing → stop-scan .viol ≡ Nothing → (row : ℕ) (v : Float) (over : Bool) → middle-scan .viol ≡ Broken row v over
-          → P (record { oracle = middle-left true; verdict = Cut (Middle row) (band-beta v over 0ᶠ Absent) }, band-gradient n table row over))
-      → (pass-scan .viol ≡ Nothing → stop-scan .viol ≡ Nothing → middle-scan .viol ≡ Nothing → lt (getD x 0 nan) 0ᶠ ≡ true
-          → P (record { oracle = middle-left false; verdict = Cut Sign (Single (neg (getD x 0 nan))) }, set (replicate (length grad) 0ᶠ) 0 −1ᶠ))
-      → (pass-scan .viol ≡ Nothing → stop-scan .viol ≡ Nothing → middle-scan .viol ≡ Nothing → lt (getD x 0 nan) 0ᶠ ≡ false
-          → P (record { oracle = middle-left false; verdict = Feasible }, grad))
-      → P (assessOf o n table x grad)
-  unfolding assessOf assess-stop assess-middle assess-sign
-  assess-cases grad P f₁ f₂ f₃ f₄ f₅ =
-      by-violation P (pass-scan .viol) _ _
-      (λ e₁. by-violation P (stop-scan .viol) _ _
-      (λ e₂. by-violation P (middle-scan .viol) _ _ (λ e₃. by-test P (lt (getD x 0 nan) 0ᶠ) _ _ (f₄ e₁ e₂ e₃) (f₅ e₁ e₂ e₃)) (f₃ e₁ e₂))
-      (f₂ e₁))
-      f₁
-
 -- ---- the rule of an assessment
 
 -- the laws of a scan, over a band that is named
@@ -242,9 +145,14 @@ unfolding no-stop-value
 peak-of q c S e = elim (top-in (q .n) (q .table) (q .x) c 0ᶠ (At (q .sp-sq)) (S .legal)) [
   | inl t ↦ inr (record { nothing = rw (none-some-row (λ i. not (isNan (valueIn q i))) (q .nwstop) (q .rows - q .nwstop) (all-nan (t .0))); fmax-is = t .0; kmax-is = t .1 })
   | inr b ↦ inl (record {
-      row = b .row; row-is = b .row-is; low = rw (S .from-is) at (b .low); high = rw (S .past-is) at (b .high); value-is = b .value-is; compares = b .compares;
-      largest = λ i l h. row-passed i l h .not-above;
-    })
+    row = b .row;
+    row-is = b .row-is;
+    low = rw (S .from-is) at (b .low);
+    high = rw (S .past-is) at (b .high);
+    value-is = b .value-is;
+    compares = b .compares;
+    largest = λ i l h. row-passed i l h .not-above;
+  })
 ]
   where
     row-passed : (i : ℕ) → q .nwstop ≤ i → i < q .rows → Passed (q .n) (q .table) (q .x) 0ᶠ (At (q .sp-sq)) (scanOf (q .n) (q .table) (q .x) c 0ᶠ (At (q .sp-sq)) .fmax) i
@@ -256,6 +164,7 @@ peak-of q c S e = elim (top-in (q .n) (q .table) (q .x) c 0ᶠ (At (q .sp-sq)) (
         rw (only-nan (valueIn q i) (rw f at (p .not-above)) (p .not-under))
 
 module _ (o : LowpassOracle) (n rows : ℕ) (table x : List Float) (F : Fit o rows) where
+  -- what is asked, and what a scan that finds nothing says of it
   abbrev point : Question
   point = asked o (o .«sp_sq») n rows table x
 
@@ -268,6 +177,7 @@ module _ (o : LowpassOracle) (n rows : ℕ) (table x : List Float) (F : Fit o ro
   middle-clear : middle-scan o n table x .viol ≡ Nothing → middle-broken point ≡ false
   middle-clear e = band-clear n table x (o .rr2) 0ᶠ Absent (natAbs (o .nwpass)) (natAbs (o .nwstop)) (F .middle-rows) e
 
+  -- the rule, way by way
   assess-rule : (grad : List Float) → FeasRule point (assessOf o n table x grad .0)
   unfolding pick
   assess-rule grad = assess-cases o n table x grad (λ r. FeasRule point (r .0)) on-pass on-stop on-middle on-sign on-feasible
@@ -303,31 +213,13 @@ module _ (o : LowpassOracle) (n rows : ℕ) (table x : List Float) (F : Fit o ro
           → FeasRule point (record { oracle = middle-left o n table x false; verdict = Feasible })
       on-feasible e₁ e₂ e₃ e =
           record {
-            verdict-is = sym (judge-sign point false (pass-clear e₁) (stop-clear e₂) (middle-clear e₃) e); cut-is = refl; cut-at = refl;
+            verdict-is = sym (judge-sign point false (pass-clear e₁) (stop-clear e₂) (middle-clear e₃) e);
+            cut-is = refl;
+            cut-at = refl;
             peak = λ j. peak-of point (o .rr3) (F .stop-rows) e₂;
           }
 
--- ---- the theorems
-
--- an accepted call, test by test
-record Accepted (o : LowpassOracle) (n rows : ℕ) (table x grad : List Float) : Type 0 where
-  dimension : isDimension n ≡ true
-  long : (table-fits n rows table x && eqb (length grad) n) ≡ true
-  bands : bands-fit o rows ≡ true
-  cursors : cursors-fit o ≡ true
-
-accepted-of : (o : LowpassOracle) (n rows : ℕ) (table x grad : List Float) → is-accepted o n rows table x grad ≡ true → Accepted o n rows table x grad
-accepted-of o n rows table x grad h =
-    let p₃ = and-parts _ (cursors-fit o) h in
-    let p₂ = and-parts _ (bands-fit o rows) (p₃ .0) in
-    let p₁ = and-parts (isDimension n) (table-fits n rows table x && eqb (length grad) n) (p₂ .0) in
-    record { dimension = p₁ .0; long = p₁ .1; bands = p₂ .1; cursors = p₃ .1 }
-
-accepted-is : (o : LowpassOracle) (n rows : ℕ) (table x grad : List Float) → is-accepted o n rows table x grad ≡ true → assess-feas-answer o n rows table x grad ≡ assessOf o n table x grad
-unfolding assess-feas-answer tested pick
-accepted-is o n rows table x grad h =
-    let a = accepted-of o n rows table x grad h in
-    rw (a .dimension, a .long, a .bands, a .cursors)
+-- ---- the rule of the two calls
 
 pub feas-rule : (o : LowpassOracle) (n rows : ℕ) (table x grad : List Float) → is-accepted o n rows table x grad ≡ true
     → FeasRule (asked o (o .«sp_sq») n rows table x) (assess-feas-answer o n rows table x grad .0)
@@ -348,18 +240,19 @@ unfolding improvedOf pick
 optim-of-rule q o gamma n table o′ Feasible grad r = elim (r .peak (sym (r .verdict-is))) [
   | inl h ↦
       let t : ltZ (o′ .kmax) (pos 0) ≡ false = rw (h .row-is) (le-ltb (h .row) 0 (omega arith)) in
-      rw t
-      (record {
-        verdict-is = r .verdict-is; cut-is = refl; cut-at = refl;
-        six-is = rw (← r .verdict-is) (sym (has-value q (o′ .fmax) (o′ .kmax) h));
-        peak = λ e j. h;
-      })
+      rw t (record { verdict-is = r .verdict-is; cut-is = refl; cut-at = refl; six-is = rw (← r .verdict-is) (sym (has-value q (o′ .fmax) (o′ .kmax) h)); peak = λ e j. h })
   | inr h ↦
       let t : ltZ (o′ .kmax) (pos 0) ≡ true = rw (h .kmax-is) in
       rw t (record { verdict-is = r .verdict-is; cut-is = refl; cut-at = refl; six-is = rw (← r .verdict-is) (sym (h .nothing)); peak = λ e j. absurd (true≢false e) })
 ]
 optim-of-rule q o gamma n table o′ (Cut group beta) grad r =
-    record { verdict-is = r .verdict-is; cut-is = r .cut-is; cut-at = r .cut-at; six-is = rw (← r .verdict-is) (sym (ap (λ t. t && no-stop-value q) (cut-judgement group))); peak = λ e j. absurd (true≢false (sym (ap is-feasible (r .verdict-is ∙ j)) ∙ cut-judgement group)) }
+    record {
+      verdict-is = r .verdict-is;
+      cut-is = r .cut-is;
+      cut-at = r .cut-at;
+      six-is = rw (← r .verdict-is) (sym (ap (λ t. t && no-stop-value q) (cut-judgement group)));
+      peak = λ e j. absurd (true≢false (sym (ap is-feasible (r .verdict-is ∙ j)) ∙ cut-judgement group));
+    }
   where
     cut-judgement : (g : Group) → is-feasible (judgement (Cut g beta)) ≡ false
     cut-judgement (Pass row over) = refl
@@ -375,11 +268,21 @@ optim-rule o gamma n rows table x grad h =
 
 -- ---- wherever the cursors stand, and whatever idx, fmax, kmax and more_alt hold
 
+-- equal limits ask the same
 asked-same : (o o′ : LowpassOracle) (n rows : ℕ) (table x : List Float) → limits o ≡ limits o′ → asked o (o .«sp_sq») n rows table x ≡ asked o′ (o′ .«sp_sq») n rows table x
 asked-same o o′ n rows table x e = λ i. record {
-  n = n; rows = rows; nwpass = natAbs (e i .nwpass); nwstop = natAbs (e i .nwstop); lp-sq = e i .lp-sq; up-sq = e i .up-sq; sp-sq = e i .sp-sq; table = table; x = x;
+  n = n;
+  rows = rows;
+  nwpass = natAbs (e i .nwpass);
+  nwstop = natAbs (e i .nwstop);
+  lp-sq = e i .lp-sq;
+  up-sq = e i .up-sq;
+  sp-sq = e i .sp-sq;
+  table = table;
+  x = x;
 }
 
+-- two largest values of one point
 peak-same : (q : Question) (f : Float) (k : ℤ) (f′ : Float) (k′ : ℤ) → Peak q f k → Peak q f′ k′ → eq f f′ ≡ true
 unfolding eq
 peak-same q f k f′ k′ (inl h) (inl h′) =
@@ -389,6 +292,7 @@ peak-same q f k f′ k′ (inr h) (inl h′) = absurd (true≢false (sym (h .not
 peak-same q f k f′ k′ (inr h) (inr h′) = rw (h .fmax-is, h′ .fmax-is)
 
 module _ (o o′ : LowpassOracle) (n rows : ℕ) (table x grad grad′ : List Float) where
+  -- one verdict
   pub same-verdict : limits o ≡ limits o′ → is-accepted o n rows table x grad ≡ true → is-accepted o′ n rows table x grad′ ≡ true
       → judgement (assess-feas-answer o n rows table x grad .0 .verdict) ≡ judgement (assess-feas-answer o′ n rows table x grad′ .0 .verdict)
   same-verdict e a a′ = feas-rule o n rows table x grad a .verdict-is ∙ ap judge (asked-same o o′ n rows table x e) ∙ sym (feas-rule o′ n rows table x grad′ a′ .verdict-is)
@@ -472,8 +376,7 @@ module _ (o : LowpassOracle) (n rows : ℕ) (table x grad : List Float) (h : is-
   fits-again : (o′ : LowpassOracle) → bands-fit o′ rows ≡ true → isAt (o′ .rr1) ≡ true → isAt (o′ .rr2) ≡ true → isAt (o′ .rr3) ≡ true → is-accepted o′ n rows table x′ grad′ ≡ true
   fits-again o′ b a₁ a₂ a₃ =
       let a = accepted-of o n rows table x grad h in
-      let t = and-parts (eqb (length table) (rows * n)) (eqb (length x) n) (and-parts (table-fits n rows table x) (eqb (length grad) n) (a .long) .0) in
-      rw (a .dimension, t .0, eq-eqb (length x′) n hx, eq-eqb (length grad′) n hg, b, a₁, a₂, a₃)
+      rw (a .dimension, eq-eqb (length table) (rows * n) (a .table-long), eq-eqb (length x′) n hx, eq-eqb (length grad′) n hg, b, a₁, a₂, a₃)
 
   as-it-came-again : is-accepted o n rows table x′ grad′ ≡ true
   as-it-came-again =
@@ -508,3 +411,45 @@ optim-again o gamma n rows table x grad h x′ grad′ hx hg = go (is-refusal (a
         → is-accepted (assess-optim-answer o gamma n rows table x grad .0 .oracle) n rows table x′ grad′ ≡ true
     go true e = rw (optim-left o gamma n rows table x grad .as-it-came e) (as-it-came-again o n rows table x grad h x′ grad′ hx hg)
     go false e = rw (optim-left o gamma n rows table x grad .assessed e) (again (offered o gamma) n rows table x grad h x′ grad′ hx hg)
+
+-- ---- the gradient after an accepted call has n numbers
+
+row-length : (n rows : ℕ) (table : List Float) (row : ℕ) → length table ≡ rows * n → row < rows → length (rowOf n table row) ≡ n
+row-length n rows table row h l = length-take-le n (drop (row * n) table) (rw (length-drop (row * n) table) (omega (arith, row-in n row rows l)))
+
+cut-length : (n rows : ℕ) (table : List Float) (row : ℕ) (over : Bool) → length table ≡ rows * n → row < rows → length (band-gradient n table row over) ≡ n
+unfolding band-gradient pick
+cut-length n rows table row true h l = row-length n rows table row h l
+cut-length n rows table row false h l = length-map (rowOf n table row) neg ∙ row-length n rows table row h l
+
+module _ (o : LowpassOracle) (n rows : ℕ) (table x grad : List Float) (h : is-accepted o n rows table x grad ≡ true) where
+  pub gradient-length : length (assess-feas-answer o n rows table x grad .1) ≡ n
+  gradient-length =
+      let a = accepted-of o n rows table x grad h in
+      let F = fit o rows (a .bands) (a .cursors) in
+      rw (accepted-is o n rows table x grad h)
+      (assess-cases o n table x grad (λ r. length (r .1) ≡ n)
+      (λ row v over e. cut row over (band-found n table x (o .rr1) (o .«lp_sq») (At (o .«up_sq»)) 0 (natAbs (o .nwpass)) (F .pass-rows) row v over e .high) (F .pass-high))
+      (λ e₁ row v over e. cut row over (band-found n table x (o .rr3) 0ᶠ (At (o .«sp_sq»)) (natAbs (o .nwstop)) rows (F .stop-rows) row v over e .high) (le-refl rows))
+      (λ e₁ e₂ row v over e. cut row over (band-found n table x (o .rr2) 0ᶠ Absent (natAbs (o .nwpass)) (natAbs (o .nwstop)) (F .middle-rows) row v over e .high) (F .middle-high))
+      (λ e₁ e₂ e₃ e. length-set (replicate (length grad) 0ᶠ) 0 −1ᶠ ∙ length-replicate (length grad) 0ᶠ ∙ a .grad-long)
+      (λ e₁ e₂ e₃ e. a .grad-long))
+    where
+      cut : (row : ℕ) (over : Bool) {past : ℕ} → row < past → past ≤ rows → length (band-gradient n table row over) ≡ n
+      cut row over l m = cut-length n rows table row over (accepted-of o n rows table x grad h .table-long) (le-trans l m)
+
+pub optim-gradient-length : (o : LowpassOracle) (gamma : Float) (n rows : ℕ) (table x grad : List Float) → is-accepted o n rows table x grad ≡ true → length (assess-optim-answer o gamma n rows table x grad .1) ≡ n
+unfolding improvedOf
+optim-gradient-length o gamma n rows table x grad h =
+    let a = assess-feas-answer (offered o gamma) n rows table x grad in
+    go (a .0 .oracle) (a .0 .verdict) (a .1) (feas-rule (offered o gamma) n rows table x grad h) (gradient-length (offered o gamma) n rows table x grad h)
+  where
+    go : (o′ : LowpassOracle) (v : Verdict) (g : List Float) → FeasRule (asked o gamma n rows table x) (record { oracle = o′; verdict = v }) → length g ≡ n → length (optim-of o gamma n table o′ v g .1) ≡ n
+    go o′ Feasible g r e =
+        by-test (λ (r : AssessedOptim × List Float). length (r .1) ≡ n) (ltZ (o′ .kmax) (pos 0)) _ _ (λ t. e)
+        (λ t. elim (r .peak (sym (r .verdict-is))) [
+          | inl p ↦ rw (p .row-is) (row-length n rows table (p .row) (accepted-of o n rows table x grad h .table-long) (p .high))
+          | inr p ↦ absurd (true≢false (rw (p .kmax-is) at t))
+        ])
+    go o′ (Cut group beta) g r e = e
+    go o′ (Refused why) g r e = e

@@ -4,10 +4,10 @@ use mathlib.Core.Bool.{Bool, true, false, _&&_, _||_, and-eq-true-iff, true≢fa
 use Prim.Native.Nat.{ℕ, zero, suc, _+_, _≤_}
 use native.Mathlib.Omega.{arith}
 use borrow.Author.Tests.{leb-true, ltb-true, le-leb, lt-ltb, eqb-true, eq-eqb, ne-eqb}
-use lib.IntN.{ℤ, pos, negsuc, predℤ, sucℤ, _+ℤ_, +ℤ-one, suc-pred}
+use lib.IntN.{ℤ, pos, negsuc, predℤ, _+ℤ_, +ℤ-one, suc-pred}
 use lib.Signed.{leZ, ltZ}
-use Rattle.numbers.specs.Pick.{pick, hit, skip}
-use Rattle.oracles.specs.RoundRobin.{isBand, isAt, eqZ, moved, advanced, Legal}
+use Rattle.numbers.specs.Pick.{pick}
+use Rattle.oracles.specs.RoundRobin.{isBand, isAt, eqZ, advanced, Legal}
 use Rattle.oracles.specs.declared.round_robin.RoundRobin.{RoundRobin}
 
 -- the two parts of a test
@@ -50,13 +50,27 @@ legal-of c b a =
     go (pos f) (pos p) (negsuc (suc k)) el eh ec h₁ h₂ h₃ h₄ h₅ = absurd (true≢false (sym h₅ ∙ ap (leZ (pos f)) (+ℤ-one (negsuc (suc k)))))
     go (pos f) (pos p) (negsuc zero) el eh ec h₁ h₂ h₃ h₄ h₅ =
         record {
-          from = f; past = p; next = 0; lo-is = el; hi-is = eh; cur-is = ec;
-          above = leb-true f 0 h₅; below = omega arith; small = leb-true p 1024 h₃;
+          from = f;
+          past = p;
+          next = 0;
+          lo-is = el;
+          hi-is = eh;
+          cur-is = ec;
+          above = leb-true f 0 h₅;
+          below = omega arith;
+          small = leb-true p 1024 h₃;
         }
     go (pos f) (pos p) (pos k) el eh ec h₁ h₂ h₃ h₄ h₅ =
         record {
-          from = f; past = p; next = suc k; lo-is = el; hi-is = eh; cur-is = ec;
-          above = omega (arith, leb-true f (k + 1) h₅); below = ltb-true k p h₄; small = leb-true p 1024 h₃;
+          from = f;
+          past = p;
+          next = suc k;
+          lo-is = el;
+          hi-is = eh;
+          cur-is = ec;
+          above = omega (arith, leb-true f (k + 1) h₅);
+          below = ltb-true k p h₄;
+          small = leb-true p 1024 h₃;
         }
 
 -- the cursor of the band from .. past − 1 whose next row is k

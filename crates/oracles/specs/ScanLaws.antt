@@ -125,7 +125,7 @@ module _ (n : ℕ) (table x : List Float) (lower : Float) (upper : Upper) where
       → (isOver upper (val (o .row)) ≡ true → P (ended (o .row) (val (o .row)) true fmax kmax))
       → (isOver upper (val (o .row)) ≡ false → lt (val (o .row)) lower ≡ true → P (ended (o .row) (val (o .row)) false fmax kmax))
       → (isOver upper (val (o .row)) ≡ false → lt (val (o .row)) lower ≡ false
-          → P (scanFrom n table x lower upper left (canon from past (suc (o .row))) (best fmax (val (o .row))) (best-row fmax kmax (o .row) (val (o .row)))))
+      → P (scanFrom n table x lower upper left (canon from past (suc (o .row))) (best fmax (val (o .row))) (best-row fmax kmax (o .row) (val (o .row)))))
       → P (scanFrom n table x lower upper (suc left) (canon from past k) fmax kmax)
   unfolding scanFrom pick
   turn P left from past k fmax kmax o over under on = rw (o .goes) (go (isOver upper (val (o .row))) (lt (val (o .row)) lower) refl refl)
@@ -313,8 +313,15 @@ module _ (n : ℕ) (table x : List Float) (c : RoundRobin) (lower : Float) (uppe
     where
       l : Legal (moved c (scanOf n table x c lower upper .last))
       l = record {
-        from = L .from; past = L .past; next = scan-sound .next; lo-is = L .lo-is; hi-is = L .hi-is; cur-is = scan-sound .last-is;
-        above = scan-sound .above; below = scan-sound .below; small = L .small;
+        from = L .from;
+        past = L .past;
+        next = scan-sound .next;
+        lo-is = L .lo-is;
+        hi-is = L .hi-is;
+        cur-is = scan-sound .last-is;
+        above = scan-sound .above;
+        below = scan-sound .below;
+        small = L .small;
       }
 
   -- nothing is found: each row of the band has passed, and the largest value is that of all of them
