@@ -1,5 +1,5 @@
 -- The order of floats off NaN: `lt` is a strict weak order, and the values that it does not part are equal by `eq`. Assumes nothing.
-use mathlib.Core.Path.{_≡_, refl, sym, ap, _∙_}
+use mathlib.Core.Path.{_≡_, refl, sym}
 use mathlib.Core.Bool.{Bool, true, false, true≢false}
 use Prim.Native.Nat.{ℕ, _≤_, _<_, _+_, _*_}
 use native.Mathlib.Nat.{mul-le-mul-right, le-of-mul-le-mul-right, mul-right-comm, add-mul, zero-mul}

@@ -13,6 +13,8 @@ pub mod EllStable
 pub mod RoundRobinLaws
 pub mod FloatOrder
 pub mod ScanLaws
+pub mod AssessLaws
+pub mod CursorRule
 pub mod Known
 pub mod MatrixLaws
 pub mod LdltLaws

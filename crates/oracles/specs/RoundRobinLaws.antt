@@ -1,13 +1,13 @@
 -- Laws of the cursor. Assumes nothing.
 use mathlib.Core.Path.{_≡_, refl, sym, ap, _∙_}
 use mathlib.Core.Bool.{Bool, true, false, _&&_, _||_, and-eq-true-iff, true≢false}
-use Prim.Native.Nat.{ℕ, zero, suc, _≤_, _+_, _-_}
+use Prim.Native.Nat.{ℕ, zero, suc, _+_, _-_, _≤_}
 use native.Mathlib.Omega.{arith}
-use borrow.Author.Tests.{le-ltb, leb-true, ltb-true, le-leb, lt-ltb, eq-eqb, ne-eqb}
+use borrow.Author.Tests.{le-ltb, leb-true, ltb-true, le-leb, lt-ltb, eqb-true, eq-eqb, ne-eqb}
 use lib.IntN.{ℤ, pos, negsuc, predℤ, _+ℤ_, _-ℤ_, +ℤ-one, suc-pred}
 use lib.Signed.{leZ, ltZ}
-use Rattle.numbers.specs.Pick.{pick, hit, skip}
-use Rattle.oracles.specs.RoundRobin.{isBand, isAt, eqZ, moved, advanced, Legal}
+use Rattle.numbers.specs.Pick.{pick}
+use Rattle.oracles.specs.RoundRobin.{isBand, isAt, eqZ, advanced, Legal}
 use Rattle.oracles.specs.declared.round_robin.RoundRobin.{RoundRobin}
 
 -- the two parts of a test
@@ -29,6 +29,12 @@ eqZ-no (pos a) (negsuc b) h = refl
 eqZ-no (negsuc a) (pos b) h = refl
 eqZ-no (negsuc a) (negsuc b) h = ne-eqb a b (λ e. h (ap negsuc e))
 
+pub eqZ-true : (a b : ℤ) → eqZ a b ≡ true → a ≡ b
+eqZ-true (pos a) (pos b) e = ap pos (eqb-true a b e)
+eqZ-true (pos a) (negsuc b) e = absurd (true≢false (sym e))
+eqZ-true (negsuc a) (pos b) e = absurd (true≢false (sym e))
+eqZ-true (negsuc a) (negsuc b) e = ap negsuc (eqb-true a b e)
+
 -- the tests of a cursor make it legal
 pub legal-of : (c : RoundRobin) → isBand (c .lo) (c .hi) ≡ true → isAt c ≡ true → Legal c
 legal-of c b a =
@@ -44,13 +50,27 @@ legal-of c b a =
     go (pos f) (pos p) (negsuc (suc k)) el eh ec h₁ h₂ h₃ h₄ h₅ = absurd (true≢false (sym h₅ ∙ ap (leZ (pos f)) (+ℤ-one (negsuc (suc k)))))
     go (pos f) (pos p) (negsuc zero) el eh ec h₁ h₂ h₃ h₄ h₅ =
         record {
-          from = f; past = p; next = 0; lo-is = el; hi-is = eh; cur-is = ec;
-          above = leb-true f 0 h₅; below = omega arith; small = leb-true p 1024 h₃;
+          from = f;
+          past = p;
+          next = 0;
+          lo-is = el;
+          hi-is = eh;
+          cur-is = ec;
+          above = leb-true f 0 h₅;
+          below = omega arith;
+          small = leb-true p 1024 h₃;
         }
     go (pos f) (pos p) (pos k) el eh ec h₁ h₂ h₃ h₄ h₅ =
         record {
-          from = f; past = p; next = suc k; lo-is = el; hi-is = eh; cur-is = ec;
-          above = omega (arith, leb-true f (k + 1) h₅); below = ltb-true k p h₄; small = leb-true p 1024 h₃;
+          from = f;
+          past = p;
+          next = suc k;
+          lo-is = el;
+          hi-is = eh;
+          cur-is = ec;
+          above = omega (arith, leb-true f (k + 1) h₅);
+          below = ltb-true k p h₄;
+          small = leb-true p 1024 h₃;
         }
 
 -- the cursor of the band from .. past − 1 whose next row is k

@@ -66,11 +66,7 @@ some-row-holds f lo count i a b h = go (some-row f lo count) refl
 
 -- one for each row of the band
 pub band-count : (c : RoundRobin) (L : Legal c) → natAbs (c .hi -ℤ c .lo) ≡ L .past - L .from
-band-count c L = rw (L .lo-is, L .hi-is) (go (L .from) (omega arith))
-  where
-    go : (from : ℕ) → from ≤ L .past → natAbs (pos (L .past) -ℤ pos from) ≡ L .past - from
-    go zero h = omega arith
-    go (suc from) h = rw (le-ltb (L .past) (suc from) h)
+band-count c L = ap natAbs (band-is c L)
 
 -- row i is one of the next `left` rows from k on: before the band's end, or past it and so from the band's start on
 abbrev Seen : ℕ → ℕ → ℕ → ℕ → ℕ → Type 0
@@ -125,7 +121,7 @@ module _ (n : ℕ) (table x : List Float) (lower : Float) (upper : Upper) where
       → (isOver upper (val (o .row)) ≡ true → P (ended (o .row) (val (o .row)) true fmax kmax))
       → (isOver upper (val (o .row)) ≡ false → lt (val (o .row)) lower ≡ true → P (ended (o .row) (val (o .row)) false fmax kmax))
       → (isOver upper (val (o .row)) ≡ false → lt (val (o .row)) lower ≡ false
-          → P (scanFrom n table x lower upper left (canon from past (suc (o .row))) (best fmax (val (o .row))) (best-row fmax kmax (o .row) (val (o .row)))))
+      → P (scanFrom n table x lower upper left (canon from past (suc (o .row))) (best fmax (val (o .row))) (best-row fmax kmax (o .row) (val (o .row)))))
       → P (scanFrom n table x lower upper (suc left) (canon from past k) fmax kmax)
   unfolding scanFrom pick
   turn P left from past k fmax kmax o over under on = rw (o .goes) (go (isOver upper (val (o .row))) (lt (val (o .row)) lower) refl refl)
@@ -313,8 +309,15 @@ module _ (n : ℕ) (table x : List Float) (c : RoundRobin) (lower : Float) (uppe
     where
       l : Legal (moved c (scanOf n table x c lower upper .last))
       l = record {
-        from = L .from; past = L .past; next = scan-sound .next; lo-is = L .lo-is; hi-is = L .hi-is; cur-is = scan-sound .last-is;
-        above = scan-sound .above; below = scan-sound .below; small = L .small;
+        from = L .from;
+        past = L .past;
+        next = scan-sound .next;
+        lo-is = L .lo-is;
+        hi-is = L .hi-is;
+        cur-is = scan-sound .last-is;
+        above = scan-sound .above;
+        below = scan-sound .below;
+        small = L .small;
       }
 
   -- nothing is found: each row of the band has passed, and the largest value is that of all of them

@@ -12,6 +12,7 @@ use Rattle.numbers.specs.F64.{0ᶠ}
 use Rattle.numbers.specs.Pick.{pick}
 use Rattle.numbers.specs.Arr.{isDimension}
 use Rattle.numbers.specs.Refusal.{refusalNumber}
+use Rattle.oracles.specs.RoundRobin.{eqZ}
 use Rattle.oracles.specs.Scan.{−∞, none, valueOf, table-fits}
 use Rattle.oracles.specs.LowpassOracle.{bands-fit, cursors-fit}
 use Rattle.oracles.specs.declared.lowpass_oracle.LowpassOracle.{LowpassOracle}
@@ -74,6 +75,13 @@ judge q =
     (pick (some-row (middle-breaks q) (q .nwpass) (q .nwstop - q .nwpass)) middle
     (pick (sign-breaks q) sign feasible)))
 
+-- no row breaks and the sign holds: what feasible means, said of each row
+pub record Unbroken (q : Question) : Type 0 where
+  pub pass-rows : (i : ℕ) → i < q .nwpass → pass-breaks q i ≡ false
+  pub stop-rows : (i : ℕ) → q .nwstop ≤ i → i < q .rows → stop-breaks q i ≡ false
+  pub middle-rows : (i : ℕ) → q .nwpass ≤ i → i < q .nwstop → middle-breaks q i ≡ false
+  pub sign-holds : sign-breaks q ≡ false
+
 -- no stop value compares: the stop band is empty or all its values are NaN
 unfoldable pub no-stop-value : Question → Bool
 no-stop-value q = not (some-row (λ i. not (isNan (valueIn q i))) (q .nwstop) (q .rows - q .nwstop))
@@ -84,6 +92,17 @@ no-stop-value q = not (some-row (λ i. not (isNan (valueIn q i))) (q .nwstop) (q
 abbrev pub asked : LowpassOracle → Float → ℕ → ℕ → List Float → List Float → Question
 asked o sp n rows table x =
     record { n = n; rows = rows; nwpass = natAbs (o .nwpass); nwstop = natAbs (o .nwstop); lp-sq = o .«lp_sq»; up-sq = o .«up_sq»; sp-sq = sp; table = table; x = x }
+
+-- an oracle's bands and limits: all of it that a verdict may depend on
+pub record Limits : Type 0 where
+  pub nwpass : ℤ
+  pub nwstop : ℤ
+  pub lp-sq : Float
+  pub up-sq : Float
+  pub sp-sq : Float
+
+abbrev pub limits : LowpassOracle → Limits
+limits o = record { nwpass = o .nwpass; nwstop = o .nwstop; lp-sq = o .«lp_sq»; up-sq = o .«up_sq»; sp-sq = o .«sp_sq» }
 
 -- nothing is refused by 1 to 4
 abbrev pub is-accepted : LowpassOracle → ℕ → ℕ → List Float → List Float → List Float → Bool
@@ -109,6 +128,15 @@ cut-breaks q (Cut (Middle row) beta) = leb (q .nwpass) row && ltb row (q .nwstop
 cut-breaks q (Cut Sign beta) = sign-breaks q
 cut-breaks q (Refused why) = true
 
+-- whether a cut's row is where its group's scan has left the cursor
+abbrev pub cut-stands : LowpassOracle → Verdict → Bool
+cut-stands o Feasible = true
+cut-stands o (Cut (Pass row over) beta) = eqZ (o .rr1 .cur) (pos row)
+cut-stands o (Cut (Stop row over) beta) = eqZ (o .rr3 .cur) (pos row)
+cut-stands o (Cut (Middle row) beta) = eqZ (o .rr2 .cur) (pos row)
+cut-stands o (Cut Sign beta) = true
+cut-stands o (Refused why) = true
+
 -- fmax is the largest stop value that compares, and kmax a stop row that has it
 pub record Has (q : Question) (fmax : Float) (kmax : ℤ) : Type 0 where
   pub row : ℕ
@@ -132,13 +160,14 @@ Peak q fmax kmax = Has q fmax kmax ⊎ HasNone q fmax kmax
 pub record FeasRule (q : Question) (r : Assessed) : Type 0 where
   pub verdict-is : judgement (r .verdict) ≡ judge q
   pub cut-is : cut-breaks q (r .verdict) ≡ true
+  pub cut-at : cut-stands (r .oracle) (r .verdict) ≡ true
   pub peak : judge q ≡ feasible → Peak q (r .oracle .fmax) (r .oracle .kmax)
 
 -- `assess_optim`: refusal 6 counts as feasible
-abbrev pub optim-judgement : OptimVerdict → Judgement
-optim-judgement (Improved beta) = feasible
-optim-judgement (CutOptim group beta) = judgement (Cut group beta)
-optim-judgement (RefusedOptim why) = pick (eqb (refusalNumber why) 6) feasible refused
+abbrev pub as-feas : OptimVerdict → Verdict
+as-feas (Improved beta) = Feasible
+as-feas (CutOptim group beta) = Cut group beta
+as-feas (RefusedOptim why) = pick (eqb (refusalNumber why) 6) Feasible (Refused why)
 
 abbrev pub is-six : OptimVerdict → Bool
 is-six (Improved beta) = false
@@ -153,14 +182,10 @@ is-feasible middle = false
 is-feasible sign = false
 is-feasible refused = false
 
-abbrev pub optim-cut-breaks : Question → OptimVerdict → Bool
-optim-cut-breaks q (Improved beta) = true
-optim-cut-breaks q (CutOptim group beta) = cut-breaks q (Cut group beta)
-optim-cut-breaks q (RefusedOptim why) = true
-
 -- what `assess_optim` owes to a call that 1 to 4 do not refuse: 6 exactly where the point is feasible and no stop value compares
 pub record OptimRule (q : Question) (r : AssessedOptim) : Type 0 where
-  pub verdict-is : optim-judgement (r .verdict) ≡ judge q
-  pub cut-is : optim-cut-breaks q (r .verdict) ≡ true
+  pub verdict-is : judgement (as-feas (r .verdict)) ≡ judge q
+  pub cut-is : cut-breaks q (as-feas (r .verdict)) ≡ true
+  pub cut-at : cut-stands (r .oracle) (as-feas (r .verdict)) ≡ true
   pub six-is : is-six (r .verdict) ≡ (is-feasible (judge q) && no-stop-value q)
   pub peak : is-six (r .verdict) ≡ false → judge q ≡ feasible → Has q (r .oracle .fmax) (r .oracle .kmax)
