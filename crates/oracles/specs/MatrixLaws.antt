@@ -2,8 +2,9 @@
 use mathlib.Core.Path.{_≡_, refl, sym, ap, _∙_}
 use mathlib.Core.List.{List, [], _∷_}
 use mathlib.Core.Logic.{⊎-elim}
-use Prim.Native.Nat.{ℕ, zero, suc, _≤_, _<_, _+_, _*_}
-use native.Mathlib.Nat.{le-of-suc-le-suc, eq-or-lt-of-le, suc-mul, zero-mul}
+use Prim.Native.Nat.{ℕ, zero, suc, _≤_, _<_, _+_, _-_, _*_}
+use native.Mathlib.Nat.{le-of-suc-le-suc, eq-or-lt-of-le, suc-mul, zero-mul, mul-le-mul}
+use native.Mathlib.Numerals.{add-one}
 use native.Mathlib.Omega.{arith}
 use lib.Ieee.{Float, nan}
 use lib.ListN.{length, take, drop, set, length-append, length-drop, List·getD-append}
@@ -94,3 +95,52 @@ pub total-cong : (op : Float → Float → Float) (s : Float) (f g : ℕ → Flo
 unfolding total
 total-cong op s f g zero h = refl
 total-cong op s f g (suc k) h = rw (total-cong op s f g k (λ j l. h j (omega arith)), h k (omega arith))
+
+-- ---- a loop that takes f 0, f 1, .. f (n − 1) into a sum: `s` when i are taken
+
+pub record SummedTo (op : Float → Float → Float) (s₀ : Float) (f : ℕ → Float) (n : ℕ) (s : Float) (i : ℕ) : Type 0 where
+  pub within : i ≤ n
+  pub is : s ≡ total op s₀ f i
+
+module _ (op : Float → Float → Float) (s₀ : Float) (f : ℕ → Float) (n : ℕ) where
+  pub summed-start : SummedTo op s₀ f n s₀ 0
+  unfolding total
+  summed-start = record { within = omega arith; is = refl }
+
+  pub summed-turn : (s : Float) (i : ℕ) (v : Float) → SummedTo op s₀ f n s i → i < n → v ≡ f i → SummedTo op s₀ f n (op s v) (i + 1)
+  unfolding total
+  summed-turn s i v h l e = record { within = omega arith; is = rw (add-one, h .is, e) }
+
+  pub summed-done : (s : Float) (i : ℕ) → SummedTo op s₀ f n s i → n ≤ i → s ≡ total op s₀ f n
+  summed-done s i h l = let q : i ≡ n = omega (arith, h .within) in h .is ∙ rw q
+
+-- the same where the counter k runs from `from` to `end`
+pub record SummedFrom (op : Float → Float → Float) (s₀ : Float) (f : ℕ → Float) (from end : ℕ) (s : Float) (k : ℕ) : Type 0 where
+  pub begun : from ≤ k
+  pub within : k ≤ end
+  pub sum : SummedTo op s₀ (λ j. f (from + j)) (end - from) s (k - from)
+
+module _ (op : Float → Float → Float) (s₀ : Float) (f : ℕ → Float) (from end : ℕ) where
+  pub from-start : from ≤ end → SummedFrom op s₀ f from end s₀ from
+  from-start h =
+      let q : from - from ≡ 0 = omega arith in
+      record { begun = omega arith; within = h; sum = rw q (summed-start op s₀ (λ j. f (from + j)) (end - from)) }
+
+  pub from-turn : (s : Float) (k : ℕ) (v : Float) → SummedFrom op s₀ f from end s k → k < end → v ≡ f k → SummedFrom op s₀ f from end (op s v) (k + 1)
+  from-turn s k v h l e =
+      let b = h .begun in
+      let q : k + 1 - from ≡ k - from + 1 = omega arith in
+      let p : from + (k - from) ≡ k = omega arith in
+      record {
+        begun = omega arith;
+        within = omega arith;
+        sum = rw q (summed-turn op s₀ (λ j. f (from + j)) (end - from) s (k - from) v (h .sum) (omega arith) (rw p e));
+      }
+
+  pub from-done : (s : Float) (k : ℕ) → SummedFrom op s₀ f from end s k → end ≤ k → s ≡ total op s₀ (λ j. f (from + j)) (end - from)
+  from-done s k h l = summed-done op s₀ (λ j. f (from + j)) (end - from) s (k - from) (h .sum) (omega arith)
+
+-- ---- places of a matrix of order 32 at most, which fit a usize
+
+pub row-small : (m i : ℕ) → m ≤ 32 → i < m → i * m + m ≤ 1024
+row-small m i h k = omega (arith, row-in m i m k, mul-le-mul h h)
