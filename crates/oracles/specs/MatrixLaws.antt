@@ -1,14 +1,14 @@
 -- Laws of matrices over flat lists and of sums, for the proofs here and in the crate above. Assumes nothing.
 use mathlib.Core.Path.{_≡_, refl, sym, ap, _∙_}
-use mathlib.Core.List.{List, [], _∷_}
+use mathlib.Core.List.{List, [], _∷_, _++_, append-assoc}
 use mathlib.Core.Logic.{⊎-elim}
 use Prim.Native.Nat.{ℕ, zero, suc, _≤_, _<_, _+_, _-_, _*_}
 use native.Mathlib.Nat.{le-of-suc-le-suc, eq-or-lt-of-le, suc-mul, zero-mul, mul-le-mul}
 use native.Mathlib.Numerals.{add-one}
 use native.Mathlib.Omega.{arith}
 use lib.Ieee.{Float, nan}
-use lib.ListN.{length, take, drop, set, length-append, length-drop, List·getD-append}
-use lib.Seq.{getD-at, getD-append-add, getD-set-same, getD-set-other, getD-take, getD-drop, ext-getD, take-add, take-all, length-take-le}
+use lib.ListN.{length, take, drop, getD, set, length-append, length-drop, List·getD-append}
+use lib.Seq.{take-suc, append-snoc, set-at, getD-at, getD-append-add, getD-set-same, getD-set-other, getD-take, getD-drop, ext-getD, take-add, take-all, length-take-le}
 use Rattle.numbers.specs.Arr.{tab}
 use Rattle.numbers.specs.ArrLaws.{length-tab, row-in, row-unique}
 use Rattle.oracles.specs.Matrix.{entry, at, grid, total}
@@ -144,3 +144,17 @@ module _ (op : Float → Float → Float) (s₀ : Float) (f : ℕ → Float) (fr
 
 pub row-small : (m i : ℕ) → m ≤ 32 → i < m → i * m + m ≤ 1024
 row-small m i h k = omega (arith, row-in m i m k, mul-le-mul h h)
+
+-- ---- a vector in three parts
+
+-- an entry of the middle one
+pub entry-mid : (xs ys zs : List Float) (i j : ℕ) → length xs ≡ i → j < length ys → entry (xs ++ ys ++ zs) (i + j) ≡ entry ys j
+entry-mid xs ys zs i j e h =
+    rw (← e)
+    (List·getD-append (xs ++ ys) zs nan (length xs + j) (rw (length-append xs ys) (omega arith)) ∙ getD-append-add xs ys j nan)
+
+-- the last entry of the front, set, goes to the middle one
+pub set-last : (xs : List Float) (i : ℕ) (v : Float) (ys zs : List Float) → i < length xs → set (take (suc i) xs ++ ys ++ zs) i v ≡ take i xs ++ (v ∷ ys) ++ zs
+set-last xs i v ys zs h =
+    rw (take-suc xs i nan h, append-snoc (take i xs) (getD xs i nan) ys, append-assoc, append-assoc)
+    (set-at (take i xs) (getD xs i nan) (ys ++ zs) v i (length-take-le i xs (omega arith)))
