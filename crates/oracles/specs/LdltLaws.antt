@@ -51,15 +51,6 @@ module _ (m : ℕ) (r : Bool) (e : r ≡ isOrder m) where
     unfolding order-tested
     accepted t f = skip _ _ _ _ (ap not (an-order t)) (skip _ _ _ _ (ap not f) refl)
 
--- what the code has of `s && t`: the test t where s holds, else s
-pub joined {ℓ ℓ′} : {A : Type ℓ} {B : Type ℓ′} (s t r : Bool) → (A → s ≡ true) → (B → s ≡ false) → (A × (r ≡ t)) ⊎ (B × (r ≡ s)) → r ≡ (s && t)
-joined s t r f g (inl x) = rw (f (x .0)) (x .1)
-joined s t r f g (inr x) = rw (g (x .0)) (x .1 ∙ g (x .0))
-
--- both hold where the code goes on
-pub held : (s t r : Bool) → r ≡ (s && t) → not r ≡ false → (s ≡ true) × (t ≡ true)
-held s t r e h = and-eq-true-iff s t .0 (sym e ∙ not-false r h)
-
 -- ---- the entry
 
 -- the slices that `get_elem` reads

@@ -158,7 +158,10 @@ pub fn witness(m: usize, pos: Pos, storage: &[f64], wit: &mut [f64]) -> Number
     if wit.len() != m {
         return Number::Refused(Refusal::Length);
     }
-    if !(pos.start < pos.end && pos.end <= m) {
+    if pos.start >= pos.end {
+        return Number::Refused(Refusal::Position);
+    }
+    if pos.end > m {
         return Number::Refused(Refusal::Position);
     }
     witness_into(m, pos, storage, wit);
@@ -206,7 +209,10 @@ pub fn sym_quad(m: usize, pos: Pos, wit: &[f64], mat: &[f64]) -> Number
     if mat.len() != m * m {
         return Number::Refused(Refusal::Length);
     }
-    if !(pos.start <= pos.end && pos.end <= m) {
+    if pos.start > pos.end {
+        return Number::Refused(Refusal::Position);
+    }
+    if pos.end > m {
         return Number::Refused(Refusal::Position);
     }
     Number::Value(quad(m, pos, wit, mat))
