@@ -1,22 +1,22 @@
 -- Laws of the definitions of LdltMgr. Assumes nothing.
-use Prim.Native.Nat.{ℕ, zero, suc, _<_, _≤_, _+_, _-_, _*_}
-use native.Mathlib.Nat.{mul-le-mul}
+use Prim.Native.Nat.{ℕ, zero, suc, _<_, _≤_, _+_, _-_, _*_, suc-le-suc}
+use native.Mathlib.Nat.{mul-le-mul, le-of-suc-le-suc, eq-or-lt-of-le}
 use native.Mathlib.Numerals.{add-one}
 use native.Mathlib.Omega.{arith}
 use mathlib.Core.Path.{_≡_, refl, sym, ap, _∙_}
 use mathlib.Core.Bool.{Bool, true, false, not, _&&_, and-eq-true-iff}
-use mathlib.Core.Logic.{_⊎_, inl, inr}
+use mathlib.Core.Logic.{_⊎_, inl, inr, ⊎-elim}
 use mathlib.Core.List.{List, [], _∷_, _++_}
-use borrow.Author.Tests.{not-true, not-false, leb-true}
-use lib.Dec.{leb}
+use borrow.Author.Tests.{not-true, not-false, leb-true, ltb-true, ltb-false, lt-ltb, le-ltb}
+use lib.Dec.{leb, ltb}
 use lib.ListN.{length, take, drop, set, length-set}
 use lib.Seq.{append-snoc, split-at, getD-set-same, take-set-le, drop-set-lt, length-take-le}
 use lib.Ieee.{Float, nan, neg}
-use Rattle.numbers.specs.F64.{_⊕_, _⊗_, 0ᶠ, 1ᶠ}
+use Rattle.numbers.specs.F64.{_⊕_, _⊖_, _⊗_, _⊘_, 0ᶠ, 1ᶠ}
 use Rattle.numbers.specs.Pick.{hit, skip}
 use Rattle.oracles.specs.Matrix.{entry, at, total}
-use Rattle.oracles.specs.LdltMgr.{isOrder, stored, order-tested, witness-tail, witnessOf}
-use Rattle.oracles.specs.MatrixLaws.{place-in, total-cong, entry-mid, set-last}
+use Rattle.oracles.specs.LdltMgr.{isOrder, get-elem, taken, reduced, stored, stops, stop-from, stopOf, filled, rowsOf, order-tested, witness-tail, witnessOf}
+use Rattle.oracles.specs.MatrixLaws.{place-in, at-set-same, at-set-other, length-grid, grid-at, grid-ext, total-cong, entry-mid, set-last}
 
 -- ---- the tests of a call
 
@@ -68,9 +68,214 @@ module _ (m : ℕ) (mat-b mat-f xc : List Float) (h : LmiReads m mat-b mat-f xc)
   pub small-f : k * (m * m) + (i * m + j) < 32768
   small-f = omega (arith, place-f, h .long-f, mul-le-mul (h .few) (mul-le-mul (h .order) (h .order)))
 
+-- ---- the factors
+
+module _ (A : ℕ → ℕ → Float) where
+  -- the storage's entries by their place
+  stored-low : (r c : ℕ) → c < r → stored A r c ≡ reduced A r c ⊘ reduced A c c
+  unfolding stored
+  stored-low r c h = sym (hit (ltb c r) _ _ _ (lt-ltb c r h) refl)
+
+  stored-high : (r c : ℕ) → r ≤ c → stored A r c ≡ reduced A c r
+  unfolding stored
+  stored-high r c h = sym (skip (ltb c r) _ _ _ (le-ltb c r h) refl)
+
+  -- what the columns before have taken is a sum
+  taken-total : (i c n : ℕ) → taken A i c n ≡ total _⊕_ 0ᶠ (λ k. reduced A i k ⊘ reduced A k k ⊗ reduced A c k) n
+  unfolding taken reduced total
+  taken-total i c zero = refl
+  taken-total i c (suc k) = ap (λ (s : Float). s ⊕ reduced A i k ⊘ reduced A k k ⊗ reduced A c k) (taken-total i c k)
+
+-- the storage with the rows and columns below k written: these are the factors', and the rest is as it was
+front : (r c k : ℕ) → ((r < k) × (c < k)) ⊎ (r < k → c < k → ⊥)
+front r c k = go (ltb r k) (ltb c k) refl refl
+  where
+    go : (s t : Bool) → ltb r k ≡ s → ltb c k ≡ t → ((r < k) × (c < k)) ⊎ (r < k → c < k → ⊥)
+    go true true x y = inl (ltb-true r k x, ltb-true c k y)
+    go true false x y = inr (λ u v. omega (arith, ltb-false c k y))
+    go false t x y = inr (λ u v. omega (arith, ltb-false r k x))
+
+outside : (r c k : ℕ) → (r < k → c < k → ⊥) → (ltb r k && ltb c k) ≡ false
+outside r c k apart = go (ltb r k) (ltb c k) refl refl
+  where
+    go : (s t : Bool) → ltb r k ≡ s → ltb c k ≡ t → (ltb r k && ltb c k) ≡ false
+    go true true x y = absurd (apart (ltb-true r k x) (ltb-true c k y))
+    go true false x y = rw (x, y)
+    go false t x y = rw x
+
+module _ (A : ℕ → ℕ → Float) (m : ℕ) (storage : List Float) (k : ℕ) where
+  pub length-filled : length (filled A m storage k) ≡ m * m
+  unfolding filled
+  length-filled = length-grid _ m m
+
+  pub filled-in : (r c : ℕ) → r < m → c < m → r < k → c < k → at m (filled A m storage k) r c ≡ stored A r c
+  unfolding filled
+  filled-in r c a b x y = grid-at _ m m r c a b ∙ sym (hit _ _ _ _ (rw (lt-ltb r k x, lt-ltb c k y)) refl)
+
+  pub filled-out : (r c : ℕ) → r < m → c < m → (r < k → c < k → ⊥) → at m (filled A m storage k) r c ≡ at m storage r c
+  unfolding filled
+  filled-out r c a b apart = grid-at _ m m r c a b ∙ sym (skip _ _ _ _ (outside r c k apart) refl)
+
+  -- a list that has these entries is that storage
+  pub filled-ext : (mat : List Float) → length mat ≡ m * m → ((r c : ℕ) → r < m → c < m → r < k → c < k → at m mat r c ≡ stored A r c)
+      → ((r c : ℕ) → r < m → c < m → (r < k → c < k → ⊥) → at m mat r c ≡ at m storage r c) → mat ≡ filled A m storage k
+  unfolding filled
+  filled-ext mat l f g =
+      grid-ext _ m m mat l
+      (λ r c a b.
+      ⊎-elim
+      (λ (x : (r < k) × (c < k)). hit _ _ _ _ (rw (lt-ltb r k (x .0), lt-ltb c k (x .1))) (f r c a b (x .0) (x .1)))
+      (λ (x : r < k → c < k → ⊥). skip _ _ _ _ (outside r c k x) (g r c a b x))
+      (front r c k))
+
+pub filled-zero : (A : ℕ → ℕ → Float) (m : ℕ) (storage : List Float) → length storage ≡ m * m → storage ≡ filled A m storage 0
+filled-zero A m storage l = filled-ext A m storage 0 storage l (λ r c a b x y. absurd (omega (arith, x))) (λ r c a b x. refl)
+
+-- one row more
+pub filled-suc : (A : ℕ → ℕ → Float) (m : ℕ) (storage : List Float) (i : ℕ) → filled A m (filled A m storage i) (suc i) ≡ filled A m storage (suc i)
+filled-suc A m storage i =
+    let before = filled A m storage i in
+    filled-ext A m storage (suc i) (filled A m before (suc i)) (length-filled A m before (suc i))
+    (filled-in A m before (suc i))
+    (λ r c a b x. filled-out A m before (suc i) r c a b x ∙ filled-out A m storage i r c a b (λ u v. x (omega arith) (omega arith)))
+
 -- the rows and columns below i of the storage are the factors'
 pub record FactoredTo (A : ℕ → ℕ → Float) (m : ℕ) (storage : List Float) (i : ℕ) : Type 0 where
   pub is : (r c : ℕ) → r < i → c < i → at m storage r c ≡ stored A r c
+
+-- the loop of row i: `storage₀` before, `storage` and `diag` when its columns below j, and the rows below j of column i, are written
+pub record RowTo (A : ℕ → ℕ → Float) (m : ℕ) (storage₀ : List Float) (i : ℕ) (storage : List Float) (diag : Float) (j : ℕ) : Type 0 where
+  pub within : j ≤ i
+  pub long : length storage ≡ length storage₀
+  pub pivot : diag ≡ reduced A i j
+  pub factored : FactoredTo A m storage i
+  pub row : (k : ℕ) → k < j → at m storage i k ≡ stored A i k
+  pub column : (k : ℕ) → k < j → at m storage k i ≡ stored A k i
+  pub rest : (r c : ℕ) → c < m → (r ≤ i → c ≤ i → ⊥) → at m storage r c ≡ at m storage₀ r c
+
+pub row-start : (A : ℕ → ℕ → Float) (m : ℕ) (storage : List Float) (i : ℕ) (diag : Float) → FactoredTo A m storage i → diag ≡ A i 0 → RowTo A m storage i storage diag 0
+unfolding reduced
+row-start A m storage i diag h e = record {
+  within = omega arith;
+  long = refl;
+  pivot = e;
+  factored = h;
+  row = λ k l. absurd (omega (arith, l));
+  column = λ k l. absurd (omega (arith, l));
+  rest = λ r c l apart. refl;
+}
+
+-- one column more: diag is kept at (j, i), and divided by the pivot p of column j at (i, j)
+abbrev kept : ℕ → List Float → ℕ → Float → ℕ → List Float
+kept m storage i diag j = set storage (j * m + i) diag
+
+abbrev both : ℕ → List Float → ℕ → Float → ℕ → Float → List Float
+both m storage i diag j p = set (kept m storage i diag j) (i * m + j) (diag ⊘ p)
+
+module _ (A : ℕ → ℕ → Float) (m : ℕ) (storage₀ : List Float) (i : ℕ) (storage : List Float) (diag : Float) (j : ℕ) (p : Float)
+    (h : RowTo A m storage₀ i storage diag j) (l : j < i) (a : i < m) (b : length storage₀ ≡ m * m) (e : p ≡ at m (kept m storage i diag j) j j) where
+  others : (r c : ℕ) → c < m → (r ≡ i → c ≡ j → ⊥) → (r ≡ j → c ≡ i → ⊥) → at m (both m storage i diag j p) r c ≡ at m storage r c
+  others r c k x y =
+      at-set-other m (kept m storage i diag j) i j r c (diag ⊘ p) (omega arith) k x
+      ∙ at-set-other m storage j i r c diag a k y
+
+  divisor : p ≡ reduced A j j
+  divisor =
+      e ∙ at-set-other m storage j i j j diag a (omega arith) (λ x y. absurd (omega (arith, y)))
+      ∙ h .factored .is j j l l ∙ stored-high A j j (omega arith)
+
+  new-row : at m (both m storage i diag j p) i j ≡ stored A i j
+  new-row =
+      at-set-same m (kept m storage i diag j) i j (diag ⊘ p) (rw (length-set storage (j * m + i) diag, h .long, b) (place-in m m i j a (omega arith)))
+      ∙ rw (h .pivot, divisor) (sym (stored-low A i j l))
+
+  new-column : at m (both m storage i diag j p) j i ≡ stored A j i
+  new-column =
+      at-set-other m (kept m storage i diag j) i j j i (diag ⊘ p) (omega arith) a (λ x y. absurd (omega (arith, x)))
+      ∙ at-set-same m storage j i diag (rw (h .long, b) (place-in m m j i (omega arith) a))
+      ∙ h .pivot ∙ sym (stored-high A j i (omega arith))
+
+  row-next : (k : ℕ) → k < j + 1 → at m (both m storage i diag j p) i k ≡ stored A i k
+  row-next k g =
+      ⊎-elim
+      (λ (x : k ≡ j). rw x new-row)
+      (λ (x : k < j). others i k (omega arith) (λ u v. omega (arith, v)) (λ u v. omega (arith, u)) ∙ h .row k x)
+      (eq-or-lt-of-le (le-of-suc-le-suc (rw add-one at g)))
+
+  column-next : (k : ℕ) → k < j + 1 → at m (both m storage i diag j p) k i ≡ stored A k i
+  column-next k g =
+      ⊎-elim
+      (λ (x : k ≡ j). rw x new-column)
+      (λ (x : k < j). others k i a (λ u v. omega (arith, v)) (λ u v. omega (arith, u)) ∙ h .column k x)
+      (eq-or-lt-of-le (le-of-suc-le-suc (rw add-one at g)))
+
+  factored-next : FactoredTo A m (both m storage i diag j p) i
+  factored-next = record {
+    is = λ r c x y. others r c (omega arith) (λ u v. omega (arith, u)) (λ u v. omega (arith, v)) ∙ h .factored .is r c x y;
+  }
+
+  -- column j + 1 of the rows above it
+  above : (k : ℕ) → k < j + 1 → at m (both m storage i diag j p) k (j + 1) ≡ reduced A (suc j) k
+  above k g =
+      ⊎-elim
+      (λ (x : suc j ≡ i). rw (add-one, x) (column-next k g ∙ stored-high A k i (omega arith)))
+      (λ (x : suc j < i). rw add-one (factored-next .is k (suc j) (omega arith) x ∙ stored-high A k (suc j) (omega arith)))
+      (eq-or-lt-of-le l)
+
+  sum-next : total _⊕_ 0ᶠ (λ k. at m (both m storage i diag j p) i k ⊗ at m (both m storage i diag j p) k (j + 1)) (j + 1) ≡ taken A i (suc j) (suc j)
+  sum-next =
+      total-cong _⊕_ 0ᶠ _ (λ k. reduced A i k ⊘ reduced A k k ⊗ reduced A (suc j) k) (j + 1)
+      (λ k g. rw (row-next k g, stored-low A i k (omega arith), above k g))
+      ∙ rw add-one (sym (taken-total A i (suc j) (suc j)))
+
+  pub row-turn : (d : Float)
+      → d ≡ A i (j + 1) ⊖ total _⊕_ 0ᶠ (λ k. at m (both m storage i diag j p) i k ⊗ at m (both m storage i diag j p) k (j + 1)) (j + 1)
+      → RowTo A m storage₀ i (both m storage i diag j p) d (j + 1)
+  unfolding reduced
+  row-turn d f = record {
+    within = omega arith;
+    long = simp length-set (h .long);
+    pivot = f ∙ rw (sum-next, add-one);
+    factored = factored-next;
+    row = row-next;
+    column = column-next;
+    rest = λ r c k apart. others r c k (λ u v. apart (omega arith) (omega arith)) (λ u v. apart (omega arith) (omega arith)) ∙ h .rest r c k apart;
+  }
+
+-- the pivot closes the row
+module _ (A : ℕ → ℕ → Float) (m : ℕ) (storage₀ : List Float) (i : ℕ) (storage : List Float) (diag : Float) (j : ℕ)
+    (h : RowTo A m storage₀ i storage diag j) (l : i ≤ j) (a : i < m) (b : length storage₀ ≡ m * m) where
+  pub pivot-done : diag ≡ reduced A i i
+  pivot-done = let q : j ≡ i = omega (arith, h .within) in h .pivot ∙ rw q
+
+  same : at m (set storage (i * m + i) diag) i i ≡ stored A i i
+  same =
+      at-set-same m storage i i diag (rw (h .long, b) (place-in m m i i a a))
+      ∙ pivot-done ∙ sym (stored-high A i i (omega arith))
+
+  other : (r c : ℕ) → c < m → (r ≡ i → c ≡ i → ⊥) → at m (set storage (i * m + i) diag) r c ≡ at m storage r c
+  other r c k x = at-set-other m storage i i r c diag a k x
+
+  inside : (r c : ℕ) → c < m → r < suc i → c < suc i → at m (set storage (i * m + i) diag) r c ≡ stored A r c
+  inside r c k x y =
+      ⊎-elim
+      (λ (e : r ≡ i).
+      ⊎-elim
+      (λ (f : c ≡ i). rw (e, f) same)
+      (λ (f : c < i). rw e (other i c k (λ u v. omega (arith, v)) ∙ h .row c (omega arith)))
+      (eq-or-lt-of-le (le-of-suc-le-suc y)))
+      (λ (e : r < i).
+      ⊎-elim
+      (λ (f : c ≡ i). rw f (other r i a (λ u v. omega (arith, u)) ∙ h .column r (omega arith)))
+      (λ (f : c < i). other r c k (λ u v. omega (arith, u)) ∙ h .factored .is r c e f)
+      (eq-or-lt-of-le (le-of-suc-le-suc y)))
+      (eq-or-lt-of-le (le-of-suc-le-suc x))
+
+  pub row-done : set storage (i * m + i) diag ≡ filled A m storage₀ (suc i)
+  row-done =
+      filled-ext A m storage₀ (suc i) (set storage (i * m + i) diag) (length-set storage (i * m + i) diag ∙ h .long ∙ b)
+      (λ r c x y u v. inside r c y u v)
+      (λ r c x y apart. other r c y (λ u v. apart (omega arith) (omega arith)) ∙ h .rest r c y (λ u v. apart (suc-le-suc u) (suc-le-suc v)))
 
 -- ---- the witness
 
