@@ -1,19 +1,19 @@
 -- Laws of the definitions of LdltMgr. Assumes nothing.
 use Prim.Native.Nat.{ℕ, zero, suc, _<_, _≤_, _+_, _-_, _*_, suc-le-suc}
-use native.Mathlib.Nat.{mul-le-mul, le-of-suc-le-suc, eq-or-lt-of-le}
+use native.Mathlib.Nat.{mul-le-mul, sub-zero, le-of-suc-le-suc, eq-or-lt-of-le}
 use native.Mathlib.Numerals.{add-one}
 use native.Mathlib.Omega.{arith}
 use mathlib.Core.Path.{_≡_, refl, sym, ap, _∙_}
 use mathlib.Core.Bool.{Bool, true, false, not, _&&_, and-eq-true-iff}
 use mathlib.Core.Logic.{_⊎_, inl, inr, ⊎-elim}
 use mathlib.Core.List.{List, [], _∷_, _++_}
-use borrow.Author.Tests.{not-true, not-false, leb-true, ltb-true, ltb-false, lt-ltb, le-ltb}
-use lib.Dec.{leb, ltb}
+use borrow.Author.Tests.{not-true, not-false, leb-true, ltb-true, ltb-false, lt-ltb, le-ltb, eq-eqb, ne-eqb}
+use lib.Dec.{leb, ltb, eqb}
 use lib.ListN.{length, take, drop, set, length-set}
 use lib.Seq.{append-snoc, split-at, getD-set-same, take-set-le, drop-set-lt, length-take-le}
 use lib.Ieee.{Float, nan, neg}
 use Rattle.numbers.specs.F64.{_⊕_, _⊖_, _⊗_, _⊘_, 0ᶠ, 1ᶠ}
-use Rattle.numbers.specs.Pick.{hit, skip}
+use Rattle.numbers.specs.Pick.{pick, hit, skip}
 use Rattle.oracles.specs.Matrix.{entry, at, total}
 use Rattle.oracles.specs.LdltMgr.{isOrder, get-elem, taken, reduced, stored, stops, stop-from, stopOf, filled, rowsOf, order-tested, witness-tail, witnessOf}
 use Rattle.oracles.specs.MatrixLaws.{place-in, at-set-same, at-set-other, length-grid, grid-at, grid-ext, total-cong, entry-mid, set-last}
@@ -276,6 +276,120 @@ module _ (A : ℕ → ℕ → Float) (m : ℕ) (storage₀ : List Float) (i : �
       filled-ext A m storage₀ (suc i) (set storage (i * m + i) diag) (length-set storage (i * m + i) diag ∙ h .long ∙ b)
       (λ r c x y u v. inside r c y u v)
       (λ r c x y apart. other r c y (λ u v. apart (omega arith) (omega arith)) ∙ h .rest r c y (λ u v. apart (suc-le-suc u) (suc-le-suc v)))
+
+-- ---- the stop
+
+module _ (A : ℕ → ℕ → Float) where
+  -- at row i, and after it
+  stop-here : (left i : ℕ) → stops (reduced A i i) ≡ true → stop-from A (suc left) i ≡ suc i
+  unfolding stop-from
+  stop-here left i h = sym (hit _ _ _ _ h refl)
+
+  stop-later : (left i : ℕ) → stops (reduced A i i) ≡ false → stop-from A (suc left) i ≡ stop-from A left (suc i)
+  unfolding stop-from
+  stop-later left i h = sym (skip _ _ _ _ h refl)
+
+  -- the stop is one more than the first row whose pivot stops it
+  pub record FirstFrom (left s e : ℕ) : Type 0 where
+    pub from : s ≤ e
+    pub within : e < s + left
+    pub stopped : stops (reduced A e e) ≡ true
+    pub passed : (k : ℕ) → s ≤ k → k < e → stops (reduced A k k) ≡ false
+
+  first-from : (left s e : ℕ) → stop-from A left s ≡ suc e → FirstFrom left s e
+  unfolding stop-from
+  first-from zero s e h = absurd (omega (arith, h))
+  first-from (suc left) s e h = go (stops (reduced A s s)) refl (first-from left (suc s) e)
+    where
+      go : (t : Bool) → stops (reduced A s s) ≡ t → (stop-from A left (suc s) ≡ suc e → FirstFrom left (suc s) e) → FirstFrom (suc left) s e
+      go true x later =
+          let q : s ≡ e = omega (arith, sym (stop-here left s x) ∙ h) in
+          record { from = omega arith; within = omega arith; stopped = rw (← q) x; passed = λ k a b. absurd (omega arith) }
+      go false x later =
+          let r = later (sym (stop-later left s x) ∙ h) in
+          record {
+            from = omega (arith, r .from);
+            within = omega (arith, r .within);
+            stopped = r .stopped;
+            passed = λ k a b. ⊎-elim (λ (y : s ≡ k). rw (← y) x) (λ (y : s < k). r .passed k y b) (eq-or-lt-of-le a);
+          }
+
+  none-from : (left s : ℕ) → stop-from A left s ≡ 0 → (k : ℕ) → s ≤ k → k < s + left → stops (reduced A k k) ≡ false
+  none-from zero s h k a b = absurd (omega arith)
+  none-from (suc left) s h k a b = go (stops (reduced A s s)) refl (λ x y. none-from left (suc s) x k y (omega arith))
+    where
+      go : (t : Bool) → stops (reduced A s s) ≡ t → (stop-from A left (suc s) ≡ 0 → s < k → stops (reduced A k k) ≡ false) → stops (reduced A k k) ≡ false
+      go true x later = absurd (omega (arith, sym (stop-here left s x) ∙ h))
+      go false x later =
+          ⊎-elim
+          (λ (y : s ≡ k). rw (← y) x)
+          (λ (y : s < k). later (sym (stop-later left s x) ∙ h) y)
+          (eq-or-lt-of-le a)
+
+  pub stop-first : (m e : ℕ) → stopOf A m ≡ suc e → FirstFrom m 0 e
+  unfolding stopOf
+  stop-first m e h = first-from m 0 e h
+
+  pub stop-none : (m : ℕ) → stopOf A m ≡ 0 → (k : ℕ) → k < m → stops (reduced A k k) ≡ false
+  unfolding stopOf
+  stop-none m h k l = none-from m 0 h k (omega arith) (omega arith)
+
+  pub stop-most : (m : ℕ) → stopOf A m ≤ m
+  stop-most m = go (stopOf A m) refl
+    where
+      go : (e : ℕ) → stopOf A m ≡ e → stopOf A m ≤ m
+      go zero h = omega arith
+      go (suc e) h = omega (arith, stop-first m e h .within)
+
+-- the loop over the rows: `storage₀` before, `storage` when the rows below i are written, and the stop is not below i
+pub record RowsTo (A : ℕ → ℕ → Float) (m : ℕ) (storage₀ storage : List Float) (i : ℕ) : Type 0 where
+  pub within : i ≤ m
+  pub is : storage ≡ filled A m storage₀ i
+  pub left : stop-from A (m - i) i ≡ stopOf A m
+
+module _ (A : ℕ → ℕ → Float) (m : ℕ) (storage₀ : List Float) where
+  pub rows-start : length storage₀ ≡ m * m → RowsTo A m storage₀ storage₀ 0
+  unfolding stopOf
+  rows-start l = record { within = omega arith; is = filled-zero A m storage₀ l; left = rw sub-zero }
+
+  answered : (e : ℕ) (storage : List Float) → stopOf A m ≡ e → storage ≡ filled A m storage₀ (pick (eqb e 0) m e) → (e, storage) ≡ rowsOf A m storage₀
+  unfolding rowsOf
+  answered e storage h f = rw (h, f)
+
+  module _ (storage : List Float) (i : ℕ) (h : RowsTo A m storage₀ storage i) where
+    pub rows-long : length storage ≡ m * m
+    rows-long = ap length (h .is) ∙ length-filled A m storage₀ i
+
+    pub rows-factored : i < m → FactoredTo A m storage i
+    rows-factored l = record { is = λ r c x y. rw (h .is) (filled-in A m storage₀ i r c (omega arith) (omega arith) x y) }
+
+    -- row i is written too, and diag is its pivot
+    module _ (next : List Float) (diag : Float) (l : i < m) (e : next ≡ filled A m storage (suc i)) (f : diag ≡ reduced A i i) where
+      written : next ≡ filled A m storage₀ (suc i)
+      written = e ∙ rw (h .is) (filled-suc A m storage₀ i)
+
+      one-less : m - i ≡ suc (m - suc i)
+      one-less = omega arith
+
+      pub rows-turn : stops diag ≡ false → RowsTo A m storage₀ next (i + 1)
+      rows-turn t =
+          record {
+            within = omega arith;
+            is = rw add-one written;
+            left = rw add-one (sym (stop-later A (m - suc i) i (rw (← f) t)) ∙ rw (← one-less) (h .left));
+          }
+
+      pub rows-stop : stops diag ≡ true → (i + 1, next) ≡ rowsOf A m storage₀
+      rows-stop t =
+          answered (i + 1) next (sym (h .left) ∙ rw (one-less, add-one) (stop-here A (m - suc i) i (rw (← f) t)))
+          (rw add-one (written ∙ ap (filled A m storage₀) (skip _ _ _ _ (ne-eqb (suc i) 0 (λ q. omega (arith, q))) refl)))
+
+    pub rows-done : m ≤ i → (0, storage) ≡ rowsOf A m storage₀
+    unfolding stop-from
+    rows-done l =
+        let q : i ≡ m = omega (arith, h .within) in
+        let z : m - i ≡ 0 = omega arith in
+        answered 0 storage (sym (h .left) ∙ rw z) (h .is ∙ ap (filled A m storage₀) (q ∙ hit _ _ _ _ (eq-eqb 0 0 refl) refl))
 
 -- ---- the witness
 
