@@ -1,6 +1,6 @@
 -- Laws of the definitions of LdltMgr. Assumes nothing.
 use Prim.Native.Nat.{ℕ, zero, suc, _<_, _≤_, _+_, _-_, _*_, suc-le-suc}
-use native.Mathlib.Nat.{mul-le-mul, sub-zero, le-of-suc-le-suc, eq-or-lt-of-le}
+use native.Mathlib.Nat.{mul-le-mul, zero-mul, sub-zero, le-of-suc-le-suc, eq-or-lt-of-le}
 use native.Mathlib.Numerals.{add-one}
 use native.Mathlib.Omega.{arith}
 use mathlib.Core.Path.{_≡_, refl, sym, ap, _∙_}
@@ -15,7 +15,9 @@ use lib.Ieee.{Float, nan, neg}
 use Rattle.numbers.specs.F64.{_⊕_, _⊖_, _⊗_, _⊘_, 0ᶠ, 1ᶠ}
 use Rattle.numbers.specs.Pick.{pick, hit, skip}
 use Rattle.oracles.specs.Matrix.{entry, at, total}
-use Rattle.oracles.specs.LdltMgr.{isOrder, get-elem, taken, reduced, stored, stops, stop-from, stopOf, filled, rowsOf, order-tested, witness-tail, witnessOf}
+use Rattle.oracles.specs.LdltMgr.{isOrder, get-elem, taken, reduced, stored, stops, stop-from, stopOf, filled, rowsOf, posOf, factorOf, order-tested, witness-tail, witnessOf}
+use Rattle.oracles.specs.declared.ldlt_mgr.Factored.{Factored}
+use Rattle.oracles.specs.declared.ldlt_mgr.Factored.the-variants.{Definite, Stopped}
 use Rattle.oracles.specs.MatrixLaws.{place-in, at-set-same, at-set-other, length-grid, grid-at, grid-ext, total-cong, entry-mid, set-last}
 
 -- ---- the tests of a call
@@ -67,6 +69,14 @@ module _ (m : ℕ) (mat-b mat-f xc : List Float) (h : LmiReads m mat-b mat-f xc)
 
   pub small-f : k * (m * m) + (i * m + j) < 32768
   small-f = omega (arith, place-f, h .long-f, mul-le-mul (h .few) (mul-le-mul (h .order) (h .order)))
+
+-- with no mat_f and xc it reads mat_b alone, whose entry it is
+pub plain-reads : (m : ℕ) (mat : List Float) → m ≤ 32 → length mat ≡ m * m → LmiReads m mat [] []
+plain-reads m mat h l = record { order = h; long-b = l; long-f = sym (zero-mul (m * m)); few = omega arith }
+
+pub entry-plain : (m : ℕ) (mat : List Float) (i j : ℕ) → get-elem m mat [] [] i j ≡ at m mat i j
+unfolding get-elem total
+entry-plain m mat i j = refl
 
 -- ---- the factors
 
@@ -390,6 +400,16 @@ module _ (A : ℕ → ℕ → Float) (m : ℕ) (storage₀ : List Float) where
         let q : i ≡ m = omega (arith, h .within) in
         let z : m - i ≡ 0 = omega arith in
         answered 0 storage (sym (h .left) ∙ rw z) (h .is ∙ ap (filled A m storage₀) (q ∙ hit _ _ _ _ (eq-eqb 0 0 refl) refl))
+
+-- the answer by the stop
+module _ (A : ℕ → ℕ → Float) (m : ℕ) (storage : List Float) (e : ℕ) (out : List Float) (h : (e, out) ≡ rowsOf A m storage) where
+  pub definite : e ≡ 0 → (Definite, out) ≡ factorOf A m storage
+  unfolding factorOf
+  definite z = rw (← h) (ap (λ (x : Factored). (x, out)) (hit _ _ _ _ (eq-eqb e 0 z) refl))
+
+  pub stopped-at : (e ≡ 0 → ⊥) → (Stopped (posOf e), out) ≡ factorOf A m storage
+  unfolding factorOf
+  stopped-at z = rw (← h) (ap (λ (x : Factored). (x, out)) (skip _ _ _ _ (ne-eqb e 0 z) refl))
 
 -- ---- the witness
 
