@@ -1,5 +1,6 @@
 // The LMI assessment: is mat_b − Σ xc[k] mat_f[k] positive definite (lmi_oracle.rs, lmi_oracle_base.rs)?
 use crate::ldlt_mgr::Pos;
+use crate::ldlt_mgr::at;
 use crate::ldlt_mgr::factor_rows;
 use crate::ldlt_mgr::is_order;
 use crate::ldlt_mgr::quad;
@@ -55,7 +56,7 @@ fn assess(
     witness_into(m, pos, storage, wit);
     gradient_into(m, n, pos, wit, mat_f, grad);
     let last = end - 1;
-    LmiVerdict::Cut(pos, -storage[last * m + last])
+    LmiVerdict::Cut(pos, -at(m, storage, last, last))
 }
 
 pub fn assess_feas(
@@ -70,14 +71,29 @@ pub fn assess_feas(
 ) -> LmiVerdict
     ensures { λ r. ⌜ (r, record { storage = now (storage .exit); wit = now (wit .exit); grad = now (grad .exit) }) ≡ lmi-answer m n (now («mat_b» .entry)) (now («mat_f» .entry)) (now (xc .entry)) (record { storage = now (storage .entry); wit = now (wit .entry); grad = now (grad .entry) }) ⌝ }
 {
-    if !(is_order(m) && is_dimension(n)) {
+    if !is_order(m) {
+        return LmiVerdict::Refused(Refusal::Dimension);
+    }
+    if !is_dimension(n) {
         return LmiVerdict::Refused(Refusal::Dimension);
     }
     let size = m * m;
-    if !(mat_b.len() == size && mat_f.len() == n * size && xc.len() == n) {
+    if mat_b.len() != size {
         return LmiVerdict::Refused(Refusal::Length);
     }
-    if !(storage.len() == size && wit.len() == m && grad.len() == n) {
+    if mat_f.len() != n * size {
+        return LmiVerdict::Refused(Refusal::Length);
+    }
+    if xc.len() != n {
+        return LmiVerdict::Refused(Refusal::Length);
+    }
+    if storage.len() != size {
+        return LmiVerdict::Refused(Refusal::Length);
+    }
+    if wit.len() != m {
+        return LmiVerdict::Refused(Refusal::Length);
+    }
+    if grad.len() != n {
         return LmiVerdict::Refused(Refusal::Length);
     }
     assess(m, n, mat_b, mat_f, xc, storage, wit, grad)

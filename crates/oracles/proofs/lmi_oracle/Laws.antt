@@ -1,0 +1,37 @@
+-- Laws that the proofs of lmi_oracle alone use. Assumes nothing.
+use mathlib.Core.Path.{_≡_}
+use mathlib.Core.List.{List}
+use Prim.Native.Nat.{ℕ, _≤_, _<_, _+_, _-_, _*_}
+use native.Mathlib.Nat.{mul-le-mul}
+use native.Mathlib.Omega.{arith}
+use lib.ListN.{length, take, drop, length-drop}
+use lib.Seq.{length-take-le}
+use lib.Ieee.{Float}
+use Rattle.numbers.specs.F64.{_⊗_, 1ᶠ}
+use Rattle.numbers.specs.Arr.{tab}
+use Rattle.numbers.specs.ArrLaws.{row-in}
+use Rattle.oracles.specs.LdltMgr.{quadOf}
+use Rattle.oracles.specs.LmiOracle.{matOf, lmi-gradient}
+use Rattle.oracles.specs.declared.ldlt_mgr.Pos.{Pos}
+
+-- ---- the gradient's loop
+
+-- mat_f[k] ends at a place that fits a usize
+pub end-small : (m n k : ℕ) → m ≤ 32 → n ≤ 32 → k < n → k * (m * m) + m * m ≤ 32768
+end-small m n k h l g = omega (arith, row-in (m * m) k n g, mul-le-mul l (mul-le-mul h h))
+
+-- the lent part is mat_f[k]
+part : (m k : ℕ) → k * (m * m) + m * m - k * (m * m) ≡ m * m
+part m k = omega arith
+
+pub part-long : (m n k : ℕ) (mat-f : List Float) → length mat-f ≡ n * (m * m) → k < n → length (take (k * (m * m) + m * m - k * (m * m)) (drop (k * (m * m)) mat-f)) ≡ m * m
+part-long m n k mat-f l g =
+    rw (part m k) (length-take-le (m * m) (drop (k * (m * m)) mat-f) (rw (length-drop (k * (m * m)) mat-f, l) (omega (arith, row-in (m * m) k n g))))
+
+pub quad-is : (m k : ℕ) (pos : Pos) (wit mat-f : List Float) {q : Float} → q ≡ quadOf m pos wit (take (k * (m * m) + m * m - k * (m * m)) (drop (k * (m * m)) mat-f))
+    → 1ᶠ ⊗ q ≡ 1ᶠ ⊗ quadOf m pos wit (matOf m mat-f k)
+quad-is m k pos wit mat-f e = rw (e, part m k)
+
+pub gradient-is : (m n : ℕ) (pos : Pos) (wit mat-f grad : List Float) → length grad ≡ n → tab (λ k. 1ᶠ ⊗ quadOf m pos wit (matOf m mat-f k)) (length grad) ≡ lmi-gradient m n pos wit mat-f
+unfolding lmi-gradient
+gradient-is m n pos wit mat-f grad e = rw e
