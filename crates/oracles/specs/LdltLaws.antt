@@ -403,6 +403,10 @@ module _ (A : ℕ → ℕ → Float) (m : ℕ) (storage₀ : List Float) where
 
 -- the answer by the stop
 module _ (A : ℕ → ℕ → Float) (m : ℕ) (storage : List Float) (e : ℕ) (out : List Float) (h : (e, out) ≡ rowsOf A m storage) where
+  pub rows-most : e ≤ m
+  unfolding rowsOf
+  rows-most = rw (ap (λ (x : ℕ × List Float). x .0) h) (stop-most A m)
+
   pub definite : e ≡ 0 → (Definite, out) ≡ factorOf A m storage
   unfolding factorOf
   definite z = rw (← h) (ap (λ (x : Factored). (x, out)) (hit _ _ _ _ (eq-eqb e 0 z) refl))

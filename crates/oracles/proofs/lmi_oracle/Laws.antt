@@ -1,17 +1,22 @@
 -- Laws that the proofs of lmi_oracle alone use. Assumes nothing.
-use mathlib.Core.Path.{_≡_}
+use mathlib.Core.Path.{_≡_, refl}
 use mathlib.Core.List.{List}
 use Prim.Native.Nat.{ℕ, _≤_, _<_, _+_, _-_, _*_}
 use native.Mathlib.Nat.{mul-le-mul}
 use native.Mathlib.Omega.{arith}
+use borrow.Author.Tests.{eq-eqb, ne-eqb}
 use lib.ListN.{length, take, drop, length-drop}
 use lib.Seq.{length-take-le}
-use lib.Ieee.{Float}
+use lib.Ieee.{Float, neg}
 use Rattle.numbers.specs.F64.{_⊗_, 1ᶠ}
 use Rattle.numbers.specs.Arr.{tab}
 use Rattle.numbers.specs.ArrLaws.{row-in}
-use Rattle.oracles.specs.LdltMgr.{quadOf}
-use Rattle.oracles.specs.LmiOracle.{matOf, lmi-gradient}
+use Rattle.numbers.specs.Pick.{hit, skip}
+use Rattle.oracles.specs.Matrix.{at}
+use Rattle.oracles.specs.LdltMgr.{get-elem, posOf, rowsOf, witnessOf, quadOf}
+use Rattle.oracles.specs.LdltLaws.{LmiReads}
+use Rattle.oracles.specs.LmiOracle.{LmiBuffers, matOf, lmi-gradient, lmi-assessOf}
+use Rattle.oracles.specs.declared.lmi_oracle.LmiVerdict.the-variants.{Feasible, Cut}
 use Rattle.oracles.specs.declared.ldlt_mgr.Pos.{Pos}
 
 -- ---- the gradient's loop
@@ -35,3 +40,19 @@ quad-is m k pos wit mat-f e = rw (e, part m k)
 pub gradient-is : (m n : ℕ) (pos : Pos) (wit mat-f grad : List Float) → length grad ≡ n → tab (λ k. 1ᶠ ⊗ quadOf m pos wit (matOf m mat-f k)) (length grad) ≡ lmi-gradient m n pos wit mat-f
 unfolding lmi-gradient
 gradient-is m n pos wit mat-f grad e = rw e
+
+-- ---- the assessment
+
+pub reads : (m n : ℕ) (mat-b mat-f xc : List Float) → m ≤ 32 → n ≤ 32 → length mat-b ≡ m * m → length mat-f ≡ n * (m * m) → length xc ≡ n → LmiReads m mat-b mat-f xc
+reads m n mat-b mat-f xc h k l f x = record { order = h; long-b = l; long-f = rw x f; few = omega arith }
+
+-- `e` and `out` are what factor_rows leaves of the storage
+module _ (m n : ℕ) (mat-b mat-f xc : List Float) (b : LmiBuffers) (e : ℕ) (out : List Float) (h : (e, out) ≡ rowsOf (get-elem m mat-b mat-f xc) m (b .storage)) where
+  pub feasible : e ≡ 0 → (Feasible, record { storage = out; wit = b .wit; grad = b .grad }) ≡ lmi-assessOf m n mat-b mat-f xc b
+  unfolding lmi-assessOf
+  feasible z = rw (← h) (hit _ _ _ _ (eq-eqb e 0 z) refl)
+
+  pub cut : (wit grad : List Float) (d : Float) → (e ≡ 0 → ⊥) → wit ≡ witnessOf m (posOf e) out (b .wit) → grad ≡ lmi-gradient m n (posOf e) wit mat-f
+      → d ≡ at m out (e - 1) (e - 1) → (Cut (posOf e) (neg d), record { storage = out; wit = wit; grad = grad }) ≡ lmi-assessOf m n mat-b mat-f xc b
+  unfolding lmi-assessOf
+  cut wit grad d z w g f = rw (← h) (skip _ _ _ _ (ne-eqb e 0 z) (rw (g, w, f)))
