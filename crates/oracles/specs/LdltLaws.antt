@@ -30,14 +30,8 @@ module _ (m : ℕ) (r : Bool) (e : r ≡ isOrder m) where
   pub an-order : not r ≡ false → isOrder m ≡ true
   an-order t = sym e ∙ not-false r t
 
-  ends : not r ≡ false → (leb 1 m ≡ true) × (leb m 32 ≡ true)
-  ends t = and-eq-true-iff (leb 1 m) (leb m 32) .0 (an-order t)
-
-  pub order-least : not r ≡ false → 1 ≤ m
-  order-least t = leb-true 1 m (ends t .0)
-
   pub order-most : not r ≡ false → m ≤ 32
-  order-most t = leb-true m 32 (ends t .1)
+  order-most t = leb-true m 32 (and-eq-true-iff (leb 1 m) (leb m 32) .0 (an-order t) .1)
 
   -- the answers of a call that tests the order, and then its lengths
   module _ {ℓ} {X : Type ℓ} (fit : Bool) (one two done : X) where

@@ -45,7 +45,7 @@ fn assess(
     wit: &mut [f64],
     grad: &mut [f64],
 ) -> LmiVerdict
-    requires { ⌜ (1 ≤ m) × (m ≤ 32) × (n ≤ 32) × (length (now «mat_b») ≡ m * m) × (length (now «mat_f») ≡ n * (m * m)) × (length (now xc) ≡ n) × (length (now storage) ≡ m * m) × (length (now wit) ≡ m) × (length (now grad) ≡ n) ⌝ }
+    requires { ⌜ (m ≤ 32) × (n ≤ 32) × (length (now «mat_b») ≡ m * m) × (length (now «mat_f») ≡ n * (m * m)) × (length (now xc) ≡ n) × (length (now storage) ≡ m * m) × (length (now wit) ≡ m) × (length (now grad) ≡ n) ⌝ }
     ensures { λ r. ⌜ (r, record { storage = now (storage .exit); wit = now (wit .exit); grad = now (grad .exit) }) ≡ lmi-assessOf m n (now («mat_b» .entry)) (now («mat_f» .entry)) (now (xc .entry)) (record { storage = now (storage .entry); wit = now (wit .entry); grad = now (grad .entry) }) ⌝ }
 {
     let end = factor_rows(m, mat_b, mat_f, xc, storage);

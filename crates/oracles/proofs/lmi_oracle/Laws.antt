@@ -1,29 +1,38 @@
 -- Laws that the proofs of lmi_oracle alone use. Assumes nothing.
-use mathlib.Core.Path.{_≡_, refl}
+use mathlib.Core.Path.{_≡_, refl, sym, ap, _∙_}
+use mathlib.Core.Bool.{Bool, true, false, not, _&&_}
 use mathlib.Core.List.{List}
 use Prim.Native.Nat.{ℕ, _≤_, _<_, _+_, _-_, _*_}
 use native.Mathlib.Nat.{mul-le-mul}
 use native.Mathlib.Omega.{arith}
-use borrow.Author.Tests.{eq-eqb, ne-eqb}
+use borrow.Author.Tests.{not-true, not-false, eq-eqb, ne-eqb}
 use lib.ListN.{length, take, drop, length-drop}
 use lib.Seq.{length-take-le}
 use lib.Ieee.{Float, neg}
 use Rattle.numbers.specs.F64.{_⊗_, 1ᶠ}
-use Rattle.numbers.specs.Arr.{tab}
-use Rattle.numbers.specs.ArrLaws.{row-in}
+use Rattle.numbers.specs.Arr.{isDimension, tab}
+use Rattle.numbers.specs.declared.refusal.Refusal.the-variants.{Dimension, Length}
+use Rattle.numbers.specs.ArrLaws.{row-in, dimension-most}
 use Rattle.numbers.specs.Pick.{hit, skip}
 use Rattle.oracles.specs.Matrix.{at}
-use Rattle.oracles.specs.LdltMgr.{get-elem, posOf, rowsOf, witnessOf, quadOf}
-use Rattle.oracles.specs.LdltLaws.{LmiReads}
-use Rattle.oracles.specs.LmiOracle.{LmiBuffers, matOf, lmi-gradient, lmi-assessOf}
-use Rattle.oracles.specs.declared.lmi_oracle.LmiVerdict.the-variants.{Feasible, Cut}
+use Rattle.oracles.specs.LdltMgr.{isOrder, get-elem, posOf, rowsOf, witnessOf, quadOf}
+use Rattle.oracles.specs.LdltLaws.{no-order, an-order, LmiReads}
+use Rattle.oracles.specs.LmiOracle.{LmiBuffers, matOf, lmi-gradient, lmi-assessOf, lmi-fits, lmi-answer}
+use Rattle.oracles.specs.declared.lmi_oracle.LmiVerdict.the-variants.{Feasible, Cut, Refused}
 use Rattle.oracles.specs.declared.ldlt_mgr.Pos.{Pos}
+
+-- n matrices of order m fit a usize
+pub all-small : (m n : ℕ) → m ≤ 32 → n ≤ 32 → n * (m * m) ≤ 32768
+all-small m n h k = mul-le-mul k (mul-le-mul h h)
+
+pub dimension-small : (n : ℕ) (s : Bool) → s ≡ isDimension n → not s ≡ false → n ≤ 32
+dimension-small n s f t = dimension-most n (sym f ∙ not-false s t)
 
 -- ---- the gradient's loop
 
 -- mat_f[k] ends at a place that fits a usize
 pub end-small : (m n k : ℕ) → m ≤ 32 → n ≤ 32 → k < n → k * (m * m) + m * m ≤ 32768
-end-small m n k h l g = omega (arith, row-in (m * m) k n g, mul-le-mul l (mul-le-mul h h))
+end-small m n k h l g = omega (arith, row-in (m * m) k n g, all-small m n h l)
 
 -- the lent part is mat_f[k]
 part : (m k : ℕ) → k * (m * m) + m * m - k * (m * m) ≡ m * m
@@ -56,3 +65,26 @@ module _ (m n : ℕ) (mat-b mat-f xc : List Float) (b : LmiBuffers) (e : ℕ) (o
       → d ≡ at m out (e - 1) (e - 1) → (Cut (posOf e) (neg d), record { storage = out; wit = wit; grad = grad }) ≡ lmi-assessOf m n mat-b mat-f xc b
   unfolding lmi-assessOf
   cut wit grad d z w g f = rw (← h) (skip _ _ _ _ (ne-eqb e 0 z) (rw (g, w, f)))
+
+-- ---- the answers by what the tests say; `r` is what is_order answered, `s` what is_dimension did
+
+module _ (m n : ℕ) (mat-b mat-f xc : List Float) (b : LmiBuffers) {r : Bool} (e : r ≡ isOrder m) where
+  pub wrong-order : not r ≡ true → (Refused Dimension, b) ≡ lmi-answer m n mat-b mat-f xc b
+  unfolding lmi-answer
+  wrong-order t = hit _ _ _ _ (rw (no-order m r e t)) refl
+
+  module _ {s : Bool} (f : s ≡ isDimension n) (t : not r ≡ false) where
+    pub wrong-dimension : not s ≡ true → (Refused Dimension, b) ≡ lmi-answer m n mat-b mat-f xc b
+    unfolding lmi-answer
+    wrong-dimension u = hit _ _ _ _ (rw (an-order m r e t, ← f, not-true s u)) refl
+
+    right : not s ≡ false → not (isOrder m && isDimension n) ≡ false
+    right u = rw (an-order m r e t, ← f, not-false s u)
+
+    pub wrong-length : not s ≡ false → lmi-fits m n mat-b mat-f xc b ≡ false → (Refused Length, b) ≡ lmi-answer m n mat-b mat-f xc b
+    unfolding lmi-answer
+    wrong-length u w = skip _ _ _ _ (right u) (hit _ _ _ _ (ap not w) refl)
+
+    pub accepted : not s ≡ false → lmi-fits m n mat-b mat-f xc b ≡ true → lmi-assessOf m n mat-b mat-f xc b ≡ lmi-answer m n mat-b mat-f xc b
+    unfolding lmi-answer
+    accepted u w = skip _ _ _ _ (right u) (skip _ _ _ _ (ap not w) refl)

@@ -9,7 +9,7 @@ use Rattle.oracles.proofs.lmi_oracle.assess.Tie as tie
 factor-rows-requires : tie.Need-factor-rows-requires
 factor-rows-requires c κs =
     let p = c .before .before .before .before .before .before .before .pre in
-    (reads _ _ _ _ _ (p .1) (p .2) (p .3) (p .4) (p .5), search needs)
+    (reads _ _ _ _ _ (p .0) (p .1) (p .2) (p .3) (p .4), search needs)
 
 same-length : tie.Need-same-length
 same-length c = search needs

@@ -1,0 +1,100 @@
+-- `oracles::lmi_oracle::assess_feas` meets its contract. Assumes nothing.
+use mathlib.Core.Path.{_∙_}
+use native.Mathlib.Nat.{mul-le-mul}
+use native.Mathlib.Omega.{arith}
+use borrow.Author.Tests.{eq-eqb, ne-eqb}
+use borrow.Author.Needs.{needs}
+use Rattle.oracles.specs.LdltLaws.{order-most}
+use Rattle.oracles.proofs.lmi_oracle.Laws.{all-small, dimension-small, wrong-order, wrong-dimension, wrong-length, accepted}
+use Rattle.oracles.proofs.lmi_oracle.assess_feas.Statement.{statement}
+use Rattle.oracles.proofs.lmi_oracle.assess_feas.Tie as tie
+
+is-order-requires : tie.Need-is-order-requires
+is-order-requires c κs = search needs
+
+returns : tie.Need-returns
+returns c = wrong-order _ _ _ _ _ _ (c .before .is-order .ensures) (c .if1 .taken)
+
+is-dimension-requires : tie.Need-is-dimension-requires
+is-dimension-requires c κs = search needs
+
+returns-2 : tie.Need-returns-2
+returns-2 c = wrong-dimension _ _ _ _ _ _ (c .before .before .before .is-order .ensures) (c .before .is-dimension .ensures) (c .before .before .if1 .left) (c .if2 .taken)
+
+mul-size : tie.Need-mul-size
+mul-size c =
+    let h = order-most (c .before .before .before .before .before .before .before .before .before .before .args .m) _ (c .before .before .before .is-order .ensures) (c .before .before .if1 .left) in
+    omega (arith, mul-le-mul h h)
+
+returns-3 : tie.Need-returns-3
+returns-3 c =
+    wrong-length _ _ _ _ _ _ (c .before .before .before .before .is-order .ensures) (c .before .before .is-dimension .ensures) (c .before .before .before .if1 .left) (c .before .if2 .left) (rw (ne-eqb _ _ (c .if3 .taken)))
+
+mul-if4 : tie.Need-mul-if4
+mul-if4 c =
+    let a = c .before .before .before .before .before .before .before .before .before .before .before .args in
+    let h = order-most (a .m) _ (c .before .before .before .before .is-order .ensures) (c .before .before .before .if1 .left) in
+    let k = dimension-small (a .n) _ (c .before .before .is-dimension .ensures) (c .before .if2 .left) in
+    omega (arith, all-small (a .m) (a .n) h k)
+
+returns-4 : tie.Need-returns-4
+returns-4 c =
+    wrong-length _ _ _ _ _ _ (c .before .before .before .before .before .is-order .ensures) (c .before .before .before .is-dimension .ensures) (c .before .before .before .before .if1 .left) (c .before .before .if2 .left) (rw (eq-eqb _ _ (c .before .if3 .left), ne-eqb _ _ (c .if4 .taken)))
+
+returns-5 : tie.Need-returns-5
+returns-5 c =
+    wrong-length _ _ _ _ _ _ (c .before .before .before .before .before .before .is-order .ensures) (c .before .before .before .before .is-dimension .ensures) (c .before .before .before .before .before .if1 .left) (c .before .before .before .if2 .left) (rw (eq-eqb _ _ (c .before .before .if3 .left), eq-eqb _ _ (c .before .if4 .left), ne-eqb _ _ (c .if5 .taken)))
+
+returns-6 : tie.Need-returns-6
+returns-6 c =
+    wrong-length _ _ _ _ _ _ (c .before .before .before .before .before .before .before .is-order .ensures) (c .before .before .before .before .before .is-dimension .ensures) (c .before .before .before .before .before .before .if1 .left) (c .before .before .before .before .if2 .left) (rw (eq-eqb _ _ (c .before .before .before .if3 .left), eq-eqb _ _ (c .before .before .if4 .left), eq-eqb _ _ (c .before .if5 .left), ne-eqb _ _ (c .if6 .taken)))
+
+returns-7 : tie.Need-returns-7
+returns-7 c =
+    wrong-length _ _ _ _ _ _ (c .before .before .before .before .before .before .before .before .is-order .ensures) (c .before .before .before .before .before .before .is-dimension .ensures) (c .before .before .before .before .before .before .before .if1 .left) (c .before .before .before .before .before .if2 .left) (rw (eq-eqb _ _ (c .before .before .before .before .if3 .left), eq-eqb _ _ (c .before .before .before .if4 .left), eq-eqb _ _ (c .before .before .if5 .left), eq-eqb _ _ (c .before .if6 .left), ne-eqb _ _ (c .if7 .taken)))
+
+returns-8 : tie.Need-returns-8
+returns-8 c =
+    wrong-length _ _ _ _ _ _ (c .before .before .before .before .before .before .before .before .before .is-order .ensures) (c .before .before .before .before .before .before .before .is-dimension .ensures) (c .before .before .before .before .before .before .before .before .if1 .left) (c .before .before .before .before .before .before .if2 .left) (rw (eq-eqb _ _ (c .before .before .before .before .before .if3 .left), eq-eqb _ _ (c .before .before .before .before .if4 .left), eq-eqb _ _ (c .before .before .before .if5 .left), eq-eqb _ _ (c .before .before .if6 .left), eq-eqb _ _ (c .before .if7 .left), ne-eqb _ _ (c .if8 .taken)))
+
+assess-requires : tie.Need-assess-requires
+assess-requires c κs =
+    let e = c .before .before .before .before .before .before .before .before .before in
+    let h = order-most _ _ (e .before .before .before .is-order .ensures) (e .before .before .if1 .left) in
+    (h, dimension-small _ _ (e .before .is-dimension .ensures) (e .if2 .left), search needs, search needs, search needs, search needs, search needs, search needs)
+
+same-length : tie.Need-same-length
+same-length c = search needs
+
+same-length-2 : tie.Need-same-length-2
+same-length-2 c = search needs
+
+same-length-3 : tie.Need-same-length-3
+same-length-3 c = search needs
+
+returns-9 : tie.Need-returns-9
+returns-9 c =
+    c .before .before .before .before .before .before .assess .ensures
+    ∙ accepted _ _ _ _ _ _ (c .before .before .before .before .before .before .before .before .before .before .before .before .before .before .before .before .before .before .before .is-order .ensures) (c .before .before .before .before .before .before .before .before .before .before .before .before .before .before .before .before .before .is-dimension .ensures) (c .before .before .before .before .before .before .before .before .before .before .before .before .before .before .before .before .before .before .if1 .left) (c .before .before .before .before .before .before .before .before .before .before .before .before .before .before .before .before .if2 .left) (rw (eq-eqb _ _ (c .before .before .before .before .before .before .before .before .before .before .before .before .before .before .before .if3 .left), eq-eqb _ _ (c .before .before .before .before .before .before .before .before .before .before .before .before .before .before .if4 .left), eq-eqb _ _ (c .before .before .before .before .before .before .before .before .before .before .before .before .before .if5 .left), eq-eqb _ _ (c .before .before .before .before .before .before .before .before .before .before .before .before .if6 .left), eq-eqb _ _ (c .before .before .before .before .before .before .before .before .before .before .before .if7 .left), eq-eqb _ _ (c .before .before .before .before .before .before .before .before .before .before .if8 .left)))
+
+pub assess-feas-spec : {M : Type 1} → statement M
+assess-feas-spec =
+    tie.close
+    (tie.spec
+    is-order-requires
+    returns
+    is-dimension-requires
+    returns-2
+    mul-size
+    returns-3
+    mul-if4
+    returns-4
+    returns-5
+    returns-6
+    returns-7
+    returns-8
+    assess-requires
+    same-length
+    same-length-2
+    same-length-3
+    returns-9)
