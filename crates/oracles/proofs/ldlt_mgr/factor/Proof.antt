@@ -4,7 +4,9 @@ use native.Mathlib.Nat.{mul-le-mul}
 use native.Mathlib.Omega.{arith}
 use borrow.Author.Tests.{eq-eqb, ne-eqb}
 use borrow.Author.Needs.{needs}
-use Rattle.oracles.specs.LdltLaws.{order-most, wrong-order, wrong-length, accepted, plain-reads, definite, stopped-at}
+use Rattle.oracles.specs.LdltMgr.{get-elem}
+use Rattle.oracles.specs.LdltLaws.{order-most, wrong-order, wrong-length, accepted, plain-reads}
+use Rattle.oracles.proofs.ldlt_mgr.Laws.{definite, stopped-at}
 use Rattle.oracles.proofs.ldlt_mgr.factor.Statement.{statement}
 use Rattle.oracles.proofs.ldlt_mgr.factor.Tie as tie
 
@@ -46,9 +48,8 @@ same-length c = search needs
 
 returns-4 : tie.Need-returns-4
 returns-4 c =
-    let w = c .before .before .before in
-    let e = w .before .before .before .before in
-    definite _ _ _ _ _ (w .factor-rows .ensures) (c .if4 .taken)
+    let e = c .before .before .before .before .before .before .before in
+    definite (get-elem _ _ _ _) _ _ _ _ (c .before .before .before .factor-rows .ensures) (c .if4 .taken)
     ∙ accepted _ _ (e .before .before .before .is-order .ensures) _ _ _ _ (e .before .before .if1 .left) (rw (eq-eqb _ _ (e .before .if2 .left), eq-eqb _ _ (e .if3 .left)))
 
 same-length-2 : tie.Need-same-length-2
@@ -56,9 +57,8 @@ same-length-2 c = search needs
 
 returns-5 : tie.Need-returns-5
 returns-5 c =
-    let w = c .before .before .before in
-    let e = w .before .before .before .before in
-    stopped-at _ _ _ _ _ (w .factor-rows .ensures) (c .if4 .left)
+    let e = c .before .before .before .before .before .before .before in
+    stopped-at (get-elem _ _ _ _) _ _ _ _ (c .before .before .before .factor-rows .ensures) (c .if4 .left)
     ∙ accepted _ _ (e .before .before .before .is-order .ensures) _ _ _ _ (e .before .before .if1 .left) (rw (eq-eqb _ _ (e .before .if2 .left), eq-eqb _ _ (e .if3 .left)))
 
 pub factor-spec : {M : Type 1} → statement M

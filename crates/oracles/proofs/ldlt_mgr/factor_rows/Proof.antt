@@ -4,7 +4,8 @@ use mathlib.Core.Path.{sym, ap, _∙_}
 use borrow.Author.Needs.{needs}
 use lib.ListN.{length}
 use Rattle.oracles.specs.LdltMgr.{get-elem}
-use Rattle.oracles.specs.LdltLaws.{RowsTo, rows-start, rows-long, rows-factored, rows-turn, rows-stop, rows-done, length-filled}
+use Rattle.oracles.specs.LdltLaws.{length-filled}
+use Rattle.oracles.proofs.ldlt_mgr.Laws.{RowsTo, rows-start, rows-long, rows-factored, rows-turn, rows-stop, rows-done}
 use Rattle.oracles.proofs.ldlt_mgr.factor_rows.Statement.{statement}
 use Rattle.oracles.proofs.ldlt_mgr.factor_rows.Tie as tie
 
@@ -26,7 +27,9 @@ add-i : tie.Need-add-i Inv-loop μ-loop
 add-i c = search needs
 
 same-length : tie.Need-same-length Inv-loop μ-loop
-same-length c = ap length (c .before .before .before .factor-row .ensures .1) ∙ length-filled _ _ _ _ ∙ sym (c .before .before .before .before .before .before .before .before .before .before .before .pre .1)
+same-length c =
+    ap length (c .before .before .before .factor-row .ensures .1) ∙ length-filled _ _ _ _
+    ∙ sym (c .before .before .before .before .before .before .before .before .before .before .before .pre .1)
 
 returns : tie.Need-returns Inv-loop μ-loop
 returns c =

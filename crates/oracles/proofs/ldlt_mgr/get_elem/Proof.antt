@@ -8,7 +8,7 @@ use Rattle.numbers.specs.F64.{_⊖_, _⊗_}
 use Rattle.oracles.specs.Matrix.{entry, at}
 use Rattle.oracles.specs.LdltMgr.{get-elem}
 use Rattle.oracles.specs.MatrixLaws.{SummedTo, summed-start, summed-turn, summed-done}
-use Rattle.oracles.specs.LdltLaws.{small-f, place-f}
+use Rattle.oracles.proofs.ldlt_mgr.Laws.{small-f, place-f}
 use Rattle.oracles.proofs.ldlt_mgr.get_elem.Statement.{statement}
 use Rattle.oracles.proofs.ldlt_mgr.get_elem.Tie as tie
 

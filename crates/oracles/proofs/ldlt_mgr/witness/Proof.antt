@@ -1,11 +1,10 @@
 -- `oracles::ldlt_mgr::witness` meets its contract. Assumes nothing.
-use mathlib.Core.Path.{refl, ap, _∙_}
+use mathlib.Core.Path.{refl, _∙_}
 use native.Mathlib.Nat.{mul-le-mul}
 use native.Mathlib.Omega.{arith}
 use borrow.Author.Tests.{le-ltb, lt-ltb, le-leb, lt-leb, eq-eqb, ne-eqb}
 use borrow.Author.Needs.{needs}
 use Rattle.numbers.specs.Pick.{hit, skip}
-use Rattle.numbers.specs.declared.arr.Number.the-variants.{Value}
 use Rattle.oracles.specs.LdltLaws.{order-most, wrong-order, wrong-length, accepted}
 use Rattle.oracles.proofs.ldlt_mgr.witness.Statement.{statement}
 use Rattle.oracles.proofs.ldlt_mgr.witness.Tie as tie

@@ -4,7 +4,7 @@ use mathlib.Core.Path.{_≡_, _∙_}
 use native.Mathlib.Omega.{arith}
 use borrow.Author.Needs.{needs}
 use lib.ListN.{length-set}
-use Rattle.oracles.specs.LdltLaws.{WitnessTo, witness-start, witness-turn, witness-done}
+use Rattle.oracles.proofs.ldlt_mgr.WitnessLaws.{WitnessTo, witness-start, witness-turn, witness-done}
 use Rattle.oracles.proofs.ldlt_mgr.witness_into.Statement.{statement}
 use Rattle.oracles.proofs.ldlt_mgr.witness_into.Tie as tie
 
