@@ -18,6 +18,7 @@ use Rattle.oracles.specs.Matrix.{at}
 use Rattle.oracles.specs.LdltMgr.{isOrder, get-elem, posOf, rowsOf, witnessOf, quadOf}
 use Rattle.oracles.specs.LdltLaws.{no-order, an-order, LmiReads}
 use Rattle.oracles.specs.LmiOracle.{LmiBuffers, matOf, lmi-gradient, lmi-assessOf, lmi-fits, lmi-answer}
+use Rattle.oracles.specs.declared.lmi_oracle.LmiVerdict.{LmiVerdict}
 use Rattle.oracles.specs.declared.lmi_oracle.LmiVerdict.the-variants.{Feasible, Cut, Refused}
 use Rattle.oracles.specs.declared.ldlt_mgr.Pos.{Pos}
 
@@ -85,6 +86,6 @@ module _ (m n : ℕ) (mat-b mat-f xc : List Float) (b : LmiBuffers) {r : Bool} (
     unfolding lmi-answer
     wrong-length u w = skip _ _ _ _ (right u) (hit _ _ _ _ (ap not w) refl)
 
-    pub accepted : not s ≡ false → lmi-fits m n mat-b mat-f xc b ≡ true → lmi-assessOf m n mat-b mat-f xc b ≡ lmi-answer m n mat-b mat-f xc b
+    pub accepted : (x : LmiVerdict × LmiBuffers) → not s ≡ false → lmi-fits m n mat-b mat-f xc b ≡ true → x ≡ lmi-assessOf m n mat-b mat-f xc b → x ≡ lmi-answer m n mat-b mat-f xc b
     unfolding lmi-answer
-    accepted u w = skip _ _ _ _ (right u) (skip _ _ _ _ (ap not w) refl)
+    accepted x u w f = skip _ _ _ _ (right u) (skip _ _ _ _ (ap not w) f)

@@ -18,7 +18,8 @@ returns : tie.Need-returns
 returns c = feasible _ _ _ _ _ _ _ _ (c .before .before .before .factor-rows .ensures) (c .if1 .taken)
 
 witness-into-requires : tie.Need-witness-into-requires
-witness-into-requires c κs = (search needs, search needs, rows-most _ _ _ _ _ (c .before .before .before .before .before .factor-rows .ensures), search needs, search needs)
+witness-into-requires c κs =
+    (search needs, search needs, rows-most _ _ _ _ _ (c .before .before .before .before .before .factor-rows .ensures), search needs, search needs)
 
 gradient-into-requires : tie.Need-gradient-into-requires
 gradient-into-requires c κs =
@@ -43,7 +44,10 @@ same-length-4 c = search needs
 
 returns-2 : tie.Need-returns-2
 returns-2 c =
-    cut _ _ _ _ _ _ _ _ (c .before .before .before .before .before .before .before .before .before .before .before .before .before .before .before .factor-rows .ensures) _ _ _ (c .before .before .before .before .before .before .before .before .before .before .before .before .if1 .left) (c .before .before .before .before .before .before .before .before .before .witness-into .ensures) (c .before .before .before .before .gradient-into .ensures) (c .at .ensures)
+    let g = c .before .before .before .before in
+    let w = g .before .before .before .before .before in
+    let e = w .before .before .before in
+    cut _ _ _ _ _ _ _ _ (e .before .before .before .factor-rows .ensures) _ _ _ (e .if1 .left) (w .witness-into .ensures) (g .gradient-into .ensures) (c .at .ensures)
 
 pub assess-spec : {M : Type 1} → statement M
 assess-spec =
