@@ -63,8 +63,8 @@ front f zero n mat l h = rw (zero-mul n)
 front f (suc m) n mat l h =
     let l′ : m * n + n ≤ length mat = omega (arith, suc-mul m n) in
     let last : take n (drop (m * n) mat) ≡ tab (f m) n =
-        tab-ext (f m) n (take n (drop (m * n) mat)) (length-take-le n (drop (m * n) mat) (rw (length-drop (m * n) mat) (omega arith)))
-        (λ j k. getD-take n (drop (m * n) mat) j nan k ∙ getD-drop (m * n) mat j nan ∙ h m j (omega arith) k)
+    tab-ext (f m) n (take n (drop (m * n) mat)) (length-take-le n (drop (m * n) mat) (rw (length-drop (m * n) mat) (omega arith)))
+    (λ j k. getD-take n (drop (m * n) mat) j nan k ∙ getD-drop (m * n) mat j nan ∙ h m j (omega arith) k)
     in
     rw (suc-mul m n, take-add (m * n) n mat, last, front f m n mat (omega arith) (λ i j a b. h i j (omega arith) b))
 

@@ -66,7 +66,14 @@ fn row_sum(m: usize, storage: &[f64], i: usize, c: usize) -> f64
 }
 
 // Row i of the factors, and its pivot.
-fn factor_row(m: usize, mat_b: &[f64], mat_f: &[f64], xc: &[f64], storage: &mut [f64], i: usize) -> f64
+fn factor_row(
+    m: usize,
+    mat_b: &[f64],
+    mat_f: &[f64],
+    xc: &[f64],
+    storage: &mut [f64],
+    i: usize,
+) -> f64
     requires { ⌜ LmiReads m (now «mat_b») (now «mat_f») (now xc) × (i < m) × (length (now storage) ≡ m * m) × FactoredTo (get-elem m (now «mat_b») (now «mat_f») (now xc)) m (now storage) i ⌝ }
     ensures { λ r. ⌜ (r ≡ reduced (get-elem m (now («mat_b» .entry)) (now («mat_f» .entry)) (now (xc .entry))) i i) × (now (storage .exit) ≡ filled (get-elem m (now («mat_b» .entry)) (now («mat_f» .entry)) (now (xc .entry))) m (now (storage .entry)) (suc i)) ⌝ }
 {
@@ -83,7 +90,13 @@ fn factor_row(m: usize, mat_b: &[f64], mat_f: &[f64], xc: &[f64], storage: &mut 
 }
 
 // The rows in turn, until a pivot stops it: one more than its row, or 0.
-pub(crate) fn factor_rows(m: usize, mat_b: &[f64], mat_f: &[f64], xc: &[f64], storage: &mut [f64]) -> usize
+pub(crate) fn factor_rows(
+    m: usize,
+    mat_b: &[f64],
+    mat_f: &[f64],
+    xc: &[f64],
+    storage: &mut [f64],
+) -> usize
     requires { ⌜ LmiReads m (now «mat_b») (now «mat_f») (now xc) × (length (now storage) ≡ m * m) ⌝ }
     ensures { λ r. ⌜ (r, now (storage .exit)) ≡ rowsOf (get-elem m (now («mat_b» .entry)) (now («mat_f» .entry)) (now (xc .entry))) m (now (storage .entry)) ⌝ }
 {

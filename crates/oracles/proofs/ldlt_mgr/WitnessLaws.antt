@@ -22,7 +22,7 @@ module _ (m : ℕ) (storage : List Float) (end : ℕ) where
   -- the entry p of a witness, from those after it
   tail-step : (p k : ℕ) → end ≡ suc (suc k) + p
       → witness-tail m storage end (end - p)
-        ≡ neg (total _⊕_ 0ᶠ (λ j. at m storage (p + 1 + j) p ⊗ entry (witness-tail m storage end (suc k)) j) (suc k)) ∷ witness-tail m storage end (suc k)
+      ≡ neg (total _⊕_ 0ᶠ (λ j. at m storage (p + 1 + j) p ⊗ entry (witness-tail m storage end (suc k)) j) (suc k)) ∷ witness-tail m storage end (suc k)
   unfolding witness-tail
   tail-step p k e =
       let a : end - p ≡ suc (suc k) = omega arith in
@@ -47,7 +47,7 @@ module _ (m : ℕ) (storage : List Float) (end : ℕ) where
       let long = length-set wit (end - 1) 1ᶠ in
       let last : entry w (end - 1) ≡ 1ᶠ = getD-set-same wit (end - 1) 1ᶠ nan (omega arith) in
       let parts : w ≡ take (end - 1) w ++ (1ᶠ ∷ drop end w) =
-          split-at w (end - 1) nan (omega arith) ∙ rw (b, last)
+      split-at w (end - 1) nan (omega arith) ∙ rw (b, last)
       in
       record {
         below = omega arith;
@@ -68,12 +68,12 @@ module _ (m : ℕ) (storage : List Float) (end : ℕ) where
       let q : end - suc p ≡ suc k = omega arith in
       let is : wit ≡ take (suc p) wit₀ ++ after ++ rest = h .is ∙ ap (λ (n : ℕ). take (suc p) wit₀ ++ witness-tail m storage end n ++ rest) q in
       let reads : (j : ℕ) → j < suc k → entry wit (p + 1 + j) ≡ entry after j =
-          λ j a. ap (λ (w : List Float). entry w (p + 1 + j)) is ∙ entry-mid (take (suc p) wit₀) after rest (p + 1) j (rw add-one (length-take-le (suc p) wit₀ (omega arith))) (omega arith)
+      λ j a. ap (λ (w : List Float). entry w (p + 1 + j)) is ∙ entry-mid (take (suc p) wit₀) after rest (p + 1) j (rw add-one (length-take-le (suc p) wit₀ (omega arith))) (omega arith)
       in
       let q2 : end - (p + 1) ≡ suc k = omega arith in
       let sum : s ≡ total _⊕_ 0ᶠ (λ j. at m storage (p + 1 + j) p ⊗ entry after j) (suc k) =
-          e ∙ ap (total _⊕_ 0ᶠ (λ j. at m storage (p + 1 + j) p ⊗ entry wit (p + 1 + j))) q2
-          ∙ total-cong _⊕_ 0ᶠ (λ j. at m storage (p + 1 + j) p ⊗ entry wit (p + 1 + j)) (λ j. at m storage (p + 1 + j) p ⊗ entry after j) (suc k) (λ j a. rw (reads j a))
+      e ∙ ap (total _⊕_ 0ᶠ (λ j. at m storage (p + 1 + j) p ⊗ entry wit (p + 1 + j))) q2
+      ∙ total-cong _⊕_ 0ᶠ (λ j. at m storage (p + 1 + j) p ⊗ entry wit (p + 1 + j)) (λ j. at m storage (p + 1 + j) p ⊗ entry after j) (suc k) (λ j a. rw (reads j a))
       in
       record {
         below = omega arith;
