@@ -9,6 +9,8 @@ use numbers::arr::is_dimension;
 use numbers::refusal::Refusal;
 ghost use mathlib.Core.Path.{_≡_};
 ghost use Prim.Native.Nat.{_*_, _≤_, _<_};
+ghost use mathlib.Core.Bool.{_&&_};
+ghost use lib.Dec.{eqb};
 ghost use lib.ListN.{length};
 ghost use Rattle.oracles.specs.LmiOracle.{lmi-gradient, lmi-assessOf, lmi-answer};
 
@@ -59,6 +61,39 @@ fn assess(
     LmiVerdict::Cut(pos, -at(m, storage, last, last))
 }
 
+// Whether the lengths of the slices are those that m and n say.
+fn lengths_fit(
+    m: usize,
+    n: usize,
+    mat_b: usize,
+    mat_f: usize,
+    xc: usize,
+    storage: usize,
+    wit: usize,
+    grad: usize,
+) -> bool
+    requires { ⌜ (m ≤ 32) × (n ≤ 32) ⌝ }
+    ensures { λ r. ⌜ r ≡ (eqb «mat_b» (m * m) && eqb «mat_f» (n * (m * m)) && eqb xc n && eqb storage (m * m) && eqb wit m && eqb grad n) ⌝ }
+{
+    let size = m * m;
+    if mat_b != size {
+        return false;
+    }
+    if mat_f != n * size {
+        return false;
+    }
+    if xc != n {
+        return false;
+    }
+    if storage != size {
+        return false;
+    }
+    if wit != m {
+        return false;
+    }
+    grad == n
+}
+
 pub fn assess_feas(
     m: usize,
     n: usize,
@@ -77,23 +112,16 @@ pub fn assess_feas(
     if !is_dimension(n) {
         return LmiVerdict::Refused(Refusal::Dimension);
     }
-    let size = m * m;
-    if mat_b.len() != size {
-        return LmiVerdict::Refused(Refusal::Length);
-    }
-    if mat_f.len() != n * size {
-        return LmiVerdict::Refused(Refusal::Length);
-    }
-    if xc.len() != n {
-        return LmiVerdict::Refused(Refusal::Length);
-    }
-    if storage.len() != size {
-        return LmiVerdict::Refused(Refusal::Length);
-    }
-    if wit.len() != m {
-        return LmiVerdict::Refused(Refusal::Length);
-    }
-    if grad.len() != n {
+    if !lengths_fit(
+        m,
+        n,
+        mat_b.len(),
+        mat_f.len(),
+        xc.len(),
+        storage.len(),
+        wit.len(),
+        grad.len(),
+    ) {
         return LmiVerdict::Refused(Refusal::Length);
     }
     assess(m, n, mat_b, mat_f, xc, storage, wit, grad)

@@ -1,11 +1,12 @@
 -- Laws that the proofs of lmi_oracle alone use. Assumes nothing.
 use mathlib.Core.Path.{_≡_, refl, sym, ap, _∙_}
-use mathlib.Core.Bool.{Bool, true, false, not, _&&_}
+use mathlib.Core.Bool.{Bool, true, false, not, _&&_, and-eq-true-iff}
 use mathlib.Core.List.{List}
 use Prim.Native.Nat.{ℕ, _≤_, _<_, _+_, _-_, _*_}
 use native.Mathlib.Nat.{mul-le-mul}
 use native.Mathlib.Omega.{arith}
-use borrow.Author.Tests.{not-true, not-false, eq-eqb, ne-eqb}
+use borrow.Author.Tests.{not-true, not-false, eqb-true, eq-eqb, ne-eqb}
+use lib.Dec.{eqb}
 use lib.ListN.{length, take, drop, length-drop}
 use lib.Seq.{length-take-le}
 use lib.Ieee.{Float, neg}
@@ -67,25 +68,37 @@ module _ (m n : ℕ) (mat-b mat-f xc : List Float) (b : LmiBuffers) (e : ℕ) (o
   unfolding lmi-assessOf
   cut wit grad d z w g f = rw (← h) (skip _ _ _ _ (ne-eqb e 0 z) (rw (g, w, f)))
 
--- ---- the answers by what the tests say; `r` is what is_order answered, `s` what is_dimension did
+-- ---- the answers by what the tests say: `r` is what is_order answered, `s` what is_dimension did, `u` what lengths_fit did
 
 module _ (m n : ℕ) (mat-b mat-f xc : List Float) (b : LmiBuffers) {r : Bool} (e : r ≡ isOrder m) where
   pub wrong-order : not r ≡ true → (Refused Dimension, b) ≡ lmi-answer m n mat-b mat-f xc b
   unfolding lmi-answer
-  wrong-order t = hit _ _ _ _ (rw (no-order m r e t)) refl
+  wrong-order h = hit _ _ _ _ (rw (no-order m r e h)) refl
 
-  module _ {s : Bool} (f : s ≡ isDimension n) (t : not r ≡ false) where
+  module _ {s : Bool} (f : s ≡ isDimension n) (h : not r ≡ false) where
     pub wrong-dimension : not s ≡ true → (Refused Dimension, b) ≡ lmi-answer m n mat-b mat-f xc b
     unfolding lmi-answer
-    wrong-dimension u = hit _ _ _ _ (rw (an-order m r e t, ← f, not-true s u)) refl
+    wrong-dimension k = hit _ _ _ _ (rw (an-order m r e h, ← f, not-true s k)) refl
 
-    right : not s ≡ false → not (isOrder m && isDimension n) ≡ false
-    right u = rw (an-order m r e t, ← f, not-false s u)
+    module _ {u : Bool} (g : u ≡ lmi-fits m n mat-b mat-f xc b) (k : not s ≡ false) where
+      right : not (isOrder m && isDimension n) ≡ false
+      right = rw (an-order m r e h, ← f, not-false s k)
 
-    pub wrong-length : not s ≡ false → lmi-fits m n mat-b mat-f xc b ≡ false → (Refused Length, b) ≡ lmi-answer m n mat-b mat-f xc b
-    unfolding lmi-answer
-    wrong-length u w = skip _ _ _ _ (right u) (hit _ _ _ _ (ap not w) refl)
+      pub wrong-length : not u ≡ true → (Refused Length, b) ≡ lmi-answer m n mat-b mat-f xc b
+      unfolding lmi-answer
+      wrong-length l = skip _ _ _ _ right (hit _ _ _ _ (ap not (sym g) ∙ l) refl)
 
-    pub accepted : (x : LmiVerdict × LmiBuffers) → not s ≡ false → lmi-fits m n mat-b mat-f xc b ≡ true → x ≡ lmi-assessOf m n mat-b mat-f xc b → x ≡ lmi-answer m n mat-b mat-f xc b
-    unfolding lmi-answer
-    accepted x u w f = skip _ _ _ _ (right u) (skip _ _ _ _ (ap not w) f)
+      pub accepted : (v : LmiVerdict) (w : LmiBuffers) → not u ≡ false → (v, w) ≡ lmi-assessOf m n mat-b mat-f xc b → (v, w) ≡ lmi-answer m n mat-b mat-f xc b
+      unfolding lmi-answer
+      accepted v w l x = skip _ _ _ _ right (skip _ _ _ _ (ap not (sym g) ∙ l) x)
+
+-- what lengths_fit says
+pub lengths : (m n b f x s w g : ℕ) {u : Bool} → u ≡ (eqb b (m * m) && eqb f (n * (m * m)) && eqb x n && eqb s (m * m) && eqb w m && eqb g n) → not u ≡ false
+    → (b ≡ m * m) × (f ≡ n * (m * m)) × (x ≡ n) × (s ≡ m * m) × (w ≡ m) × (g ≡ n)
+lengths m n b f x s w g e h =
+    let h5 = and-eq-true-iff _ _ .0 (sym e ∙ not-false _ h) in
+    let h4 = and-eq-true-iff _ _ .0 (h5 .0) in
+    let h3 = and-eq-true-iff _ _ .0 (h4 .0) in
+    let h2 = and-eq-true-iff _ _ .0 (h3 .0) in
+    let h1 = and-eq-true-iff _ _ .0 (h2 .0) in
+    (eqb-true _ _ (h1 .0), eqb-true _ _ (h1 .1), eqb-true _ _ (h2 .1), eqb-true _ _ (h3 .1), eqb-true _ _ (h4 .1), eqb-true _ _ (h5 .1))
