@@ -11,12 +11,12 @@ use lib.Dec.{leb, ltb, eqb}
 use lib.ListN.{length}
 use lib.Ieee.{Float, neg}
 use Rattle.numbers.specs.F64.{_⊕_, _⊗_, _⊘_, 0ᶠ}
-use Rattle.numbers.specs.Pick.{hit, skip}
+use Rattle.numbers.specs.Pick.{pick, hit, skip}
 use Rattle.numbers.specs.declared.refusal.Refusal.{Refusal}
 use Rattle.numbers.specs.declared.refusal.Refusal.the-variants.{Dimension, Length}
 use Rattle.numbers.specs.declared.arr.Number.the-variants.{Value}
 use Rattle.oracles.specs.Matrix.{at, total}
-use Rattle.oracles.specs.LdltMgr.{isOrder, get-elem, taken, reduced, stored, stops, stop-from, stopOf, filled, posOf, rowsOf, factorOf, factor-answer, order-tested, witnessOf, witness-answer}
+use Rattle.oracles.specs.LdltMgr.{isOrder, get-elem, less, taken, reduced, stored, stops, stop-from, stopOf, filled, posOf, rowsOf, factorOf, factor-answer, order-tested, witnessOf, witness-answer}
 use Rattle.oracles.specs.declared.ldlt_mgr.Pos.{Pos}
 use Rattle.oracles.specs.declared.ldlt_mgr.Factored.{Factored}
 use Rattle.oracles.specs.declared.ldlt_mgr.Factored.the-variants.{Definite, Stopped, Refused}
@@ -209,6 +209,54 @@ module _ (A : ℕ → ℕ → Float) where
 pub rows-most : (A : ℕ → ℕ → Float) (m : ℕ) (storage : List Float) (e : ℕ) (out : List Float) → (e, out) ≡ rowsOf A m storage → e ≤ m
 unfolding rowsOf
 rows-most A m storage e out h = rw (ap (λ (x : ℕ × List Float). x .0) h) (stop-most A m)
+
+-- ---- the factorization reads the entries (i, j) with j ≤ i alone: two matrices that agree on these have the same
+
+module _ (A B : ℕ → ℕ → Float) (agree : (i j : ℕ) → j ≤ i → A i j ≡ B i j) where
+  less-cong : (i j : ℕ) (s t : Float) → j ≤ i → s ≡ t → less A i j s ≡ less B i j t
+  less-cong i zero s t l e = agree i 0 l
+  less-cong i (suc j) s t l e = rw (agree i (suc j) l, e)
+
+  taken-cong : (i c n : ℕ) → n ≤ i → n ≤ c → taken A i c n ≡ taken B i c n
+  unfolding taken
+  taken-cong i c zero l h = refl
+  taken-cong i c (suc k) l h =
+      rw (
+        taken-cong i c k (omega arith) (omega arith),
+        less-cong i k _ _ (omega arith) (taken-cong i k k (omega arith) (omega arith)),
+        less-cong k k _ _ (omega arith) (taken-cong k k k (omega arith) (omega arith)),
+        less-cong c k _ _ (omega arith) (taken-cong c k k (omega arith) (omega arith)),
+      )
+
+  reduced-cong : (i j : ℕ) → j ≤ i → reduced A i j ≡ reduced B i j
+  unfolding reduced
+  reduced-cong i j l = less-cong i j _ _ l (taken-cong i j j l (omega arith))
+
+  stored-cong : (r c : ℕ) → stored A r c ≡ stored B r c
+  stored-cong r c = go (ltb c r) refl
+    where
+      go : (t : Bool) → ltb c r ≡ t → stored A r c ≡ stored B r c
+      go true x =
+          let l : c < r = ltb-true c r x in
+          stored-low A r c l ∙ rw (reduced-cong r c (omega arith), reduced-cong c c (omega arith)) (sym (stored-low B r c l))
+      go false x =
+          let l : r ≤ c = ltb-false c r x in
+          stored-high A r c l ∙ reduced-cong c r l ∙ sym (stored-high B r c l)
+
+  stop-cong : (left i : ℕ) → stop-from A left i ≡ stop-from B left i
+  unfolding stop-from
+  stop-cong zero i = refl
+  stop-cong (suc left) i = rw (reduced-cong i i (omega arith), stop-cong left (suc i))
+
+  filled-cong : (m : ℕ) (storage : List Float) (k : ℕ) → filled A m storage k ≡ filled B m storage k
+  filled-cong m storage k =
+      filled-ext B m storage k (filled A m storage k) (length-filled A m storage k)
+      (λ r c a b x y. filled-in A m storage k r c a b x y ∙ stored-cong r c)
+      (filled-out A m storage k)
+
+  pub reads-lower : (m : ℕ) (storage : List Float) → rowsOf A m storage ≡ rowsOf B m storage
+  unfolding rowsOf stopOf
+  reads-lower m storage = rw (stop-cong m 0, filled-cong m storage (pick (eqb (stop-from B m 0) 0) m (stop-from B m 0)))
 
 -- ---- the witness right after a stopped `factor` is never refused
 
