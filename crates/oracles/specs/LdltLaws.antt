@@ -84,7 +84,7 @@ module _ (A : ℕ → ℕ → Float) where
   taken-total i c zero = refl
   taken-total i c (suc k) = ap (λ (s : Float). s ⊕ reduced A i k ⊘ reduced A k k ⊗ reduced A c k) (taken-total i c k)
 
--- the storage with the rows and columns below k written: these are the factors', and the rest is as it was
+-- a place has both its row and its column below k, or not
 front : (r c k : ℕ) → ((r < k) × (c < k)) ⊎ (r < k → c < k → ⊥)
 front r c k = go (ltb r k) (ltb c k) refl refl
   where
@@ -101,6 +101,7 @@ outside r c k apart = go (ltb r k) (ltb c k) refl refl
     go true false x y = rw (x, y)
     go false t x y = rw x
 
+-- the storage with the rows and columns below k written: these are the factors', and the rest is as it was
 module _ (A : ℕ → ℕ → Float) (m : ℕ) (storage : List Float) (k : ℕ) where
   pub length-filled : length (filled A m storage k) ≡ m * m
   unfolding filled
@@ -153,12 +154,12 @@ module _ (A : ℕ → ℕ → Float) where
   unfolding stop-from
   stop-later left i h = sym (skip _ _ _ _ h refl)
 
-  -- the stop is one more than the first row whose pivot stops it
-  pub record FirstFrom (left s e : ℕ) : Type 0 where
-    pub from : s ≤ e
-    pub within : e < s + left
-    pub stopped : stops (reduced A e e) ≡ true
-    pub passed : (k : ℕ) → s ≤ k → k < e → stops (reduced A k k) ≡ false
+  -- e is the first of `left` rows from s on whose pivot stops it
+  record FirstFrom (left s e : ℕ) : Type 0 where
+    from : s ≤ e
+    within : e < s + left
+    stopped : stops (reduced A e e) ≡ true
+    passed : (k : ℕ) → s ≤ k → k < e → stops (reduced A k k) ≡ false
 
   first-from : (left s e : ℕ) → stop-from A left s ≡ suc e → FirstFrom left s e
   unfolding stop-from
@@ -190,9 +191,10 @@ module _ (A : ℕ → ℕ → Float) where
           (λ (y : s < k). later (sym (stop-later left s x) ∙ h) y)
           (eq-or-lt-of-le a)
 
-  pub stop-first : (m e : ℕ) → stopOf A m ≡ suc e → FirstFrom m 0 e
+  -- the stop is one more than the first row whose pivot stops it, and 0 where none does
+  pub stop-first : (m e : ℕ) → stopOf A m ≡ suc e → (e < m) × (stops (reduced A e e) ≡ true) × ((k : ℕ) → k < e → stops (reduced A k k) ≡ false)
   unfolding stopOf
-  stop-first m e h = first-from m 0 e h
+  stop-first m e h = let r = first-from m 0 e h in (omega (arith, r .within), r .stopped, λ k l. r .passed k (omega arith) l)
 
   pub stop-none : (m : ℕ) → stopOf A m ≡ 0 → (k : ℕ) → k < m → stops (reduced A k k) ≡ false
   unfolding stopOf
@@ -203,7 +205,7 @@ module _ (A : ℕ → ℕ → Float) where
     where
       go : (e : ℕ) → stopOf A m ≡ e → stopOf A m ≤ m
       go zero h = omega arith
-      go (suc e) h = omega (arith, stop-first m e h .within)
+      go (suc e) h = omega (arith, stop-first m e h .0)
 
 -- `e` is what factor_rows answered
 pub rows-most : (A : ℕ → ℕ → Float) (m : ℕ) (storage : List Float) (e : ℕ) (out : List Float) → (e, out) ≡ rowsOf A m storage → e ≤ m
