@@ -1,13 +1,14 @@
 -- Laws of matrices over flat lists and of sums, for the proofs here and in the crate above. Assumes nothing.
 use mathlib.Core.Path.{_≡_, refl, sym, ap, _∙_}
-use mathlib.Core.List.{List, [], _∷_}
+use mathlib.Core.List.{List, [], _∷_, _++_, append-assoc}
 use mathlib.Core.Logic.{⊎-elim}
-use Prim.Native.Nat.{ℕ, zero, suc, _≤_, _<_, _+_, _*_}
-use native.Mathlib.Nat.{le-of-suc-le-suc, eq-or-lt-of-le, suc-mul, zero-mul}
+use Prim.Native.Nat.{ℕ, zero, suc, _≤_, _<_, _+_, _-_, _*_}
+use native.Mathlib.Nat.{le-of-suc-le-suc, eq-or-lt-of-le, suc-mul, zero-mul, mul-le-mul}
+use native.Mathlib.Numerals.{add-one}
 use native.Mathlib.Omega.{arith}
 use lib.Ieee.{Float, nan}
-use lib.ListN.{length, take, drop, set, length-append, length-drop, List·getD-append}
-use lib.Seq.{getD-at, getD-append-add, getD-set-same, getD-set-other, getD-take, getD-drop, ext-getD, take-add, take-all, length-take-le}
+use lib.ListN.{length, take, drop, getD, set, length-append, length-drop, List·getD-append}
+use lib.Seq.{take-suc, append-snoc, set-at, getD-at, getD-append-add, getD-set-same, getD-set-other, getD-take, getD-drop, ext-getD, take-add, take-all, length-take-le}
 use Rattle.numbers.specs.Arr.{tab}
 use Rattle.numbers.specs.ArrLaws.{length-tab, row-in, row-unique}
 use Rattle.oracles.specs.Matrix.{entry, at, grid, total}
@@ -62,8 +63,8 @@ front f zero n mat l h = rw (zero-mul n)
 front f (suc m) n mat l h =
     let l′ : m * n + n ≤ length mat = omega (arith, suc-mul m n) in
     let last : take n (drop (m * n) mat) ≡ tab (f m) n =
-        tab-ext (f m) n (take n (drop (m * n) mat)) (length-take-le n (drop (m * n) mat) (rw (length-drop (m * n) mat) (omega arith)))
-        (λ j k. getD-take n (drop (m * n) mat) j nan k ∙ getD-drop (m * n) mat j nan ∙ h m j (omega arith) k)
+    tab-ext (f m) n (take n (drop (m * n) mat)) (length-take-le n (drop (m * n) mat) (rw (length-drop (m * n) mat) (omega arith)))
+    (λ j k. getD-take n (drop (m * n) mat) j nan k ∙ getD-drop (m * n) mat j nan ∙ h m j (omega arith) k)
     in
     rw (suc-mul m n, take-add (m * n) n mat, last, front f m n mat (omega arith) (λ i j a b. h i j (omega arith) b))
 
@@ -94,3 +95,66 @@ pub total-cong : (op : Float → Float → Float) (s : Float) (f g : ℕ → Flo
 unfolding total
 total-cong op s f g zero h = refl
 total-cong op s f g (suc k) h = rw (total-cong op s f g k (λ j l. h j (omega arith)), h k (omega arith))
+
+-- ---- a loop that takes f 0, f 1, .. f (n − 1) into a sum: `s` when i are taken
+
+pub record SummedTo (op : Float → Float → Float) (s₀ : Float) (f : ℕ → Float) (n : ℕ) (s : Float) (i : ℕ) : Type 0 where
+  pub within : i ≤ n
+  pub is : s ≡ total op s₀ f i
+
+module _ (op : Float → Float → Float) (s₀ : Float) (f : ℕ → Float) (n : ℕ) where
+  pub summed-start : SummedTo op s₀ f n s₀ 0
+  unfolding total
+  summed-start = record { within = omega arith; is = refl }
+
+  pub summed-turn : (s : Float) (i : ℕ) (v : Float) → SummedTo op s₀ f n s i → i < n → v ≡ f i → SummedTo op s₀ f n (op s v) (i + 1)
+  unfolding total
+  summed-turn s i v h l e = record { within = omega arith; is = rw (add-one, h .is, e) }
+
+  pub summed-done : (s : Float) (i : ℕ) → SummedTo op s₀ f n s i → n ≤ i → s ≡ total op s₀ f n
+  summed-done s i h l = let q : i ≡ n = omega (arith, h .within) in h .is ∙ rw q
+
+-- the same where the counter k runs from `from` to `end`
+pub record SummedFrom (op : Float → Float → Float) (s₀ : Float) (f : ℕ → Float) (from end : ℕ) (s : Float) (k : ℕ) : Type 0 where
+  pub begun : from ≤ k
+  pub within : k ≤ end
+  pub sum : SummedTo op s₀ (λ j. f (from + j)) (end - from) s (k - from)
+
+module _ (op : Float → Float → Float) (s₀ : Float) (f : ℕ → Float) (from end : ℕ) where
+  pub from-start : from ≤ end → SummedFrom op s₀ f from end s₀ from
+  from-start h =
+      let q : from - from ≡ 0 = omega arith in
+      record { begun = omega arith; within = h; sum = rw q (summed-start op s₀ (λ j. f (from + j)) (end - from)) }
+
+  pub from-turn : (s : Float) (k : ℕ) (v : Float) → SummedFrom op s₀ f from end s k → k < end → v ≡ f k → SummedFrom op s₀ f from end (op s v) (k + 1)
+  from-turn s k v h l e =
+      let b = h .begun in
+      let q : k + 1 - from ≡ k - from + 1 = omega arith in
+      let p : from + (k - from) ≡ k = omega arith in
+      record {
+        begun = omega arith;
+        within = omega arith;
+        sum = rw q (summed-turn op s₀ (λ j. f (from + j)) (end - from) s (k - from) v (h .sum) (omega arith) (rw p e));
+      }
+
+  pub from-done : (s : Float) (k : ℕ) → SummedFrom op s₀ f from end s k → end ≤ k → s ≡ total op s₀ (λ j. f (from + j)) (end - from)
+  from-done s k h l = summed-done op s₀ (λ j. f (from + j)) (end - from) s (k - from) (h .sum) (omega arith)
+
+-- ---- places of a matrix of order 32 at most, which fit a usize
+
+pub row-small : (m i : ℕ) → m ≤ 32 → i < m → i * m + m ≤ 1024
+row-small m i h k = omega (arith, row-in m i m k, mul-le-mul h h)
+
+-- ---- a vector in three parts
+
+-- an entry of the middle one
+pub entry-mid : (xs ys zs : List Float) (i j : ℕ) → length xs ≡ i → j < length ys → entry (xs ++ ys ++ zs) (i + j) ≡ entry ys j
+entry-mid xs ys zs i j e h =
+    rw (← e)
+    (List·getD-append (xs ++ ys) zs nan (length xs + j) (rw (length-append xs ys) (omega arith)) ∙ getD-append-add xs ys j nan)
+
+-- the last entry of the front, set, goes to the middle one
+pub set-last : (xs : List Float) (i : ℕ) (v : Float) (ys zs : List Float) → i < length xs → set (take (suc i) xs ++ ys ++ zs) i v ≡ take i xs ++ (v ∷ ys) ++ zs
+set-last xs i v ys zs h =
+    rw (take-suc xs i nan h, append-snoc (take i xs) (getD xs i nan) ys, append-assoc, append-assoc)
+    (set-at (take i xs) (getD xs i nan) (ys ++ zs) v i (length-take-le i xs (omega arith)))

@@ -29,16 +29,23 @@ pub fn is_order(m: usize) -> bool
     1 <= m && m <= 32
 }
 
+// Entry (i, j) of a matrix (`at` of arr.rs).
+pub(crate) fn at(m: usize, mat: &[f64], i: usize, j: usize) -> f64
+    requires { ⌜ (m ≤ 32) × (i < m) × (j < m) × (length (now mat) ≡ m * m) ⌝ }
+    ensures { λ r. ⌜ r ≡ at m (now (mat .entry)) i j ⌝ }
+{
+    mat[i * m + j]
+}
+
 // The LMI's entry (i, j); with an empty xc it is mat_b's own.
 fn get_elem(m: usize, mat_b: &[f64], mat_f: &[f64], xc: &[f64], i: usize, j: usize) -> f64
     requires { ⌜ LmiReads m (now «mat_b») (now «mat_f») (now xc) × (i < m) × (j < m) ⌝ }
     ensures { λ r. ⌜ r ≡ get-elem m (now («mat_b» .entry)) (now («mat_f» .entry)) (now (xc .entry)) i j ⌝ }
 {
-    let at = i * m + j;
-    let mut s = mat_b[at];
+    let mut s = at(m, mat_b, i, j);
     let mut k = 0;
     while k < xc.len() {
-        s = s - mat_f[k * (m * m) + at] * xc[k];
+        s = s - mat_f[k * (m * m) + (i * m + j)] * xc[k];
         k += 1;
     }
     s
@@ -52,14 +59,21 @@ fn row_sum(m: usize, storage: &[f64], i: usize, c: usize) -> f64
     let mut s = 0.0;
     let mut k = 0;
     while k < c {
-        s = s + storage[i * m + k] * storage[k * m + c];
+        s = s + at(m, storage, i, k) * at(m, storage, k, c);
         k += 1;
     }
     s
 }
 
 // Row i of the factors, and its pivot.
-fn factor_row(m: usize, mat_b: &[f64], mat_f: &[f64], xc: &[f64], storage: &mut [f64], i: usize) -> f64
+fn factor_row(
+    m: usize,
+    mat_b: &[f64],
+    mat_f: &[f64],
+    xc: &[f64],
+    storage: &mut [f64],
+    i: usize,
+) -> f64
     requires { ⌜ LmiReads m (now «mat_b») (now «mat_f») (now xc) × (i < m) × (length (now storage) ≡ m * m) × FactoredTo (get-elem m (now «mat_b») (now «mat_f») (now xc)) m (now storage) i ⌝ }
     ensures { λ r. ⌜ (r ≡ reduced (get-elem m (now («mat_b» .entry)) (now («mat_f» .entry)) (now (xc .entry))) i i) × (now (storage .exit) ≡ filled (get-elem m (now («mat_b» .entry)) (now («mat_f» .entry)) (now (xc .entry))) m (now (storage .entry)) (suc i)) ⌝ }
 {
@@ -67,7 +81,7 @@ fn factor_row(m: usize, mat_b: &[f64], mat_f: &[f64], xc: &[f64], storage: &mut 
     let mut j = 0;
     while j < i {
         storage[j * m + i] = diag; // keep for later
-        storage[i * m + j] = diag / storage[j * m + j]; // L[i, j]
+        storage[i * m + j] = diag / at(m, storage, j, j); // L[i, j]
         j += 1;
         diag = get_elem(m, mat_b, mat_f, xc, i, j) - row_sum(m, storage, i, j);
     }
@@ -76,7 +90,13 @@ fn factor_row(m: usize, mat_b: &[f64], mat_f: &[f64], xc: &[f64], storage: &mut 
 }
 
 // The rows in turn, until a pivot stops it: one more than its row, or 0.
-pub(crate) fn factor_rows(m: usize, mat_b: &[f64], mat_f: &[f64], xc: &[f64], storage: &mut [f64]) -> usize
+pub(crate) fn factor_rows(
+    m: usize,
+    mat_b: &[f64],
+    mat_f: &[f64],
+    xc: &[f64],
+    storage: &mut [f64],
+) -> usize
     requires { ⌜ LmiReads m (now «mat_b») (now «mat_f») (now xc) × (length (now storage) ≡ m * m) ⌝ }
     ensures { λ r. ⌜ (r, now (storage .exit)) ≡ rowsOf (get-elem m (now («mat_b» .entry)) (now («mat_f» .entry)) (now (xc .entry))) m (now (storage .entry)) ⌝ }
 {
@@ -118,7 +138,7 @@ fn column_sum(m: usize, storage: &[f64], wit: &[f64], i: usize, end: usize) -> f
     let mut s = 0.0;
     let mut k = i + 1;
     while k < end {
-        s = s + storage[k * m + i] * wit[k];
+        s = s + at(m, storage, k, i) * wit[k];
         k += 1;
     }
     s
@@ -151,12 +171,15 @@ pub fn witness(m: usize, pos: Pos, storage: &[f64], wit: &mut [f64]) -> Number
     if wit.len() != m {
         return Number::Refused(Refusal::Length);
     }
-    if !(pos.start < pos.end && pos.end <= m) {
+    if pos.start >= pos.end {
+        return Number::Refused(Refusal::Position);
+    }
+    if pos.end > m {
         return Number::Refused(Refusal::Position);
     }
     witness_into(m, pos, storage, wit);
     let last = pos.end - 1;
-    Number::Value(-storage[last * m + last])
+    Number::Value(-at(m, storage, last, last))
 }
 
 // The part of the quadratic form that row i gives, from the upper triangle.
@@ -167,10 +190,10 @@ fn quad_row(m: usize, wit: &[f64], mat: &[f64], end: usize, i: usize) -> f64
     let mut s = 0.0;
     let mut j = i + 1;
     while j < end {
-        s = s + mat[i * m + j] * wit[j];
+        s = s + at(m, mat, i, j) * wit[j];
         j += 1;
     }
-    wit[i] * (mat[i * m + i] * wit[i] + 2.0 * s)
+    wit[i] * (at(m, mat, i, i) * wit[i] + 2.0 * s)
 }
 
 pub(crate) fn quad(m: usize, pos: Pos, wit: &[f64], mat: &[f64]) -> f64
@@ -199,7 +222,10 @@ pub fn sym_quad(m: usize, pos: Pos, wit: &[f64], mat: &[f64]) -> Number
     if mat.len() != m * m {
         return Number::Refused(Refusal::Length);
     }
-    if !(pos.start <= pos.end && pos.end <= m) {
+    if pos.start > pos.end {
+        return Number::Refused(Refusal::Position);
+    }
+    if pos.end > m {
         return Number::Refused(Refusal::Position);
     }
     Number::Value(quad(m, pos, wit, mat))

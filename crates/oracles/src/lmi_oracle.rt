@@ -1,5 +1,6 @@
 // The LMI assessment: is mat_b − Σ xc[k] mat_f[k] positive definite (lmi_oracle.rs, lmi_oracle_base.rs)?
 use crate::ldlt_mgr::Pos;
+use crate::ldlt_mgr::at;
 use crate::ldlt_mgr::factor_rows;
 use crate::ldlt_mgr::is_order;
 use crate::ldlt_mgr::quad;
@@ -8,6 +9,8 @@ use numbers::arr::is_dimension;
 use numbers::refusal::Refusal;
 ghost use mathlib.Core.Path.{_≡_};
 ghost use Prim.Native.Nat.{_*_, _≤_, _<_};
+ghost use mathlib.Core.Bool.{_&&_};
+ghost use lib.Dec.{eqb};
 ghost use lib.ListN.{length};
 ghost use Rattle.oracles.specs.LmiOracle.{lmi-gradient, lmi-assessOf, lmi-answer};
 
@@ -44,7 +47,7 @@ fn assess(
     wit: &mut [f64],
     grad: &mut [f64],
 ) -> LmiVerdict
-    requires { ⌜ (1 ≤ m) × (m ≤ 32) × (n ≤ 32) × (length (now «mat_b») ≡ m * m) × (length (now «mat_f») ≡ n * (m * m)) × (length (now xc) ≡ n) × (length (now storage) ≡ m * m) × (length (now wit) ≡ m) × (length (now grad) ≡ n) ⌝ }
+    requires { ⌜ (m ≤ 32) × (n ≤ 32) × (length (now «mat_b») ≡ m * m) × (length (now «mat_f») ≡ n * (m * m)) × (length (now xc) ≡ n) × (length (now storage) ≡ m * m) × (length (now wit) ≡ m) × (length (now grad) ≡ n) ⌝ }
     ensures { λ r. ⌜ (r, record { storage = now (storage .exit); wit = now (wit .exit); grad = now (grad .exit) }) ≡ lmi-assessOf m n (now («mat_b» .entry)) (now («mat_f» .entry)) (now (xc .entry)) (record { storage = now (storage .entry); wit = now (wit .entry); grad = now (grad .entry) }) ⌝ }
 {
     let end = factor_rows(m, mat_b, mat_f, xc, storage);
@@ -55,7 +58,40 @@ fn assess(
     witness_into(m, pos, storage, wit);
     gradient_into(m, n, pos, wit, mat_f, grad);
     let last = end - 1;
-    LmiVerdict::Cut(pos, -storage[last * m + last])
+    LmiVerdict::Cut(pos, -at(m, storage, last, last))
+}
+
+// Whether the lengths of the slices are those that m and n say.
+fn lengths_fit(
+    m: usize,
+    n: usize,
+    mat_b: usize,
+    mat_f: usize,
+    xc: usize,
+    storage: usize,
+    wit: usize,
+    grad: usize,
+) -> bool
+    requires { ⌜ (m ≤ 32) × (n ≤ 32) ⌝ }
+    ensures { λ r. ⌜ r ≡ (eqb «mat_b» (m * m) && eqb «mat_f» (n * (m * m)) && eqb xc n && eqb storage (m * m) && eqb wit m && eqb grad n) ⌝ }
+{
+    let size = m * m;
+    if mat_b != size {
+        return false;
+    }
+    if mat_f != n * size {
+        return false;
+    }
+    if xc != n {
+        return false;
+    }
+    if storage != size {
+        return false;
+    }
+    if wit != m {
+        return false;
+    }
+    grad == n
 }
 
 pub fn assess_feas(
@@ -70,14 +106,22 @@ pub fn assess_feas(
 ) -> LmiVerdict
     ensures { λ r. ⌜ (r, record { storage = now (storage .exit); wit = now (wit .exit); grad = now (grad .exit) }) ≡ lmi-answer m n (now («mat_b» .entry)) (now («mat_f» .entry)) (now (xc .entry)) (record { storage = now (storage .entry); wit = now (wit .entry); grad = now (grad .entry) }) ⌝ }
 {
-    if !(is_order(m) && is_dimension(n)) {
+    if !is_order(m) {
         return LmiVerdict::Refused(Refusal::Dimension);
     }
-    let size = m * m;
-    if !(mat_b.len() == size && mat_f.len() == n * size && xc.len() == n) {
-        return LmiVerdict::Refused(Refusal::Length);
+    if !is_dimension(n) {
+        return LmiVerdict::Refused(Refusal::Dimension);
     }
-    if !(storage.len() == size && wit.len() == m && grad.len() == n) {
+    if !lengths_fit(
+        m,
+        n,
+        mat_b.len(),
+        mat_f.len(),
+        xc.len(),
+        storage.len(),
+        wit.len(),
+        grad.len(),
+    ) {
         return LmiVerdict::Refused(Refusal::Length);
     }
     assess(m, n, mat_b, mat_f, xc, storage, wit, grad)

@@ -1,0 +1,59 @@
+-- `oracles::ldlt_mgr::column_sum` meets its contract. The invariant: the rows below k are added. Assumes nothing.
+use Prim.Native.Nat.{_+_, _-_}
+use borrow.Author.Needs.{needs}
+use Rattle.numbers.specs.F64.{_⊕_, _⊗_, 0ᶠ}
+use Rattle.oracles.specs.Matrix.{entry, at}
+use Rattle.oracles.specs.MatrixLaws.{SummedFrom, from-start, from-turn, from-done}
+use Rattle.oracles.proofs.ldlt_mgr.column_sum.Statement.{statement}
+use Rattle.oracles.proofs.ldlt_mgr.column_sum.Tie as tie
+
+abbrev Inv-loop : tie.InvT-loop
+Inv-loop m storage wit i end s₀ k₀ s k = SummedFrom _⊕_ 0ᶠ (λ k. at m storage k i ⊗ entry wit k) (i + 1) end s k
+
+abbrev μ-loop : tie.MeasureT-loop
+μ-loop m storage wit i end s₀ k₀ s k = end - k
+
+add-k : tie.Need-add-k Inv-loop μ-loop
+add-k c = search needs
+
+loop-holds : tie.Need-loop-holds Inv-loop μ-loop
+loop-holds c = from-start _ _ _ _ _ (search needs)
+
+at-requires : tie.Need-at-requires Inv-loop μ-loop
+at-requires c κs = search needs
+
+mul-s : tie.Need-mul-s Inv-loop μ-loop
+mul-s c = search needs
+
+shared-slice-read-s : tie.Need-shared-slice-read-s Inv-loop μ-loop
+shared-slice-read-s c = search needs
+
+add-k-2 : tie.Need-add-k-2 Inv-loop μ-loop
+add-k-2 c = search needs
+
+loop-less : tie.Need-loop-less Inv-loop μ-loop
+loop-less c = search needs
+
+loop-again : tie.Need-loop-again Inv-loop μ-loop
+loop-again c =
+    let l = c .before .before .before .loop in
+    from-turn _ _ _ _ _ (l .s) (l .k) _ (l .inv) (search needs) (rw (c .before .at .ensures))
+
+returns : tie.Need-returns Inv-loop μ-loop
+returns c = let l = c .before .loop in from-done _ _ _ _ _ (l .s) (l .k) (l .inv) (search needs)
+
+pub column-sum-spec : {M : Type 1} → statement M
+column-sum-spec =
+    tie.close
+    (tie.spec
+    Inv-loop
+    μ-loop
+    add-k
+    loop-holds
+    at-requires
+    mul-s
+    shared-slice-read-s
+    add-k-2
+    loop-less
+    loop-again
+    returns)

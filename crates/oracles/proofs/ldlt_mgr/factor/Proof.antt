@@ -1,0 +1,80 @@
+-- `oracles::ldlt_mgr::factor` meets its contract. Assumes nothing.
+use mathlib.Core.Path.{_∙_}
+use native.Mathlib.Nat.{mul-le-mul}
+use native.Mathlib.Omega.{arith}
+use borrow.Author.Tests.{eq-eqb, ne-eqb}
+use borrow.Author.Needs.{needs}
+use Rattle.oracles.specs.LdltMgr.{get-elem}
+use Rattle.oracles.specs.LdltLaws.{order-most, wrong-order, wrong-length, accepted, plain-reads}
+use Rattle.oracles.proofs.ldlt_mgr.Laws.{definite, stopped-at}
+use Rattle.oracles.proofs.ldlt_mgr.factor.Statement.{statement}
+use Rattle.oracles.proofs.ldlt_mgr.factor.Tie as tie
+
+is-order-requires : tie.Need-is-order-requires
+is-order-requires c κs = search needs
+
+returns : tie.Need-returns
+returns c = wrong-order _ _ (c .before .is-order .ensures) _ _ _ _ (c .if1 .taken)
+
+mul-if2 : tie.Need-mul-if2
+mul-if2 c =
+    let h = order-most (c .before .before .before .before .args .m) _ (c .before .is-order .ensures) (c .if1 .left) in
+    omega (arith, mul-le-mul h h)
+
+returns-2 : tie.Need-returns-2
+returns-2 c = wrong-length _ _ (c .before .before .is-order .ensures) _ _ _ _ (c .before .if1 .left) (rw (ne-eqb _ _ (c .if2 .taken)))
+
+mul-if3 : tie.Need-mul-if3
+mul-if3 c = search needs
+
+returns-3 : tie.Need-returns-3
+returns-3 c =
+    let e = c .before .before in
+    wrong-length _ _ (e .before .is-order .ensures) _ _ _ _ (e .if1 .left) (rw (eq-eqb _ _ (c .before .if2 .left), ne-eqb _ _ (c .if3 .taken)))
+
+slice-aggregate-factor-rows : tie.Need-slice-aggregate-factor-rows
+slice-aggregate-factor-rows c = search needs
+
+slice-aggregate-factor-rows-2 : tie.Need-slice-aggregate-factor-rows-2
+slice-aggregate-factor-rows-2 c = search needs
+
+factor-rows-requires : tie.Need-factor-rows-requires
+factor-rows-requires c κs =
+    let e = c .before .before .before in
+    (plain-reads _ _ (order-most _ _ (e .before .before .before .is-order .ensures) (e .before .before .if1 .left)) (search needs), search needs)
+
+same-length : tie.Need-same-length
+same-length c = search needs
+
+returns-4 : tie.Need-returns-4
+returns-4 c =
+    let e = c .before .before .before .before .before .before .before in
+    definite (get-elem _ _ _ _) _ _ _ _ (c .before .before .before .factor-rows .ensures) (c .if4 .taken)
+    ∙ accepted _ _ (e .before .before .before .is-order .ensures) _ _ _ _ (e .before .before .if1 .left) (rw (eq-eqb _ _ (e .before .if2 .left), eq-eqb _ _ (e .if3 .left)))
+
+same-length-2 : tie.Need-same-length-2
+same-length-2 c = search needs
+
+returns-5 : tie.Need-returns-5
+returns-5 c =
+    let e = c .before .before .before .before .before .before .before in
+    stopped-at (get-elem _ _ _ _) _ _ _ _ (c .before .before .before .factor-rows .ensures) (c .if4 .left)
+    ∙ accepted _ _ (e .before .before .before .is-order .ensures) _ _ _ _ (e .before .before .if1 .left) (rw (eq-eqb _ _ (e .before .if2 .left), eq-eqb _ _ (e .if3 .left)))
+
+pub factor-spec : {M : Type 1} → statement M
+factor-spec =
+    tie.close
+    (tie.spec
+    is-order-requires
+    returns
+    mul-if2
+    returns-2
+    mul-if3
+    returns-3
+    slice-aggregate-factor-rows
+    slice-aggregate-factor-rows-2
+    factor-rows-requires
+    same-length
+    returns-4
+    same-length-2
+    returns-5)

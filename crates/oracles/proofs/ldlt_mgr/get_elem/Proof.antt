@@ -1,0 +1,101 @@
+-- `oracles::ldlt_mgr::get_elem` meets its contract. The invariant: the matrices below k are subtracted. Assumes nothing.
+use mathlib.Core.Path.{refl}
+use Prim.Native.Nat.{_+_, _-_, _*_}
+use native.Mathlib.Omega.{arith}
+use borrow.Author.Needs.{needs}
+use lib.ListN.{length}
+use Rattle.numbers.specs.F64.{_⊖_, _⊗_}
+use Rattle.oracles.specs.Matrix.{entry, at}
+use Rattle.oracles.specs.LdltMgr.{get-elem}
+use Rattle.oracles.specs.MatrixLaws.{SummedTo, summed-start, summed-turn, summed-done}
+use Rattle.oracles.proofs.ldlt_mgr.Laws.{small-f, place-f}
+use Rattle.oracles.proofs.ldlt_mgr.get_elem.Statement.{statement}
+use Rattle.oracles.proofs.ldlt_mgr.get_elem.Tie as tie
+
+abbrev Inv-loop : tie.InvT-loop
+Inv-loop m mat-b mat-f xc i j s₀ k₀ s k = SummedTo _⊖_ (at m mat-b i j) (λ k. entry mat-f (k * (m * m) + (i * m + j)) ⊗ entry xc k) (length xc) s k
+
+abbrev μ-loop : tie.MeasureT-loop
+μ-loop m mat-b mat-f xc i j s₀ k₀ s k = length xc - k
+
+at-requires : tie.Need-at-requires Inv-loop μ-loop
+at-requires c κs = search needs
+
+loop-holds : tie.Need-loop-holds Inv-loop μ-loop
+loop-holds c = rw (c .at .ensures) (summed-start _ _ _ _)
+
+mul-s : tie.Need-mul-s Inv-loop μ-loop
+mul-s c = search needs
+
+mul-s-2 : tie.Need-mul-s-2 Inv-loop μ-loop
+mul-s-2 c =
+    let s = c .before .before .before .before .before .before in
+    omega (arith, small-f _ _ _ _ (s .pre .0) (c .before .loop .k) (s .args .i) (s .args .j) (search needs) (search needs) (search needs))
+
+mul-s-3 : tie.Need-mul-s-3 Inv-loop μ-loop
+mul-s-3 c =
+    let s = c .before .before .before .before .before .before in
+    omega (arith, small-f _ _ _ _ (s .pre .0) (c .before .loop .k) (s .args .i) (s .args .j) (search needs) (search needs) (search needs))
+
+add-s : tie.Need-add-s Inv-loop μ-loop
+add-s c =
+    let s = c .before .before .before .before .before .before in
+    omega (arith, small-f _ _ _ _ (s .pre .0) (c .before .loop .k) (s .args .i) (s .args .j) (search needs) (search needs) (search needs))
+
+add-s-2 : tie.Need-add-s-2 Inv-loop μ-loop
+add-s-2 c =
+    let s = c .before .before .before .before .before .before in
+    omega (arith, small-f _ _ _ _ (s .pre .0) (c .before .loop .k) (s .args .i) (s .args .j) (search needs) (search needs) (search needs))
+
+mul-s-4 : tie.Need-mul-s-4 Inv-loop μ-loop
+mul-s-4 c =
+    let s = c .before .before .before .before .before .before in
+    omega (arith, small-f _ _ _ _ (s .pre .0) (c .before .loop .k) (s .args .i) (s .args .j) (search needs) (search needs) (search needs))
+
+shared-slice-read-s : tie.Need-shared-slice-read-s Inv-loop μ-loop
+shared-slice-read-s c =
+    let s = c .before .before .before .before .before .before .before in
+    place-f _ _ _ _ (s .pre .0) (c .before .before .loop .k) (s .args .i) (s .args .j) (search needs) (search needs) (search needs)
+
+mul-s-5 : tie.Need-mul-s-5 Inv-loop μ-loop
+mul-s-5 c = search needs
+
+shared-slice-read-s-2 : tie.Need-shared-slice-read-s-2 Inv-loop μ-loop
+shared-slice-read-s-2 c = search needs
+
+add-k : tie.Need-add-k Inv-loop μ-loop
+add-k c = search needs
+
+loop-less : tie.Need-loop-less Inv-loop μ-loop
+loop-less c = search needs
+
+loop-again : tie.Need-loop-again Inv-loop μ-loop
+loop-again c =
+    let l = c .before .before .before .loop in
+    summed-turn _ _ _ _ (l .s) (l .k) _ (l .inv) (search needs) refl
+
+returns : tie.Need-returns Inv-loop μ-loop
+unfolding get-elem
+returns c = let l = c .before .loop in summed-done _ _ _ _ (l .s) (l .k) (l .inv) (search needs)
+
+pub get-elem-spec : {M : Type 1} → statement M
+get-elem-spec =
+    tie.close
+    (tie.spec
+    Inv-loop
+    μ-loop
+    at-requires
+    loop-holds
+    mul-s
+    mul-s-2
+    mul-s-3
+    add-s
+    add-s-2
+    mul-s-4
+    shared-slice-read-s
+    mul-s-5
+    shared-slice-read-s-2
+    add-k
+    loop-less
+    loop-again
+    returns)

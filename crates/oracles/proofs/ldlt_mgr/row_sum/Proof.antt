@@ -1,0 +1,51 @@
+-- `oracles::ldlt_mgr::row_sum` meets its contract. The invariant: the columns below k are added. Assumes nothing.
+use Prim.Native.Nat.{_-_}
+use borrow.Author.Needs.{needs}
+use Rattle.numbers.specs.F64.{_⊕_, _⊗_, 0ᶠ}
+use Rattle.oracles.specs.Matrix.{at}
+use Rattle.oracles.specs.MatrixLaws.{SummedTo, summed-start, summed-turn, summed-done}
+use Rattle.oracles.proofs.ldlt_mgr.row_sum.Statement.{statement}
+use Rattle.oracles.proofs.ldlt_mgr.row_sum.Tie as tie
+
+abbrev Inv-loop : tie.InvT-loop
+Inv-loop m storage i c s₀ k₀ s k = SummedTo _⊕_ 0ᶠ (λ k. at m storage i k ⊗ at m storage k c) c s k
+
+abbrev μ-loop : tie.MeasureT-loop
+μ-loop m storage i c s₀ k₀ s k = c - k
+
+loop-holds : tie.Need-loop-holds Inv-loop μ-loop
+loop-holds c = summed-start _ _ _ _
+
+at-requires : tie.Need-at-requires Inv-loop μ-loop
+at-requires c κs = search needs
+
+at-requires-2 : tie.Need-at-requires-2 Inv-loop μ-loop
+at-requires-2 c κs = search needs
+
+add-k : tie.Need-add-k Inv-loop μ-loop
+add-k c = search needs
+
+loop-less : tie.Need-loop-less Inv-loop μ-loop
+loop-less c = search needs
+
+loop-again : tie.Need-loop-again Inv-loop μ-loop
+loop-again c =
+    let l = c .before .before .before .loop in
+    summed-turn _ _ _ _ (l .s) (l .k) _ (l .inv) (search needs) (rw (c .before .at .ensures, c .at2 .ensures))
+
+returns : tie.Need-returns Inv-loop μ-loop
+returns c = let l = c .before .loop in summed-done _ _ _ _ (l .s) (l .k) (l .inv) (search needs)
+
+pub row-sum-spec : {M : Type 1} → statement M
+row-sum-spec =
+    tie.close
+    (tie.spec
+    Inv-loop
+    μ-loop
+    loop-holds
+    at-requires
+    at-requires-2
+    add-k
+    loop-less
+    loop-again
+    returns)

@@ -1,0 +1,67 @@
+-- `oracles::lmi_oracle::assess_feas` meets its contract. Assumes nothing.
+use borrow.Author.Needs.{needs}
+use Rattle.oracles.specs.LdltLaws.{order-most}
+use Rattle.oracles.proofs.lmi_oracle.Laws.{dimension-small, wrong-order, wrong-dimension, wrong-length, accepted, lengths}
+use Rattle.oracles.proofs.lmi_oracle.assess_feas.Statement.{statement}
+use Rattle.oracles.proofs.lmi_oracle.assess_feas.Tie as tie
+
+is-order-requires : tie.Need-is-order-requires
+is-order-requires c κs = search needs
+
+returns : tie.Need-returns
+returns c = wrong-order _ _ _ _ _ _ (c .before .is-order .ensures) (c .if1 .taken)
+
+is-dimension-requires : tie.Need-is-dimension-requires
+is-dimension-requires c κs = search needs
+
+returns-2 : tie.Need-returns-2
+returns-2 c =
+    let e = c .before .before in
+    wrong-dimension _ _ _ _ _ _ (e .before .is-order .ensures) (c .before .is-dimension .ensures) (e .if1 .left) (c .if2 .taken)
+
+lengths-fit-requires : tie.Need-lengths-fit-requires
+lengths-fit-requires c κs =
+    (order-most _ _ (c .before .before .before .is-order .ensures) (c .before .before .if1 .left), dimension-small _ _ (c .before .is-dimension .ensures) (c .if2 .left))
+
+returns-3 : tie.Need-returns-3
+returns-3 c =
+    let e = c .before .before in
+    wrong-length _ _ _ _ _ _ (e .before .before .before .is-order .ensures) (e .before .is-dimension .ensures) (e .before .before .if1 .left) (c .before .lengths-fit .ensures) (e .if2 .left) (c .if3 .taken)
+
+assess-requires : tie.Need-assess-requires
+assess-requires c κs =
+    let f = c .before .before .before in
+    let e = f .before .before in
+    let q = lengths _ _ _ _ _ _ _ _ (f .before .lengths-fit .ensures) (f .if3 .left) in
+    (order-most _ _ (e .before .before .before .is-order .ensures) (e .before .before .if1 .left), dimension-small _ _ (e .before .is-dimension .ensures) (e .if2 .left), q .0, q .1, q .2, q .3, q .4, q .5)
+
+same-length : tie.Need-same-length
+same-length c = search needs
+
+same-length-2 : tie.Need-same-length-2
+same-length-2 c = search needs
+
+same-length-3 : tie.Need-same-length-3
+same-length-3 c = search needs
+
+returns-4 : tie.Need-returns-4
+returns-4 c =
+    let f = c .before .before .before .before .before .before .before .before .before .before in
+    let e = f .before .before in
+    accepted _ _ _ _ _ _ (e .before .before .before .is-order .ensures) (e .before .is-dimension .ensures) (e .before .before .if1 .left) (f .before .lengths-fit .ensures) (e .if2 .left) _ (record { storage = _; wit = _; grad = _ }) (f .if3 .left) (c .before .before .before .before .before .before .assess .ensures)
+
+pub assess-feas-spec : {M : Type 1} → statement M
+assess-feas-spec =
+    tie.close
+    (tie.spec
+    is-order-requires
+    returns
+    is-dimension-requires
+    returns-2
+    lengths-fit-requires
+    returns-3
+    assess-requires
+    same-length
+    same-length-2
+    same-length-3
+    returns-4)
