@@ -3,10 +3,10 @@ use mathlib.Core.Path.{_≡_, refl, sym, ap, _∙_, subst}
 use mathlib.Core.Bool.{Bool, true, false, true≢false}
 use Prim.Native.Nat.{ℕ, zero, suc, _≤_, _<_, _+_, _^_}
 use native.Mathlib.Omega.{arith}
-use borrow.Author.Tests.{ltb-true}
+use borrow.Author.Tests.{ltb-true, eqb-true, eqb-false}
 use lib.IntN.{ℤ, pos, negsuc, predℤ, sucℤ, natAbs, _+ℤ_, _-ℤ_, +ℤ-one, -ℤ-one, suc-pred}
 use lib.Signed.{ltZ, leZ, nonNeg}
-use lib.Dec.{T}
+use lib.Dec.{T, eqb}
 use mir.Syntax.{Width, w32, w64}
 use mir.Val.{Fits, SFits, toZ, ofZ}
 use mir.Facts.{toZ-ofZ, fits-natAbs}
@@ -41,6 +41,14 @@ pred-fits a l f = subst (SFits w32) (sym (-ℤ-one a)) (go a l f)
 -- two numbers that have the same bits are equal
 pub same-bits : {a b : ℤ} → SFits w32 a → SFits w32 b → ofZ w32 a ≡ ofZ w32 b → a ≡ b
 same-bits fa fb e = sym (toZ-ofZ fa) ∙ ap (toZ w32) e ∙ toZ-ofZ fb
+
+-- a test of bits is a test of numbers
+pub eq-bits : (a b : ℤ) → SFits w32 a → SFits w32 b → eqb (ofZ w32 a) (ofZ w32 b) ≡ eqZ a b
+eq-bits a b fa fb = go (eqb (ofZ w32 a) (ofZ w32 b)) refl
+  where
+    go : (t : Bool) → eqb (ofZ w32 a) (ofZ w32 b) ≡ t → eqb (ofZ w32 a) (ofZ w32 b) ≡ eqZ a b
+    go true e = e ∙ sym (eqZ-yes a b (same-bits fa fb (eqb-true _ _ e)))
+    go false e = e ∙ sym (eqZ-no a b (λ q. eqb-false _ _ e (ap (ofZ w32) q)))
 
 pub pos-fits : (n : ℕ) → n ≤ 1024 → SFits w32 (pos n)
 pos-fits n h = record { sfits = omega arith }

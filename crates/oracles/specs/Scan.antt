@@ -86,7 +86,7 @@ violated Nothing kept broken = kept
 violated (Broken row value over) kept broken = broken row value over
 
 -- the betas of `band_cut`
-unfoldable pub band-beta : Float → Bool → Float → Upper → CutChoice
+abbrev pub band-beta : Float → Bool → Float → Upper → CutChoice
 band-beta v over lower Absent = Single (lower ⊖ v)
 band-beta v over lower (At u) = pick over (Parallel (v ⊖ u) (v ⊖ lower)) (Parallel (lower ⊖ v) (u ⊖ v))
 

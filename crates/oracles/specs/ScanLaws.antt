@@ -7,13 +7,13 @@ use Prim.Native.Nat.{ℕ, zero, suc, _≤_, _<_, _+_, _-_}
 use native.Mathlib.Nat.{eq-or-lt-of-le}
 use native.Mathlib.Decide.{decLt}
 use native.Mathlib.Omega.{arith}
-use borrow.Author.Tests.{le-ltb}
+
 use lib.IntN.{ℤ, pos, predℤ, natAbs, _-ℤ_}
 use lib.Signed.{ltZ}
 use lib.Ieee.{Float, lt, isNan}
 use Rattle.numbers.specs.Pick.{pick}
 use Rattle.oracles.specs.RoundRobin.{isBand, isAt, moved, advanced, Legal}
-use Rattle.oracles.specs.RoundRobinLaws.{or-parts, canon, legal-canon, adv-next, adv-wrap, legal-band, legal-at}
+use Rattle.oracles.specs.RoundRobinLaws.{or-parts, canon, legal-canon, adv-next, adv-wrap, band-is, legal-band, legal-at}
 use Rattle.oracles.specs.FloatOrder.{nlt-trans, lt-asym, lt-irrefl, above-compares}
 use Rattle.oracles.specs.Scan.{−∞, none, valueOf, isOver, scanFrom, scanOf}
 use Rattle.oracles.specs.Verdict.{some-row}

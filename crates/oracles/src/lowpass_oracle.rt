@@ -19,7 +19,8 @@ ghost use lib.ListN.{length};
 ghost use Rattle.oracles.specs.Scan.{Scannable, band-beta, band-gradient};
 ghost use lib.IntN.{pos, natAbs};
 ghost use lib.Signed.{ltZ};
-ghost use mathlib.Core.Bool.{false};
+ghost use mathlib.Core.Bool.{true, false};
+ghost use Rattle.oracles.specs.Verdict.{is-accepted, asked, FeasRule, OptimRule};
 ghost use Rattle.oracles.specs.LowpassOracle.{bands-fit, cursors-fit, isOf, after-pass, after-stop, after-middle, offered, improvedOf, refusedOf, assess-sign, assess-middle, assess-stop, assessOf, assess-feas-answer, assess-optim-answer};
 
 // The state of an oracle over a row table that the caller lends: pass rows are 0 to nwpass − 1, middle rows reach nwstop − 1, stop rows the end.
@@ -117,7 +118,7 @@ fn band_beta(value: f64, is_over: bool, lower: f64, upper: Upper) -> CutChoice
 fn is_of(rr: RoundRobin, lo: i32, hi: i32) -> bool
     ensures { λ r. ⌜ r ≡ isOf rr lo hi ⌝ }
 {
-    rr.lo == lo && rr.hi == hi
+    (rr.lo == lo) & (rr.hi == hi)
 }
 
 impl LowpassOracle {
@@ -131,13 +132,15 @@ impl LowpassOracle {
         let mdim = rows as i32;
         let lo = self.nwpass;
         let hi = self.nwstop;
-        if !(0 <= lo && lo <= hi && hi <= mdim) {
-            return false;
-        }
         let rr1 = self.rr1;
         let rr2 = self.rr2;
         let rr3 = self.rr3;
-        is_of(rr1, 0, lo) && is_of(rr2, lo, hi) && is_of(rr3, hi, mdim)
+        (0 <= lo)
+            & (lo <= hi)
+            & (hi <= mdim)
+            & is_of(rr1, 0, lo)
+            & is_of(rr2, lo, hi)
+            & is_of(rr3, hi, mdim)
     }
 
     // Refusal 4.
@@ -147,7 +150,7 @@ impl LowpassOracle {
         let rr1 = self.rr1;
         let rr2 = self.rr2;
         let rr3 = self.rr3;
-        rr1.is_at() && rr2.is_at() && rr3.is_at()
+        rr1.is_at() & rr2.is_at() & rr3.is_at()
     }
 
     // The oracle after the pass scan.
@@ -371,11 +374,12 @@ impl LowpassOracle {
         grad: &mut [f64],
     ) -> Assessed
         ensures { λ r. ⌜ (r, now (grad .exit)) ≡ assess-feas-answer self n rows (now (table .entry)) (now (x .entry)) (now (grad .entry)) ⌝ }
+        ensures { λ r. ⌜ (is-accepted self n rows (now (table .entry)) (now (x .entry)) (now (grad .entry)) ≡ true → FeasRule (asked self (self .«sp_sq») n rows (now (table .entry)) (now (x .entry))) r) ⌝ }
     {
         if !is_dimension(n) {
             return self.refused(Refusal::Dimension);
         }
-        if !(table_fits(n, rows, table.len(), x.len()) && grad.len() == n) {
+        if !(table_fits(n, rows, table.len(), x.len()) & (grad.len() == n)) {
             return self.refused(Refusal::Length);
         }
         if !self.bands_fit(rows) {
@@ -407,6 +411,7 @@ impl LowpassOracle {
         grad: &mut [f64],
     ) -> AssessedOptim
         ensures { λ r. ⌜ (r, now (grad .exit)) ≡ assess-optim-answer self gamma n rows (now (table .entry)) (now (x .entry)) (now (grad .entry)) ⌝ }
+        ensures { λ r. ⌜ (is-accepted self n rows (now (table .entry)) (now (x .entry)) (now (grad .entry)) ≡ true → OptimRule (asked self gamma n rows (now (table .entry)) (now (x .entry))) r) ⌝ }
     {
         let omega = self.offered(gamma);
         let assessed = omega.assess_feas(n, rows, table, x, grad);

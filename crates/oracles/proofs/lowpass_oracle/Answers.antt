@@ -1,0 +1,154 @@
+-- What the public calls of an oracle answer, by what the tests say. Assumes nothing.
+use mathlib.Core.Path.{_≡_, refl, sym, ap, _∙_, subst}
+use mathlib.Core.Bool.{Bool, true, false, not, _&&_, true≢false}
+use mathlib.Core.List.{List, [], _∷_}
+use mathlib.Core.Logic.{_⊎_, inl, inr}
+use Prim.Native.Nat.{ℕ, _≤_, _<_, _+_, _*_}
+use native.Mathlib.Nat.{suc-mul, mul-le-mul-right}
+use native.Mathlib.Omega.{arith}
+use borrow.Author.Tests.{le-leb, eqb-true}
+use types.Run.{OneOf}
+use denote.Enum.Declared.{tagOf}
+use lib.Dec.{eqb}
+use lib.IntN.{ℤ, pos, natAbs}
+use lib.Signed.{leZ, ltZ}
+use lib.ListN.{length}
+use lib.Ieee.{Float}
+use Rattle.numbers.specs.Pick.{pick, hit, skip}
+use Rattle.numbers.specs.Arr.{isDimension, tested}
+use Rattle.numbers.specs.ArrLaws.{wrong-dimension, wrong-length, accepted, dimension-most}
+use Rattle.numbers.specs.declared.refusal.Refusal.{Refusal}
+use Rattle.numbers.specs.declared.refusal.Refusal.the-variants.{Dimension, Length, Band, Cursor}
+use Rattle.oracles.specs.RoundRobin.{isBand, isAt}
+use Rattle.oracles.specs.RoundRobinLaws.{and-parts, legal-band, legal-at}
+use Rattle.oracles.specs.Scan.{isRows, table-fits, band-fits, Scannable}
+use Rattle.oracles.specs.LowpassOracle.{bands-fit, cursors-fit, refusedOf, assessOf, assess-feas-answer, optim-of, assess-optim-answer, offered}
+use Rattle.oracles.specs.Verdict.{asked, is-accepted, judgement, Peak, FeasRule, OptimRule}
+use Rattle.oracles.specs.AssessLaws.{Spans, Fit, fit, Accepted, accepted-of}
+use Rattle.oracles.specs.CursorRule.{feas-rule, optim-rule, gradient-length}
+use Rattle.oracles.specs.declared.round_robin.RoundRobin.{RoundRobin}
+use Rattle.oracles.specs.declared.lowpass_oracle.LowpassOracle.{LowpassOracle}
+use Rattle.oracles.specs.declared.lowpass_oracle.Verdict.{Verdict}
+use Rattle.oracles.specs.declared.lowpass_oracle.Verdict.the-variants.{Feasible, Cut, Refused}
+use Rattle.oracles.specs.declared.lowpass_oracle.Assessed.{Assessed}
+use Rattle.oracles.specs.declared.lowpass_oracle.AssessedOptim.{AssessedOptim}
+use Rattle.oracles.proofs.lowpass_oracle.Verdict as Y
+use Rattle.oracles.proofs.scan.Tests.{dimension-least}
+
+-- whether a verdict is a refusal
+abbrev said : Verdict → ℕ
+said Feasible = 0
+said (Cut g beta) = 0
+said (Refused why) = 1
+
+module _ (o : LowpassOracle) (n rows : ℕ) (table x grad : List Float) where
+  abbrev Answer : Type 0
+  Answer = Assessed × List Float
+
+  -- the lengths' test
+  abbrev fits : Bool
+  fits = table-fits n rows table x && eqb (length grad) n
+
+  -- the answer brings the rule with it
+  pub with-rule : (r : Assessed) (grad′ : List Float) → _≡_ {A = Answer} (r, grad′) (assess-feas-answer o n rows table x grad)
+      → (_≡_ {A = Answer} (r, grad′) (assess-feas-answer o n rows table x grad)) × (is-accepted o n rows table x grad ≡ true → FeasRule (asked o (o .«sp_sq») n rows table x) r)
+  with-rule r grad′ e = (e, λ h. subst (FeasRule (asked o (o .«sp_sq») n rows table x)) (sym (ap (λ (p : Answer). p .0) e)) (feas-rule o n rows table x grad h))
+
+  -- a refusal, as it is made
+  pub refused-as : (r why : Assessed) → r ≡ why → _≡_ {A = Answer} (why, grad) (assess-feas-answer o n rows table x grad)
+      → (_≡_ {A = Answer} (r, grad) (assess-feas-answer o n rows table x grad)) × (is-accepted o n rows table x grad ≡ true → FeasRule (asked o (o .«sp_sq») n rows table x) r)
+  refused-as r why e q = with-rule r grad (ap (λ (z : Assessed). (z, grad)) e ∙ q)
+
+  pub no-dimension : isDimension n ≡ false → _≡_ {A = Answer} (refusedOf o Dimension, grad) (assess-feas-answer o n rows table x grad)
+  unfolding assess-feas-answer
+  no-dimension h = wrong-dimension n _ _ _ _ h
+
+  pub no-length : isDimension n ≡ true → fits ≡ false → _≡_ {A = Answer} (refusedOf o Length, grad) (assess-feas-answer o n rows table x grad)
+  unfolding assess-feas-answer
+  no-length d h = wrong-length n _ _ _ _ d h
+
+  module _ (d : isDimension n ≡ true) (f : fits ≡ true) where
+    pub no-bands : bands-fit o rows ≡ false → _≡_ {A = Answer} (refusedOf o Band, grad) (assess-feas-answer o n rows table x grad)
+    unfolding assess-feas-answer
+    no-bands h = hit _ _ _ _ (ap not h) refl ∙ accepted n _ _ _ _ d f
+
+    pub no-cursors : bands-fit o rows ≡ true → cursors-fit o ≡ false → _≡_ {A = Answer} (refusedOf o Cursor, grad) (assess-feas-answer o n rows table x grad)
+    unfolding assess-feas-answer
+    no-cursors b h = skip _ _ _ _ (ap not b) (hit _ _ _ _ (ap not h) refl) ∙ accepted n _ _ _ _ d f
+
+    pub all-passed : bands-fit o rows ≡ true → cursors-fit o ≡ true → (p : Answer) → p ≡ assessOf o n table x grad → p ≡ assess-feas-answer o n rows table x grad
+    unfolding assess-feas-answer
+    all-passed b c p e = skip _ _ _ _ (ap not b) (skip _ _ _ _ (ap not c) e) ∙ accepted n _ _ _ _ d f
+
+    -- each band can be scanned
+    module _ (b : bands-fit o rows ≡ true) (c : cursors-fit o ≡ true) where
+      has-rows : isRows rows ≡ true
+      has-rows = go (isRows rows) refl
+        where
+          go : (t : Bool) → isRows rows ≡ t → isRows rows ≡ true
+          go true e = e
+          go false e = absurd (true≢false (sym b ∙ rw e))
+
+      spanned : (rr : RoundRobin) (from past : ℕ) → Spans rr from past → past ≤ rows → Scannable n rows table x rr
+      spanned rr from past S h =
+          let L = S .legal in
+          let l : leZ (rr .hi) (pos rows) ≡ true = rw (L .hi-is) (le-leb (L .past) rows (omega (arith, S .past-is))) in
+          record {
+            dimension = d;
+            long = and-parts (table-fits n rows table x) (eqb (length grad) n) f .0;
+            band = rw (has-rows, legal-band rr L, l);
+            at = legal-at rr L;
+          }
+
+      pub all-scannable : Scannable n rows table x (o .rr1) × Scannable n rows table x (o .rr3) × Scannable n rows table x (o .rr2) × (length grad ≡ n)
+      all-scannable =
+          let F = fit o rows b c in
+          (spanned (o .rr1) _ _ (F .pass-rows) (F .pass-high), spanned (o .rr3) _ _ (F .stop-rows) (omega arith), spanned (o .rr2) _ _ (F .middle-rows) (F .middle-high),
+          eqb-true (length grad) n (and-parts (table-fits n rows table x) (eqb (length grad) n) f .1))
+
+  -- a feasible point was accepted
+  feasible-accepted : assess-feas-answer o n rows table x grad .0 .verdict ≡ Feasible → is-accepted o n rows table x grad ≡ true
+  feasible-accepted h = go (isDimension n) fits (bands-fit o rows) (cursors-fit o) refl refl refl refl
+    where
+      never : {why : Refusal} (g : List Float) → _≡_ {A = Answer} (refusedOf o why, g) (assess-feas-answer o n rows table x grad) → ⊥
+      never g e = let z : _≡_ {A = ℕ} 1 0 = ap (λ (p : Answer). said (p .0 .verdict)) e ∙ ap said h in omega arith
+
+      go : (d f b c : Bool) → isDimension n ≡ d → fits ≡ f → bands-fit o rows ≡ b → cursors-fit o ≡ c → is-accepted o n rows table x grad ≡ true
+      go false f b c ed ef eb ec = absurd (never grad (no-dimension ed))
+      go true false b c ed ef eb ec = absurd (never grad (no-length ed ef))
+      go true true false c ed ef eb ec = absurd (never grad (no-bands ed ef eb))
+      go true true true false ed ef eb ec = absurd (never grad (no-cursors ed ef eb ec))
+      go true true true true ed ef eb ec = rw (ed, ef, eb, ec)
+
+  -- and what it leaves can be used for an improving cut
+  pub feasible-leaves : (r : Assessed) (grad′ : List Float) → _≡_ {A = Answer} (r, grad′) (assess-feas-answer o n rows table x grad) → r .verdict ≡ Feasible
+      → (2 ≤ n) × (n ≤ 32) × (ltZ (r .oracle .kmax) (pos 0) ≡ false → natAbs (r .oracle .kmax) * n + n ≤ length table) × (length grad′ ≡ n)
+  feasible-leaves r grad′ e v =
+      let same = ap (λ (p : Answer). p .0) e in
+      let ok = feasible-accepted (ap (λ (z : Assessed). z .verdict) (sym same) ∙ v) in
+      let A = accepted-of o n rows table x grad ok in
+      let rule = with-rule r grad′ e .1 ok in
+      (dimension-least n (A .dimension), dimension-most n (A .dimension), kmax-fits A (rule .peak (sym (rule .verdict-is) ∙ ap judgement v)),
+      ap (λ (p : Answer). length (p .1)) e ∙ gradient-length o n rows table x grad ok)
+    where
+      kmax-fits : Accepted o n rows table x grad → Peak (asked o (o .«sp_sq») n rows table x) (r .oracle .fmax) (r .oracle .kmax)
+          → ltZ (r .oracle .kmax) (pos 0) ≡ false → natAbs (r .oracle .kmax) * n + n ≤ length table
+      kmax-fits A (inl k) h = rw (k .row-is) (omega (arith, suc-mul (k .row) n, mul-le-mul-right n (k .high), A .table-long))
+      kmax-fits A (inr k) h = absurd (true≢false (rw (k .kmax-is) at h))
+
+module _ (o : LowpassOracle) (gamma : Float) (n rows : ℕ) (table x grad : List Float) (r : Assessed) (grad′ : List Float)
+    (e : _≡_ {A = Assessed × List Float} (r, grad′) (assess-feas-answer (offered o gamma) n rows table x grad)) where
+  -- the answer by the verdict, with the rule that it brings
+  pub optim-as : (v : Verdict) → r .verdict ≡ v → (s : AssessedOptim) (g : List Float) → _≡_ {A = AssessedOptim × List Float} (s, g) (optim-of o gamma n table (r .oracle) v grad′)
+      → (_≡_ {A = AssessedOptim × List Float} (s, g) (assess-optim-answer o gamma n rows table x grad)) × (is-accepted o n rows table x grad ≡ true → OptimRule (asked o gamma n rows table x) s)
+  optim-as v ev s g q =
+      let t : _≡_ {A = AssessedOptim × List Float} (s, g) (assess-optim-answer o gamma n rows table x grad) =
+          subst (λ (z : Assessed × List Float). _≡_ {A = AssessedOptim × List Float} (s, g) (optim-of o gamma n table (z .0 .oracle) (z .0 .verdict) (z .1))) e (rw ev q)
+      in
+      (t, λ h. subst (OptimRule (asked o gamma n rows table x)) (sym (ap (λ (p : AssessedOptim × List Float). p .0) t)) (optim-rule o gamma n rows table x grad h))
+
+-- a verdict with the key 0 is feasible
+pub feasible-of : (v : Verdict) → OneOf (0 ∷ []) (tagOf Y.the-type v) → v ≡ Feasible
+feasible-of Feasible k = refl
+feasible-of (Cut g beta) k = let z : _≡_ {A = ℕ} 1 0 = k in absurd (omega arith)
+feasible-of (Refused why) k = let z : _≡_ {A = ℕ} 2 0 = k in absurd (omega arith)

@@ -1,0 +1,62 @@
+-- `oracles::lowpass_oracle::LowpassOracle::bands_fit` meets its contract. Assumes nothing.
+use mathlib.Core.Path.{_≡_, refl, sym, ap, _∙_}
+use mathlib.Core.Bool.{Bool, true, false, not, _&&_}
+use Prim.Native.Nat.{ℕ}
+use borrow.Author.Tests.{leb-true}
+use lib.Dec.{leb}
+use lib.IntN.{ℤ, pos}
+use lib.Signed.{leZ}
+use mir.Syntax.{w32}
+use mir.Val.{SFits}
+use mir.Facts.{toZ-ofZ}
+use Rattle.oracles.specs.RoundRobinLaws.{and-parts}
+use Rattle.oracles.specs.Scan.{isRows}
+use Rattle.oracles.specs.LowpassOracle.{isOf, bands-fit}
+use Rattle.oracles.specs.declared.lowpass_oracle.LowpassOracle.{LowpassOracle}
+use Rattle.oracles.proofs.Signed.{read, pos-fits}
+use Rattle.oracles.proofs.scan.Tests.{passed, failed}
+use Rattle.oracles.proofs.lowpass_oracle.LowpassOracle.bands_fit.Statement.{statement}
+use Rattle.oracles.proofs.lowpass_oracle.LowpassOracle.bands_fit.Tie as tie
+
+rows-fit : (rows : ℕ) → isRows rows ≡ true → SFits w32 (pos rows)
+rows-fit rows h = pos-fits rows (leb-true rows 1024 (and-parts (leb 1 rows) (leb rows 1024) h .1))
+
+-- too few rows or too many
+no-rows : (o : LowpassOracle) (rows : ℕ) → isRows rows ≡ false → false ≡ bands-fit o rows
+no-rows o rows h = rw h
+
+-- the tests as they are made, of numbers as they are read
+tests : (o : LowpassOracle) (rows : ℕ) → isRows rows ≡ true → SFits w32 (o .nwpass) → SFits w32 (o .nwstop) → {a b c : Bool}
+    → a ≡ isOf (o .rr1) (pos 0) (read (o .nwpass)) → b ≡ isOf (o .rr2) (read (o .nwpass)) (read (o .nwstop)) → c ≡ isOf (o .rr3) (read (o .nwstop)) (read (pos rows))
+    → (leZ (pos 0) (read (o .nwpass)) && leZ (read (o .nwpass)) (read (o .nwstop)) && leZ (read (o .nwstop)) (read (pos rows)) && a && b && c) ≡ bands-fit o rows
+tests o rows h fp fs ea eb ec = rw (ea, eb, ec, toZ-ofZ fp, toZ-ofZ fs, toZ-ofZ (rows-fit rows h), h)
+
+is-rows-requires : tie.Need-is-rows-requires
+is-rows-requires c κs = tt
+
+returns : tie.Need-returns
+returns c = let a = c .before .before .args in no-rows (a .self) (a .rows) (failed (c .before .is-rows .ensures) (c .if1 .taken))
+
+cast-mdim : tie.Need-cast-mdim
+cast-mdim c = rows-fit (c .before .before .args .rows) (passed (c .before .is-rows .ensures) (c .if1 .left))
+
+is-of-requires : tie.Need-is-of-requires
+is-of-requires c κs = tt
+
+is-of-requires-2 : tie.Need-is-of-requires-2
+is-of-requires-2 c κs = tt
+
+is-of-requires-3 : tie.Need-is-of-requires-3
+is-of-requires-3 c κs = tt
+
+returns-2 : tie.Need-returns-2
+returns-2 c =
+    let t = c .before .before .before .before .before .before in
+    let g = t .struct-told2 .given in
+    let e = t .before .before in
+    let a = e .before .before .args in
+    tests (a .self) (a .rows) (passed (e .before .is-rows .ensures) (e .if1 .left)) (record { sfits = g .1 .1 .0 .1 }) (record { sfits = g .1 .1 .1 .0 .1 })
+    (c .before .before .is-of .ensures) (c .before .is-of2 .ensures) (c .is-of3 .ensures)
+
+pub bands-fit-spec : {M : Type 1} → statement M
+bands-fit-spec = tie.close (tie.spec is-rows-requires returns cast-mdim is-of-requires is-of-requires-2 is-of-requires-3 returns-2)
