@@ -35,7 +35,8 @@ pub(crate) fn is_success(status: CutStatus) -> bool
 {
     match status {
         CutStatus::Success => true,
-        _ => false,
+        CutStatus::NoSoln => false,
+        CutStatus::NoEffect => false,
     }
 }
 
