@@ -4,7 +4,7 @@ use mathlib.Core.Bool.{Bool, true, false}
 use mathlib.Core.List.{List, [], _∷_, _++_}
 use mathlib.Core.Logic.{⊎-elim}
 use Prim.Native.Nat.{ℕ, zero, suc, _≤_, _<_, _+_, _*_, _-_}
-use native.Mathlib.Nat.{le-of-suc-le-suc, eq-or-lt-of-le, suc-mul, zero-mul}
+use native.Mathlib.Nat.{le-of-suc-le-suc, eq-or-lt-of-le, suc-mul, zero-mul, mul-le-mul}
 use native.Mathlib.Omega.{arith}
 use borrow.Author.Tests.{ltb-true, ltb-false, eqb-true, eqb-false, lt-ltb, le-ltb}
 use borrow.Rule.Slice.PartMut.{putMid, same-len-mid}
@@ -103,6 +103,13 @@ total-cong op s f g (suc k) h = rw (total-cong op s f g k (λ j l. h j (omega ar
 -- ---- a choice by a test, entry by entry
 
 module _ {ℓ} {X : Type ℓ} where
+  -- what it is, by the test
+  pub is-hit : (t : Bool) (a b : X) → t ≡ true → pick t a b ≡ a
+  is-hit t a b e = sym (hit t a b a e refl)
+
+  pub is-skip : (t : Bool) (a b : X) → t ≡ false → pick t a b ≡ b
+  is-skip t a b e = sym (skip t a b b e refl)
+
   -- what is shown in both cases
   pub both-ways : (t : Bool) {r : X} {a b : X} → (t ≡ true → r ≡ a) → (t ≡ false → r ≡ b) → r ≡ pick t a b
   both-ways t {r} {a} {b} h k = go t refl
@@ -113,14 +120,14 @@ module _ {ℓ} {X : Type ℓ} where
 
   -- two choices by one test
   pub pick-cong : (t : Bool) {a b a′ b′ : X} → (t ≡ true → a ≡ a′) → (t ≡ false → b ≡ b′) → pick t a b ≡ pick t a′ b′
-  pick-cong t {a} {b} h k = both-ways t (λ e. sym (hit t a b a e refl) ∙ h e) (λ e. sym (skip t a b b e refl) ∙ k e)
+  pick-cong t {a} {b} h k = both-ways t (λ e. is-hit t a b e ∙ h e) (λ e. is-skip t a b e ∙ k e)
 
   -- the choice for an index below j, at any other index, when j has been passed
   pub pick-grow : (k j : ℕ) (a b : X) → (k ≡ j → ⊥) → pick (ltb k j) a b ≡ pick (ltb k (j + 1)) a b
   pick-grow k j a b h =
       both-ways (ltb k (j + 1))
-      (λ e. sym (hit (ltb k j) a b a (lt-ltb k j (⊎-elim (λ (q : k ≡ j). absurd (h q)) (λ (l : k < j). l) (eq-or-lt-of-le (omega (arith, ltb-true k (j + 1) e))))) refl))
-      (λ e. sym (skip (ltb k j) a b b (le-ltb k j (omega (arith, ltb-false k (j + 1) e))) refl))
+      (λ e. is-hit (ltb k j) a b (lt-ltb k j (⊎-elim (λ (q : k ≡ j). absurd (h q)) (λ (l : k < j). l) (eq-or-lt-of-le (omega (arith, ltb-true k (j + 1) e))))))
+      (λ e. is-skip (ltb k j) a b (le-ltb k j (omega (arith, ltb-false k (j + 1) e))))
 
 -- ---- a list with the entries f, while a loop writes it
 
@@ -154,10 +161,10 @@ module _ (m : ℕ) (f g : ℕ → Float) (i : ℕ) (xs : List Float) where
   module _ (h : VectorOf m (swept f g i) xs) where
     -- what is not written yet, and what is
     pub sweep-left : (k : ℕ) → i ≤ k → k < m → entry xs k ≡ g k
-    sweep-left k l b = h .each k b ∙ sym (skip (ltb k i) (f k) (g k) (g k) (le-ltb k i l) refl)
+    sweep-left k l b = h .each k b ∙ is-skip (ltb k i) (f k) (g k) (le-ltb k i l)
 
     pub sweep-past : (k : ℕ) → k < i → k < m → entry xs k ≡ f k
-    sweep-past k l b = h .each k b ∙ sym (hit (ltb k i) (f k) (g k) (f k) (lt-ltb k i l) refl)
+    sweep-past k l b = h .each k b ∙ is-hit (ltb k i) (f k) (g k) (lt-ltb k i l)
 
     pub sweep-turn : (v : Float) → i < m → v ≡ f i → VectorOf m (swept f g (i + 1)) (set xs i v)
     sweep-turn v b e =
@@ -253,3 +260,42 @@ matrix-put n f g mat ys i a h l b e p o = record {
 
 pub matrix-grid : (n : ℕ) (f : ℕ → ℕ → Float) (mat : List Float) → MatrixOf n f mat → mat ≡ grid f n n
 matrix-grid n f mat h = grid-ext f n n mat (h .long) (h .each)
+
+-- ---- a loop over the rows, or the columns, as `key` says, that writes f r c where g r c was: when those below i are written
+
+abbrev pub swept-by : (ℕ → ℕ → ℕ) → (ℕ → ℕ → Float) → (ℕ → ℕ → Float) → ℕ → ℕ → ℕ → Float
+swept-by key f g i r c = pick (ltb (key r c) i) (f r c) (g r c)
+
+module _ (n : ℕ) (key : ℕ → ℕ → ℕ) (f g : ℕ → ℕ → Float) (i : ℕ) (mat : List Float) where
+  pub by-start : length mat ≡ n * n → ((r c : ℕ) → at n mat r c ≡ g r c) → ((r c : ℕ) → r < n → c < n → key r c < i → g r c ≡ f r c)
+      → MatrixOf n (swept-by key f g i) mat
+  by-start l h e = record { long = l; each = λ r c a b. both-ways (ltb (key r c) i) (λ t. h r c ∙ e r c a b (ltb-true (key r c) i t)) (λ _. h r c) }
+
+  module _ (h : MatrixOf n (swept-by key f g i) mat) where
+    -- what is not written yet, and what is
+    pub by-left : (r c : ℕ) → r < n → c < n → i ≤ key r c → at n mat r c ≡ g r c
+    by-left r c a b l = h .each r c a b ∙ is-skip (ltb (key r c) i) (f r c) (g r c) (le-ltb (key r c) i l)
+
+    pub by-past : (r c : ℕ) → r < n → c < n → key r c < i → at n mat r c ≡ f r c
+    by-past r c a b l = h .each r c a b ∙ is-hit (ltb (key r c) i) (f r c) (g r c) (lt-ltb (key r c) i l)
+
+    pub by-turn : (mat′ : List Float) → length mat′ ≡ n * n → ((r c : ℕ) → r < n → c < n → key r c ≡ i → at n mat′ r c ≡ f r c)
+        → ((r c : ℕ) → r < n → c < n → (key r c ≡ i → ⊥) → at n mat′ r c ≡ at n mat r c) → MatrixOf n (swept-by key f g (i + 1)) mat′
+    by-turn mat′ l e o = record { long = l; each = λ r c a b. go r c a b (eqb (key r c) i) refl }
+      where
+        go : (r c : ℕ) → r < n → c < n → (t : Bool) → eqb (key r c) i ≡ t → at n mat′ r c ≡ swept-by key f g (i + 1) r c
+        go r c a b true t =
+            let q : key r c ≡ i = eqb-true (key r c) i t in
+            hit (ltb (key r c) (i + 1)) (f r c) (g r c) (at n mat′ r c) (lt-ltb (key r c) (i + 1) (omega arith)) (e r c a b q)
+        go r c a b false t = o r c a b (eqb-false (key r c) i t) ∙ h .each r c a b ∙ pick-grow (key r c) i (f r c) (g r c) (eqb-false (key r c) i t)
+
+    pub by-done : ((r c : ℕ) → r < n → c < n → i ≤ key r c → g r c ≡ f r c) → mat ≡ grid f n n
+    by-done e = grid-ext f n n mat (h .long) (λ r c a b. go r c a b (ltb (key r c) i) refl)
+      where
+        go : (r c : ℕ) → r < n → c < n → (t : Bool) → ltb (key r c) i ≡ t → at n mat r c ≡ f r c
+        go r c a b true t = by-past r c a b (ltb-true (key r c) i t)
+        go r c a b false t = by-left r c a b (ltb-false (key r c) i t) ∙ e r c a b (ltb-false (key r c) i t)
+
+-- place (i, j) is a small number
+pub place-small : (n i j : ℕ) → n ≤ 32 → i < n → j < n → i * n + j < 1024
+place-small n i j h k l = omega (arith, place-in n n i j k l, mul-le-mul h h)
