@@ -178,6 +178,10 @@ module _ (m : ℕ) (f g : ℕ → Float) (i : ℕ) (xs : List Float) where
         go k b true t = sweep-past k (ltb-true k i t) b
         go k b false t = sweep-left k (ltb-false k i t) b ∙ e k b (ltb-false k i t)
 
+-- nothing is written yet
+pub sweep-zero : (f : ℕ → Float) (xs : List Float) → VectorOf (length xs) (swept f (λ k. entry xs k) 0) xs
+sweep-zero f xs = sweep-start (length xs) f (λ k. entry xs k) 0 xs refl (λ k b. refl) (λ k b. absurd (omega (arith, b)))
+
 pub record MatrixOf (n : ℕ) (f : ℕ → ℕ → Float) (mat : List Float) : Type 0 where
   pub long : length mat ≡ n * n
   pub each : (r c : ℕ) → r < n → c < n → at n mat r c ≡ f r c
@@ -295,6 +299,38 @@ module _ (n : ℕ) (key : ℕ → ℕ → ℕ) (f g : ℕ → ℕ → Float) (i 
         go : (r c : ℕ) → r < n → c < n → (t : Bool) → ltb (key r c) i ≡ t → at n mat r c ≡ f r c
         go r c a b true t = by-past r c a b (ltb-true (key r c) i t)
         go r c a b false t = by-left r c a b (ltb-false (key r c) i t) ∙ e r c a b (ltb-false (key r c) i t)
+
+-- nothing is written yet
+pub by-zero : (n : ℕ) (key : ℕ → ℕ → ℕ) (f : ℕ → ℕ → Float) (mat : List Float) → length mat ≡ n * n → MatrixOf n (swept-by key f (λ r c. at n mat r c) 0) mat
+by-zero n key f mat l = by-start n key f (λ r c. at n mat r c) 0 mat l (λ r c. refl) (λ r c _ _ m. absurd (omega (arith, m)))
+
+-- row i's entries from a on, lent as the part of k entries that begins at s, and back
+module _ (n : ℕ) (f g : ℕ → ℕ → Float) (i : ℕ) (mat : List Float) (h : MatrixOf n (swept-by (λ r c. r) f g i) mat) (a s k : ℕ) (l : i < n) (b : a ≤ n) (p : s ≡ i * n + a) (q : k ≡ n - a) where
+  pub part-long : length (take k (drop s mat)) ≡ n - a
+  part-long = length-take-le k (drop s mat) (rw (length-drop s mat) (omega (arith, row-in n i n l, h .long))) ∙ q
+
+  pub part-entry : (c : ℕ) → c < n - a → entry (take k (drop s mat)) c ≡ g i (a + c)
+  part-entry c m =
+      let e : s + c ≡ i * n + (a + c) = omega arith in
+      getD-take k (drop s mat) c nan (omega arith) ∙ getD-drop s mat c nan ∙ ap (λ (z : ℕ). entry mat z) e
+      ∙ by-left n (λ r c. r) f g i mat h i (a + c) l (omega arith) (omega arith)
+
+  pub part-turn : (ys : List Float) → length ys ≡ n - a → ((c : ℕ) → c < n - a → entry ys c ≡ f i (a + c)) → ((c : ℕ) → c < a → g i c ≡ f i c)
+      → MatrixOf n (swept-by (λ r c. r) f g (i + 1)) (putMid s k mat ys)
+  part-turn ys m e o =
+      rw (p, q)
+      (matrix-put n (swept-by (λ r c. r) f g i) (swept-by (λ r c. r) f g (i + 1)) mat ys i a h l b m
+      (λ c y. hit (ltb i (i + 1)) (f i (a + c)) (g i (a + c)) (entry ys c) (lt-ltb i (i + 1) (omega arith)) (e c y))
+      (λ r c x y z. go r c z (eqb r i) refl (ltb c a) refl))
+    where
+      go : (r c : ℕ) → (r ≡ i → a ≤ c → ⊥) → (t : Bool) → eqb r i ≡ t → (u : Bool) → ltb c a ≡ u
+          → swept-by (λ r c. r) f g i r c ≡ swept-by (λ r c. r) f g (i + 1) r c
+      go r c z false t u w = pick-grow r i (f r c) (g r c) (eqb-false r i t)
+      go r c z true t true w =
+          let y : r ≡ i = eqb-true r i t in
+          is-skip (ltb r i) (f r c) (g r c) (le-ltb r i (omega arith)) ∙ rw y (o c (ltb-true c a w))
+          ∙ sym (is-hit (ltb r (i + 1)) (f r c) (g r c) (lt-ltb r (i + 1) (omega arith)))
+      go r c z true t false w = absurd (z (eqb-true r i t) (ltb-false c a w))
 
 -- place (i, j) is a small number
 pub place-small : (n i j : ℕ) → n ≤ 32 → i < n → j < n → i * n + j < 1024

@@ -1,15 +1,22 @@
 -- The turns of the loops of ell. Assumes nothing.
 use mathlib.Core.Path.{_≡_, refl, sym, subst, _∙_}
 use mathlib.Core.List.{List}
-use Prim.Native.Nat.{ℕ, _<_, _+_, _*_}
+use Prim.Native.Nat.{ℕ, _≤_, _<_, _+_, _-_, _*_}
 use native.Mathlib.Omega.{arith}
-use borrow.Author.Tests.{eqb-true, eq-eqb, ne-eqb, lt-ltb, le-ltb}
-use lib.Dec.{ltb, eqb}
-use lib.ListN.{length, set}
+use native.Mathlib.Nat.{zero-add, sub-zero}
+use borrow.Author.Tests.{ltb-true, ltb-false, leb-true, leb-false, le-leb, eqb-true, eq-eqb, ne-eqb, lt-ltb, le-ltb}
+use borrow.Rule.Slice.PartMut.{putMid}
+use lib.Dec.{leb, ltb, eqb}
+use lib.ListN.{length, set, take, drop}
 use lib.Ieee.{Float}
-use Rattle.oracles.specs.Matrix.{at}
-use Rattle.oracles.specs.MatrixLaws.{is-hit, is-skip, both-ways, pick-cong, pick-grow, MatrixOf, matrix-set, matrix-grid}
-use Rattle.oracles.specs.EllLaws.{mirrored-to, row-mirrored}
+use Rattle.numbers.specs.F64.{_⊖_, _⊗_}
+use Rattle.numbers.specs.Pick.{pick}
+use Rattle.numbers.specs.Arr.{tab}
+use Rattle.numbers.specs.ArrLaws.{length-tab}
+use Rattle.oracles.specs.Matrix.{entry, at, grid}
+use Rattle.oracles.specs.MatrixLaws.{tab-entry, length-grid, grid-at, grid-cong, is-hit, is-skip, both-ways, pick-cong, pick-grow, MatrixOf, matrix-set, matrix-grid, swept-by, by-zero, by-left, by-past, by-turn, by-done, part-long, part-entry, part-turn}
+use Rattle.oracles.specs.Ell.{rank-one}
+use Rattle.oracles.specs.EllLaws.{row-lowered, all-lowered, mirrored-to, row-mirrored, mirrored}
 
 -- ---- column i from row i
 
@@ -30,3 +37,79 @@ mirror-turn n i j mq₀ mq h a b =
 pub mirror-done : (n i j : ℕ) (mq₀ mq : List Float) → MatrixOf n (mirrored-to n mq₀ i j) mq → j ≡ i → mq ≡ row-mirrored n mq₀ i
 unfolding row-mirrored
 mirror-done n i j mq₀ mq h e = matrix-grid n (mirrored-to n mq₀ i i) mq (subst (λ (k : ℕ). MatrixOf n (mirrored-to n mq₀ i k) mq) e h)
+
+-- ---- every column
+
+abbrev pub from-rows : ℕ → List Float → ℕ → ℕ → ℕ → Float
+from-rows n mq = swept-by (λ r c. c) (λ r c. pick (ltb r c) (at n mq c r) (at n mq r c)) (λ r c. at n mq r c)
+
+pub columns-start : (n : ℕ) (mq : List Float) → length mq ≡ n * n → MatrixOf n (from-rows n mq 0) mq
+columns-start n mq l = by-zero n (λ r c. c) _ mq l
+
+pub columns-turn : (n i : ℕ) (mq₀ mq : List Float) → MatrixOf n (from-rows n mq₀ i) mq → i < n → MatrixOf n (from-rows n mq₀ (i + 1)) (row-mirrored n mq i)
+unfolding row-mirrored
+columns-turn n i mq₀ mq h l =
+    by-turn n _ _ _ i mq h (grid (mirrored-to n mq i i) n n) (length-grid (mirrored-to n mq i i) n n)
+    (λ r c a b q. grid-at (mirrored-to n mq i i) n n r c a b ∙ is-hit (eqb c i) _ _ (eq-eqb c i q)
+    ∙ both-ways (ltb r c)
+    (λ t. let u : r < c = ltb-true r c t in
+    is-hit (ltb r i) _ _ (lt-ltb r i (omega arith)) ∙ by-past n _ _ _ i mq h c r b a (omega arith) ∙ is-skip (ltb c r) _ _ (le-ltb c r (omega arith)))
+    (λ t. let u : c ≤ r = ltb-false r c t in
+    is-skip (ltb r i) _ _ (le-ltb r i (omega arith)) ∙ by-left n _ _ _ i mq h r c a b (omega arith)))
+    (λ r c a b q. grid-at (mirrored-to n mq i i) n n r c a b ∙ is-skip (eqb c i) _ _ (ne-eqb c i q))
+
+pub columns-done : (n i : ℕ) (mq₀ mq : List Float) → MatrixOf n (from-rows n mq₀ i) mq → n ≤ i → mq ≡ mirrored n mq₀
+unfolding mirrored
+columns-done n i mq₀ mq h l = by-done n _ _ _ i mq h (λ r c a b k. absurd (omega arith))
+
+-- ---- every row
+
+abbrev pub lowered-to : ℕ → Float → List Float → List Float → ℕ → ℕ → ℕ → Float
+lowered-to n ratio gt mq = swept-by (λ r c. r) (λ r c. pick (leb c r) (at n mq r c ⊖ ratio ⊗ entry gt r ⊗ entry gt c) (at n mq r c)) (λ r c. at n mq r c)
+
+pub rows-start : (n : ℕ) (ratio : Float) (gt mq : List Float) → length mq ≡ n * n → MatrixOf n (lowered-to n ratio gt mq 0) mq
+rows-start n ratio gt mq l = by-zero n (λ r c. r) _ mq l
+
+pub row-long : (n : ℕ) (ratio : Float) (gt mq₀ mq : List Float) (i : ℕ) → MatrixOf n (lowered-to n ratio gt mq₀ i) mq → i < n
+    → length (take (i * n + n - i * n) (drop (i * n) mq)) ≡ n
+row-long n ratio gt mq₀ mq i h l = part-long n _ _ i mq h 0 (i * n) (i * n + n - i * n) l (omega arith) (omega arith) (omega arith) ∙ sub-zero n
+
+pub rows-turn : (n : ℕ) (ratio : Float) (gt mq₀ mq : List Float) (i : ℕ) → MatrixOf n (lowered-to n ratio gt mq₀ i) mq → i < n
+    → MatrixOf n (lowered-to n ratio gt mq₀ (i + 1))
+      (putMid (i * n) (i * n + n - i * n) mq (row-lowered (take (i * n + n - i * n) (drop (i * n) mq)) (ratio ⊗ entry gt i) gt i))
+unfolding row-lowered
+rows-turn n ratio gt mq₀ mq i h l =
+    part-turn n _ _ i mq h 0 (i * n) (i * n + n - i * n) l (omega arith) (omega arith) (omega arith) (tab new (length row)) (length-tab new (length row) ∙ long)
+    (λ c m. tab-entry new (length row) c (omega (arith, long)) ∙ rw (each c m, zero-add))
+    (λ c m. absurd (omega (arith, m)))
+  where
+    row : List Float
+    row = take (i * n + n - i * n) (drop (i * n) mq)
+
+    new : ℕ → Float
+    new j = pick (leb j i) (entry row j ⊖ ratio ⊗ entry gt i ⊗ entry gt j) (entry row j)
+
+    long : length row ≡ n - 0
+    long = part-long n _ _ i mq h 0 (i * n) (i * n + n - i * n) l (omega arith) (omega arith) (omega arith)
+
+    each : (c : ℕ) → c < n - 0 → entry row c ≡ at n mq₀ i (0 + c)
+    each c m = part-entry n _ _ i mq h 0 (i * n) (i * n + n - i * n) l (omega arith) (omega arith) (omega arith) c m
+
+pub rows-done : (n : ℕ) (ratio : Float) (gt mq₀ mq : List Float) (i : ℕ) → MatrixOf n (lowered-to n ratio gt mq₀ i) mq → n ≤ i → mq ≡ all-lowered n ratio gt mq₀
+unfolding all-lowered
+rows-done n ratio gt mq₀ mq i h l = by-done n _ _ _ i mq h (λ r c a b k. absurd (omega arith))
+
+-- ---- both: the lower triangle lowered, and the upper one its mirror image
+
+pub shrunk : (n : ℕ) (ratio : Float) (gt mq : List Float) → mirrored n (all-lowered n ratio gt mq) ≡ rank-one n ratio gt mq
+unfolding mirrored all-lowered rank-one
+shrunk n ratio gt mq =
+    grid-cong _ _ n n
+    (λ r c a b. both-ways (leb c r)
+    (λ t. let l : c ≤ r = leb-true c r t in
+    is-skip (ltb r c) _ _ (le-ltb r c l) ∙ grid-at low n n r c a b ∙ is-hit (leb c r) _ _ t)
+    (λ t. let l : r < c = leb-false c r t in
+    is-hit (ltb r c) _ _ (lt-ltb r c l) ∙ grid-at low n n c r b a ∙ is-hit (leb r c) _ _ (le-leb r c (omega arith))))
+  where
+    low : ℕ → ℕ → Float
+    low r c = pick (leb c r) (at n mq r c ⊖ ratio ⊗ entry gt r ⊗ entry gt c) (at n mq r c)

@@ -9,7 +9,7 @@ use lib.ListN.{length}
 use Rattle.numbers.specs.F64.{_⊖_, _⊗_}
 use Rattle.numbers.specs.Pick.{pick, hit, skip}
 use Rattle.oracles.specs.Matrix.{entry}
-use Rattle.oracles.specs.MatrixLaws.{VectorOf, swept, sweep-start, sweep-turn, sweep-left, sweep-done}
+use Rattle.oracles.specs.MatrixLaws.{VectorOf, swept, sweep-zero, sweep-turn, sweep-left, sweep-done}
 use Rattle.oracles.specs.EllLaws.{row-lowered}
 use Rattle.oracles.proofs.ell.lower_row.Statement.{statement}
 use Rattle.oracles.proofs.ell.lower_row.Tie as tie
@@ -21,7 +21,7 @@ abbrev μ-loop : tie.MeasureT-loop
 μ-loop row₀ r-qg gt i j₀ row j = i + 1 - j
 
 loop-holds : tie.Need-loop-holds Inv-loop μ-loop
-loop-holds c = (search needs, sweep-start _ _ _ 0 _ refl (λ k b. refl) (λ k b. absurd (omega (arith, b))))
+loop-holds c = (search needs, sweep-zero _ _)
 
 mul-row : tie.Need-mul-row Inv-loop μ-loop
 mul-row c = search needs

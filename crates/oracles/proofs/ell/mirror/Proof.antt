@@ -1,43 +1,45 @@
+-- `oracles::ell::mirror` meets its contract. The invariant: the columns below i are taken from the rows. Assumes nothing.
+use mathlib.Core.Path.{refl}
+use Prim.Native.Nat.{_-_, _≤_}
 use borrow.Author.Needs.{needs}
+use Rattle.oracles.specs.MatrixLaws.{MatrixOf}
+use Rattle.oracles.proofs.ell.Laws.{from-rows, columns-start, columns-turn, columns-done}
+use Rattle.oracles.proofs.ell.Laws.{from-rows, columns-start, columns-turn, columns-done}
 use Rattle.oracles.proofs.ell.mirror.Statement.{statement}
 use Rattle.oracles.proofs.ell.mirror.Tie as tie
-use Rattle.oracles.proofs.ell.mirror.Reads as reads
-use Rattle.oracles.proofs.ell.mirror.Lts as lts
-use Rattle.oracles.proofs.ell.mirror_row.Reads as mirror-row-reads
 
 abbrev Inv-loop : tie.InvT-loop
-Inv-loop n mq₀ i₀ mq i = ?
+Inv-loop n mq₀ i₀ mq i = (i ≤ n) × MatrixOf n (from-rows n mq₀ i) mq
 
 abbrev μ-loop : tie.MeasureT-loop
-μ-loop n mq₀ i₀ mq i = ?
+μ-loop n mq₀ i₀ mq i = n - i
 
--- src/ell.rt:72:5
 loop-holds : tie.Need-loop-holds Inv-loop μ-loop
-loop-holds c = search needs
+loop-holds c = (search needs, columns-start _ _ (search needs))
 
--- src/ell.rt:73:9
 mirror-row-requires : tie.Need-mirror-row-requires Inv-loop μ-loop
 mirror-row-requires c κs = search needs
 
--- src/ell.rt:74:9
 add-i : tie.Need-add-i Inv-loop μ-loop
 add-i c = search needs
 
--- src/ell.rt:72:5
 loop-less : tie.Need-loop-less Inv-loop μ-loop
 loop-less c = search needs
 
--- src/ell.rt:72:5
 loop-again : tie.Need-loop-again Inv-loop μ-loop
-loop-again c = search needs
+loop-again c =
+    let l = c .before .before .before .before .before .loop in
+    let a = c .before .before .before .before .before .before .before .args in
+    (search needs, rw (c .before .before .mirror-row .ensures) (columns-turn (a .n) (l .i) (a .mq .now) (l .mq) (l .inv .1) (search needs)))
 
--- src/ell.rt:67:1
 same-length : tie.Need-same-length Inv-loop μ-loop
 same-length c = search needs
 
--- src/ell.rt:67:1
 returns : tie.Need-returns Inv-loop μ-loop
-returns c = search needs
+returns c =
+    let l = c .before .loop in
+    let a = c .before .before .before .args in
+    columns-done (a .n) (l .i) (a .mq .now) (l .mq) (l .inv .1) (search needs)
 
 pub mirror-spec : {M : Type 1} → statement M
 mirror-spec =

@@ -7,7 +7,7 @@ use lib.ListN.{length}
 use Rattle.numbers.specs.F64.{_⊖_, _⊗_}
 use Rattle.oracles.specs.Matrix.{entry}
 use Rattle.oracles.specs.EllCommon.{centreOf}
-use Rattle.oracles.specs.MatrixLaws.{VectorOf, swept, sweep-start, sweep-turn, sweep-left, sweep-done}
+use Rattle.oracles.specs.MatrixLaws.{VectorOf, swept, sweep-zero, sweep-turn, sweep-left, sweep-done}
 use Rattle.oracles.proofs.ell_common.move_centre.Statement.{statement}
 use Rattle.oracles.proofs.ell_common.move_centre.Tie as tie
 
@@ -18,7 +18,7 @@ abbrev μ-loop : tie.MeasureT-loop
 μ-loop xc₀ step dir i₀ xc i = length dir - i
 
 loop-holds : tie.Need-loop-holds Inv-loop μ-loop
-loop-holds c = (search needs, sweep-start _ _ _ 0 _ refl (λ k b. refl) (λ k b. absurd (omega (arith, b))))
+loop-holds c = (search needs, sweep-zero _ _)
 
 mul-xc : tie.Need-mul-xc Inv-loop μ-loop
 mul-xc c = search needs
