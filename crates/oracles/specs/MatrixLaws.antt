@@ -129,6 +129,10 @@ module _ {ℓ} {X : Type ℓ} where
       (λ e. is-hit (ltb k j) a b (lt-ltb k j (⊎-elim (λ (q : k ≡ j). absurd (h q)) (λ (l : k < j). l) (eq-or-lt-of-le (omega (arith, ltb-true k (j + 1) e))))))
       (λ e. is-skip (ltb k j) a b (le-ltb k j (omega (arith, ltb-false k (j + 1) e))))
 
+-- what a function makes of a choice
+pub pick-map {ℓ ℓ′} : {X : Type ℓ} {Y : Type ℓ′} (f : X → Y) (t : Bool) (a b : X) → f (pick t a b) ≡ pick t (f a) (f b)
+pick-map f t a b = both-ways t (λ e. ap f (is-hit t a b e)) (λ e. ap f (is-skip t a b e))
+
 -- ---- a list with the entries f, while a loop writes it
 
 pub record VectorOf (m : ℕ) (f : ℕ → Float) (xs : List Float) : Type 0 where

@@ -3,6 +3,7 @@ use crate::ell_common::CutStrategy;
 use crate::ell_common::Update;
 use crate::ell_common::is_success;
 use crate::ell_common::is_tiny;
+use crate::ell_common::lengths_fit;
 use crate::ell_common::move_centre;
 use numbers::arr::dot_mv_into;
 use numbers::arr::dot_zip;
@@ -17,7 +18,7 @@ ghost use mathlib.Core.Bool.{true};
 ghost use Prim.Native.Nat.{_*_, _≤_, _<_};
 ghost use lib.ListN.{length};
 ghost use Rattle.numbers.specs.Arr.{isDimension};
-ghost use Rattle.oracles.specs.Ell.{new-ell-answer, rank-one, with-tsq, ell-said, ell-fits, ell-updateOf, ell-update-answer};
+ghost use Rattle.oracles.specs.Ell.{new-ell-answer, rank-one, with-tsq, ell-said, ell-updateOf, ell-update-answer};
 ghost use Rattle.oracles.specs.EllLaws.{row-lowered, all-lowered, row-mirrored, mirrored};
 
 pub struct Ell {
@@ -134,7 +135,7 @@ impl Ell {
         xc: &mut [f64],
         grad_t: &mut [f64],
     ) -> EllUpdate
-        requires { ⌜ (isDimension (self .ndim) ≡ true) × (ell-fits (self .ndim) (now grad) (record { mq = now mq; xc = now xc; grad-t = now «grad_t» }) ≡ true) ⌝ }
+        requires { ⌜ (isDimension (self .ndim) ≡ true) × (length (now grad) ≡ self .ndim) × (length (now mq) ≡ self .ndim * self .ndim) × (length (now xc) ≡ self .ndim) × (length (now «grad_t») ≡ self .ndim) ⌝ }
         ensures { λ r. ⌜ (r, record { mq = now (mq .exit); xc = now (xc .exit); grad-t = now («grad_t» .exit) }) ≡ ell-updateOf self strategy (now (grad .entry)) beta (record { mq = now (mq .entry); xc = now (xc .entry); grad-t = now («grad_t» .entry) }) ⌝ }
     {
         let n = self.ndim;
@@ -174,7 +175,13 @@ impl Ell {
                 answer: Update::Refused(Refusal::Dimension),
             };
         }
-        if !(grad.len() == n && mq.len() == n * n && xc.len() == n && grad_t.len() == n) {
+        if !lengths_fit(n, grad.len(), mq.len(), xc.len()) {
+            return EllUpdate {
+                ell: self,
+                answer: Update::Refused(Refusal::Length),
+            };
+        }
+        if grad_t.len() != n {
             return EllUpdate {
                 ell: self,
                 answer: Update::Refused(Refusal::Length),

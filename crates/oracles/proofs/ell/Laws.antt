@@ -1,5 +1,6 @@
 -- The turns of the loops of ell. Assumes nothing.
-use mathlib.Core.Path.{_≡_, refl, sym, subst, _∙_}
+use mathlib.Core.Path.{_≡_, refl, sym, ap, subst, _∙_}
+use mathlib.Core.Bool.{Bool, true, false, not}
 use mathlib.Core.List.{List}
 use Prim.Native.Nat.{ℕ, _≤_, _<_, _+_, _-_, _*_}
 use native.Mathlib.Omega.{arith}
@@ -9,13 +10,26 @@ use borrow.Rule.Slice.PartMut.{putMid}
 use lib.Dec.{leb, ltb, eqb}
 use lib.ListN.{length, set, take, drop}
 use lib.Ieee.{Float}
-use Rattle.numbers.specs.F64.{_⊖_, _⊗_}
-use Rattle.numbers.specs.Pick.{pick}
-use Rattle.numbers.specs.Arr.{tab}
+use Rattle.numbers.specs.F64.{_⊖_, _⊗_, _⊘_, 0ᶠ}
+use Rattle.numbers.specs.Pick.{pick, hit, skip}
+use Rattle.numbers.specs.Arr.{tab, isDimension, mvOf, dotOf}
+use Rattle.numbers.specs.declared.cut.Answer.{Answer}
+use Rattle.numbers.specs.declared.cut.CutChoice.{CutChoice}
+use Rattle.numbers.specs.declared.cut.CutStatus.the-variants.{NoEffect}
+use Rattle.numbers.specs.EllCalc.{made, new-answer}
+use Rattle.numbers.specs.declared.refusal.Refusal.the-variants.{Dimension}
+use Rattle.numbers.specs.declared.ell_calc.NewEllCalc.{NewEllCalc}
+use Rattle.numbers.specs.declared.ell_calc.NewEllCalc.the-variants.{Made as MadeCalc, Refused as NoCalc}
 use Rattle.numbers.specs.ArrLaws.{length-tab}
 use Rattle.oracles.specs.Matrix.{entry, at, grid}
-use Rattle.oracles.specs.MatrixLaws.{tab-entry, length-grid, grid-at, grid-cong, is-hit, is-skip, both-ways, pick-cong, pick-grow, MatrixOf, matrix-set, matrix-grid, swept-by, by-zero, by-left, by-past, by-turn, by-done, part-long, part-entry, part-turn}
-use Rattle.oracles.specs.Ell.{rank-one}
+use Rattle.oracles.specs.MatrixLaws.{tab-entry, length-grid, grid-at, grid-cong, is-hit, is-skip, both-ways, pick-cong, pick-grow, pick-map, MatrixOf, matrix-set, matrix-grid, swept-by, by-zero, by-left, by-past, by-turn, by-done, part-long, part-entry, part-turn}
+use Rattle.oracles.specs.EllCommon.{calcOf, is-tiny, is-success, centreOf}
+use Rattle.oracles.specs.declared.ell_common.CutStrategy.{CutStrategy}
+use Rattle.oracles.specs.declared.ell.Ell.{Ell}
+use Rattle.oracles.specs.declared.ell.EllUpdate.{EllUpdate}
+use Rattle.oracles.specs.declared.ell.NewEll.{NewEll}
+use Rattle.oracles.specs.declared.ell.NewEll.the-variants.{Made, Refused as NotMade}
+use Rattle.oracles.specs.Ell.{EllBuffers, rank-one, new-ell-answer, with-tsq, ell-said, ell-updateOf}
 use Rattle.oracles.specs.EllLaws.{row-lowered, all-lowered, mirrored-to, row-mirrored, mirrored}
 
 -- ---- column i from row i
@@ -113,3 +127,36 @@ shrunk n ratio gt mq =
   where
     low : ℕ → ℕ → Float
     low r c = pick (leb c r) (at n mq r c ⊖ ratio ⊗ entry gt r ⊗ entry gt c) (at n mq r c)
+
+-- ---- what is made of the calculator's answer
+
+abbrev pub from-calc : ℕ → Float → NewEllCalc → NewEll
+from-calc n kappa (MadeCalc helper) = Made (record { ndim = n; kappa = kappa; helper = helper; tsq = 0ᶠ })
+from-calc n kappa (NoCalc why) = NotMade why
+
+pub made-from : (n : ℕ) (kappa : Float) → from-calc n kappa (new-answer n) ≡ new-ell-answer n kappa
+unfolding new-answer new-ell-answer
+made-from n kappa = pick-map (from-calc n kappa) (not (isDimension n)) (NoCalc Dimension) (MadeCalc (made n))
+
+-- ---- the ways through an update, from what its calls answered
+
+module _ (e : Ell) (s : CutStrategy) (grad : List Float) (beta : CutChoice) (b : EllBuffers) (gt : List Float) (omega : Float) (tiny : Bool)
+    (g : gt ≡ mvOf (e .ndim) (b .mq) grad) (o : omega ≡ dotOf grad gt) (t : tiny ≡ is-tiny omega) where
+  tiny-is : is-tiny (dotOf grad (mvOf (e .ndim) (b .mq) grad)) ≡ tiny
+  tiny-is = sym (t ∙ ap is-tiny (o ∙ ap (dotOf grad) g))
+
+  pub no-effect : (r : EllUpdate) → tiny ≡ true → r ≡ ell-said e NoEffect → (r, record { mq = b .mq; xc = b .xc; grad-t = gt }) ≡ ell-updateOf e s grad beta b
+  unfolding ell-updateOf
+  no-effect r h q = hit _ _ _ _ (tiny-is ∙ h) (rw (q, g))
+
+  module _ (a : Answer) (ok : Bool) (k : a ≡ calcOf s (e .helper) beta (e .kappa ⊗ omega)) (u : ok ≡ is-success (a .status)) (h : tiny ≡ false) where
+    pub fails : (r : EllUpdate) → not ok ≡ true → r ≡ ell-said (with-tsq e (e .kappa) (e .kappa ⊗ omega)) (a .status)
+        → (r, record { mq = b .mq; xc = b .xc; grad-t = gt }) ≡ ell-updateOf e s grad beta b
+    unfolding ell-updateOf
+    fails r f q = skip _ _ _ _ (tiny-is ∙ h) (hit _ _ _ _ (rw (← g, ← o, ← k, ← u) f) (rw (q, k, o, g)))
+
+    pub succeeds : (r : EllUpdate) (mq xc : List Float) → not ok ≡ false → mq ≡ rank-one (e .ndim) (a .params .sigma ⊘ omega) gt (b .mq)
+        → xc ≡ centreOf (b .xc) (a .params .rho ⊘ omega) gt → r ≡ ell-said (with-tsq e (e .kappa ⊗ a .params .delta) (e .kappa ⊗ omega)) (a .status)
+        → (r, record { mq = mq; xc = xc; grad-t = gt }) ≡ ell-updateOf e s grad beta b
+    unfolding ell-updateOf
+    succeeds r mq xc f x y q = skip _ _ _ _ (tiny-is ∙ h) (skip _ _ _ _ (rw (← g, ← o, ← k, ← u) f) (rw (q, x, y, k, o, g)))

@@ -1,29 +1,27 @@
-use borrow.Author.Needs.{needs}
+-- `oracles::ell::Ell::new_with_matrix` meets its contract. Assumes nothing.
+use mathlib.Core.Path.{sym, ap, _∙_}
+use Rattle.oracles.proofs.ell.Laws.{from-calc, made-from}
 use Rattle.oracles.proofs.ell.Ell.new_with_matrix.Statement.{statement}
 use Rattle.oracles.proofs.ell.Ell.new_with_matrix.Tie as tie
-use Rattle.oracles.proofs.ell.Ell.new_with_matrix.Reads as reads
-use Rattle.oracles.proofs.ell.Ell.new_with_matrix.Lts as lts
-use Rattle.numbers.proofs.ell_calc.EllCalc.new.Reads as new-reads
 
--- src/ell.rt:101:15
 new-requires : tie.Need-new-requires
-new-requires c κs = search needs
+new-requires c κs = tt
 
--- src/ell.rt:102:30
 enum-known-helper : tie.Need-enum-known-helper
-enum-known-helper c = search needs
+enum-known-helper c = c .match .keys1
 
--- src/ell.rt:108:33
 enum-known-why : tie.Need-enum-known-why
-enum-known-why c = search needs
+enum-known-why c = c .match .keys2
 
--- src/ell.rt:98:5
 returns : tie.Need-returns
-returns c = search needs
+returns c =
+    let a = c .before .before .before .before .args in
+    ap (from-calc (a .n) (a .kappa)) (sym (c .before .helper .given .1) ∙ c .before .before .before .new .ensures) ∙ made-from (a .n) (a .kappa)
 
--- src/ell.rt:98:5
 returns-2 : tie.Need-returns-2
-returns-2 c = search needs
+returns-2 c =
+    let a = c .before .before .before .before .args in
+    ap (from-calc (a .n) (a .kappa)) (sym (c .before .why .given .1) ∙ c .before .before .before .new .ensures) ∙ made-from (a .n) (a .kappa)
 
 pub new-with-matrix-spec : {M : Type 1} → statement M
 new-with-matrix-spec =
