@@ -1,9 +1,9 @@
 -- Laws that the proofs of both ellipsoids use. Assumes nothing.
 use mathlib.Core.Path.{_≡_, sym, ap, _∙_}
-use mathlib.Core.Bool.{Bool, true, _&&_, and-eq-true-iff}
+use mathlib.Core.Bool.{Bool, true, false, not, _&&_, and-eq-true-iff}
 use mathlib.Core.List.{List}
 use Prim.Native.Nat.{ℕ, _*_}
-use borrow.Author.Tests.{eqb-true, eq-eqb}
+use borrow.Author.Tests.{eqb-true, eq-eqb, not-true, not-false}
 use lib.Dec.{eqb}
 use lib.ListN.{length}
 use lib.Ieee.{Float}
@@ -26,9 +26,26 @@ mv-long n mat x = length-tab _ n
 pub copied : (n : ℕ) (dst src : List Float) (p : Written × List Float) → p ≡ copy-from-answer n dst src → isDimension n ≡ true → length dst ≡ n → length src ≡ n → p .1 ≡ src
 copied n dst src p e d h k = filled n _ src dst p e d (rw (eq-eqb (length dst) n h, eq-eqb (length src) n k))
 
+-- tests of the code: r is what the test answered, and the code goes by `!r`
+module _ (r t : Bool) (e : r ≡ t) where
+  pub says-no : not r ≡ true → t ≡ false
+  says-no h = sym e ∙ not-true r h
+
+  pub says-yes : not r ≡ false → t ≡ true
+  says-yes h = sym e ∙ not-false r h
+
+pub no-left : (s t : Bool) → s ≡ false → (s && t) ≡ false
+no-left s t h = rw h
+
+pub no-right : (s t : Bool) → s ≡ true → t ≡ false → (s && t) ≡ false
+no-right s t h k = rw (h, k)
+
+pub both : (s t : Bool) → s ≡ true → t ≡ true → (s && t) ≡ true
+both s t h k = rw (h, k)
+
 -- the lengths, from the test that they fit
-pub lengths : (n grad mq xc : ℕ) (r : Bool) → r ≡ (eqb grad n && eqb mq (n * n) && eqb xc n) → r ≡ true → (grad ≡ n) × (mq ≡ n * n) × (xc ≡ n)
-lengths n grad mq xc r e h =
-    let p = and-eq-true-iff (eqb grad n && eqb mq (n * n)) (eqb xc n) .0 (sym e ∙ h) in
+pub lengths : (n grad mq xc : ℕ) → (eqb grad n && eqb mq (n * n) && eqb xc n) ≡ true → (grad ≡ n) × (mq ≡ n * n) × (xc ≡ n)
+lengths n grad mq xc h =
+    let p = and-eq-true-iff (eqb grad n && eqb mq (n * n)) (eqb xc n) .0 h in
     let q = and-eq-true-iff (eqb grad n) (eqb mq (n * n)) .0 (p .0) in
     (eqb-true grad n (q .0), eqb-true mq (n * n) (q .1), eqb-true xc n (p .1))

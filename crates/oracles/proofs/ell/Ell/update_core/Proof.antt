@@ -1,51 +1,46 @@
+-- `oracles::ell::Ell::update_core` meets its contract. Assumes nothing.
+use mathlib.Core.Path.{_∙_}
 use borrow.Author.Needs.{needs}
+use borrow.Author.Tests.{eq-eqb, ne-eqb}
+use Rattle.numbers.specs.ArrLaws.{dimension-most, wrong-dimension, wrong-length, accepted}
+use Rattle.oracles.proofs.ell_common.Laws.{says-no, says-yes, no-left, no-right, both, lengths}
 use Rattle.oracles.proofs.ell.Ell.update_core.Statement.{statement}
 use Rattle.oracles.proofs.ell.Ell.update_core.Tie as tie
-use Rattle.oracles.proofs.ell.Ell.update_core.Reads as reads
-use Rattle.oracles.proofs.ell.Ell.update_core.Lts as lts
-use Rattle.numbers.proofs.arr.is_dimension.Reads as is-dimension-reads
-use Rattle.oracles.proofs.ell.Ell.update.Reads as update-reads
-use Rattle.oracles.proofs.ell_common.lengths_fit.Reads as lengths-fit-reads
 
--- src/ell.rt:172:13
 is-dimension-requires : tie.Need-is-dimension-requires
 is-dimension-requires c κs = search needs
 
--- src/ell.rt:173:13
 returns : tie.Need-returns
-returns c = search needs
+returns c = wrong-dimension _ _ _ _ _ (says-no _ _ (c .before .is-dimension .ensures) (c .if1 .taken))
 
--- src/ell.rt:178:13
 lengths-fit-requires : tie.Need-lengths-fit-requires
-lengths-fit-requires c κs = search needs
+lengths-fit-requires c κs = dimension-most _ (says-yes _ _ (c .before .is-dimension .ensures) (c .if1 .left))
 
--- src/ell.rt:179:13
 returns-2 : tie.Need-returns-2
-returns-2 c = search needs
+returns-2 c = wrong-length _ _ _ _ _ (says-yes _ _ (c .before .before .before .is-dimension .ensures) (c .before .before .if1 .left)) (no-left _ _ (says-no _ _ (c .before .lengths-fit .ensures) (c .if2 .taken)))
 
--- src/ell.rt:185:13
 returns-3 : tie.Need-returns-3
-returns-3 c = search needs
+returns-3 c = wrong-length _ _ _ _ _ (says-yes _ _ (c .before .before .before .before .is-dimension .ensures) (c .before .before .before .if1 .left)) (no-right _ _ (says-yes _ _ (c .before .before .lengths-fit .ensures) (c .before .if2 .left)) (ne-eqb _ _ (c .if3 .taken)))
 
--- src/ell.rt:190:9
 update-requires : tie.Need-update-requires
-update-requires c κs = search needs
+update-requires c κs =
+    let l = lengths _ _ _ _ (says-yes _ _ (c .before .before .before .before .before .lengths-fit .ensures) (c .before .before .before .before .if2 .left)) in
+    (says-yes _ _ (c .before .before .before .before .before .before .before .is-dimension .ensures) (c .before .before .before .before .before .before .if1 .left), l .0, l .1, l .2, c .before .before .before .if3 .left)
 
--- src/ell.rt:160:5
 same-length : tie.Need-same-length
 same-length c = search needs
 
--- src/ell.rt:160:5
 same-length-2 : tie.Need-same-length-2
 same-length-2 c = search needs
 
--- src/ell.rt:160:5
 same-length-3 : tie.Need-same-length-3
 same-length-3 c = search needs
 
--- src/ell.rt:160:5
 returns-4 : tie.Need-returns-4
-returns-4 c = search needs
+returns-4 c =
+    c .before .before .before .before .before .before .update .ensures
+    ∙ accepted _ _ _ _ _ (says-yes _ _ (c .before .before .before .before .before .before .before .before .before .before .before .before .before .before .is-dimension .ensures) (c .before .before .before .before .before .before .before .before .before .before .before .before .before .if1 .left))
+    (both _ _ (says-yes _ _ (c .before .before .before .before .before .before .before .before .before .before .before .before .lengths-fit .ensures) (c .before .before .before .before .before .before .before .before .before .before .before .if2 .left)) (eq-eqb _ _ (c .before .before .before .before .before .before .before .before .before .before .if3 .left)))
 
 pub update-core-spec : {M : Type 1} → statement M
 update-core-spec =
