@@ -1,29 +1,34 @@
 -- The steps of an update of the factors, and laws of the definitions of EllStable. Assumes nothing.
 use Prim.Native.Nat.{ℕ, suc, _+_, _-_}
-use mathlib.Core.Bool.{_&&_}
 use mathlib.Core.List.{List}
 use lib.Dec.{ltb, eqb}
 use lib.ListN.{length, set}
 use lib.Ieee.{Float}
-use Rattle.numbers.specs.F64.{_⊕_, _⊖_, _⊗_, _⊘_, 0ᶠ}
+use Rattle.numbers.specs.F64.{_⊕_, _⊖_, _⊗_, _⊘_}
 use Rattle.numbers.specs.Pick.{pick}
 use Rattle.numbers.specs.Arr.{tab}
 use Rattle.oracles.specs.Matrix.{entry, at, grid, total}
 
--- row i of `forward`: the products stored, and subtracted from w's entry i
-unfoldable pub row-forwarded : ℕ → List Float → List Float → ℕ → List Float × List Float
-row-forwarded n mq w i = (
-  grid (λ r c. pick (eqb r i && ltb c i) (at n mq c r ⊗ entry w c) (at n mq r c)) n n,
-  set w i (total _⊖_ (entry w i) (λ j. at n mq j i ⊗ entry w j) i),
-)
+-- ---- row i of `forward`
 
--- the sum of f's first n values, and their list
-unfoldable pub summed : (ℕ → Float) → ℕ → Float × List Float
-summed f n = (total _⊕_ 0ᶠ f n, tab f n)
+-- the matrix with row i's first j products stored
+abbrev pub stored-to : ℕ → List Float → List Float → ℕ → ℕ → ℕ → ℕ → Float
+stored-to n mq w i j r c = pick (eqb r i) (pick (ltb c j) (at n mq c r ⊗ entry w c) (at n mq r c)) (at n mq r c)
 
--- row i of `backward`
-unfoldable pub row-backwarded : ℕ → List Float → List Float → ℕ → List Float
-row-backwarded n mq q i = set q i (total _⊖_ (entry q i) (λ j. at n mq i (i + 1 + j) ⊗ entry q (i + 1 + j)) (n - (i + 1)))
+unfoldable pub row-stored : ℕ → List Float → List Float → ℕ → List Float
+row-stored n mq w i = grid (stored-to n mq w i i) n n
+
+-- w with the first j products subtracted from its entry i
+abbrev pub solved-to : ℕ → List Float → List Float → ℕ → ℕ → List Float
+solved-to n mq w i j = set w i (total _⊖_ (entry w i) (λ k. at n mq k i ⊗ entry w k) j)
+
+-- ---- row i of `backward`
+
+-- q with the first k products of row i subtracted from its entry i
+abbrev pub solved-back : ℕ → List Float → List Float → ℕ → ℕ → List Float
+solved-back n mq q i k = set q i (total _⊖_ (entry q i) (λ j. at n mq i (i + 1 + j) ⊗ entry q (i + 1 + j)) k)
+
+-- ---- the rank-one update
 
 -- column j of the strict lower triangle taken from v
 unfoldable pub column-taken : ℕ → List Float → List Float → ℕ → List Float
@@ -41,11 +46,12 @@ less-columns n mq v l j = total _⊖_ (entry v l) (λ k. at n mq l k) j
 unfoldable pub t-after : ℕ → List Float → List Float → List Float → Float → ℕ → Float
 t-after n mq z v t0 j = total _⊕_ t0 (λ i. less-columns n mq v i i ⊗ entry z i) j
 
--- the rank-one update from what the lower triangle holds, and v as it ends
-unfoldable pub rank-one : ℕ → List Float → List Float → List Float → Float → List Float × List Float
-rank-one n mq z v t0 = (
-  grid (λ r c. pick (ltb c r) (at n mq r c)
-  (pick (eqb r c) (at n mq r c ⊗ (t-after n mq z v t0 r ⊘ t-after n mq z v t0 (suc r)))
-  (at n mq r c ⊕ entry z r ⊘ t-after n mq z v t0 (suc r) ⊗ less-columns n mq v c (suc r)))) n n,
-  tab (λ l. less-columns n mq v l l) n,
-)
+-- the factors from what the lower triangle holds
+abbrev pub factor-at : ℕ → List Float → List Float → List Float → Float → ℕ → ℕ → Float
+factor-at n mq z v t0 r c =
+    pick (ltb c r) (at n mq r c)
+    (pick (eqb r c) (at n mq r c ⊗ (t-after n mq z v t0 r ⊘ t-after n mq z v t0 (suc r)))
+    (at n mq r c ⊕ entry z r ⊘ t-after n mq z v t0 (suc r) ⊗ less-columns n mq v c (suc r)))
+
+unfoldable pub factors-after : ℕ → List Float → List Float → List Float → Float → List Float
+factors-after n mq z v t0 = grid (factor-at n mq z v t0) n n

@@ -5,6 +5,7 @@ use mathlib.Core.List.{List, [], _∷_, _++_}
 use mathlib.Core.Logic.{⊎-elim}
 use Prim.Native.Nat.{ℕ, zero, suc, _≤_, _<_, _+_, _*_, _-_}
 use native.Mathlib.Nat.{le-of-suc-le-suc, eq-or-lt-of-le, suc-mul, zero-mul, mul-le-mul}
+use native.Mathlib.Numerals.{add-one}
 use native.Mathlib.Omega.{arith}
 use borrow.Author.Tests.{ltb-true, ltb-false, eqb-true, eqb-false, lt-ltb, le-ltb}
 use borrow.Rule.Slice.PartMut.{putMid, same-len-mid}
@@ -183,8 +184,8 @@ module _ (m : ℕ) (f g : ℕ → Float) (i : ℕ) (xs : List Float) where
         go k b false t = sweep-left k (ltb-false k i t) b ∙ e k b (ltb-false k i t)
 
 -- nothing is written yet
-pub sweep-zero : (f : ℕ → Float) (xs : List Float) → VectorOf (length xs) (swept f (λ k. entry xs k) 0) xs
-sweep-zero f xs = sweep-start (length xs) f (λ k. entry xs k) 0 xs refl (λ k b. refl) (λ k b. absurd (omega (arith, b)))
+pub sweep-zero : (m : ℕ) (f : ℕ → Float) (xs : List Float) → length xs ≡ m → VectorOf m (swept f (λ k. entry xs k) 0) xs
+sweep-zero m f xs l = sweep-start m f (λ k. entry xs k) 0 xs l (λ k b. refl) (λ k b. absurd (omega (arith, b)))
 
 pub record MatrixOf (n : ℕ) (f : ℕ → ℕ → Float) (mat : List Float) : Type 0 where
   pub long : length mat ≡ n * n
@@ -339,3 +340,11 @@ module _ (n : ℕ) (f g : ℕ → ℕ → Float) (i : ℕ) (mat : List Float) (h
 -- place (i, j) is a small number
 pub place-small : (n i j : ℕ) → n ≤ 32 → i < n → j < n → i * n + j < 1024
 place-small n i j h k l = omega (arith, place-in n n i j k l, mul-le-mul h h)
+
+-- one term more
+pub total-turn : (op : Float → Float → Float) (s : Float) (f : ℕ → Float) (k : ℕ) (t v : Float) → t ≡ total op s f k → v ≡ f k → op t v ≡ total op s f (k + 1)
+unfolding total
+total-turn op s f k t v e h = rw (e, h, add-one)
+
+pub total-at : (op : Float → Float → Float) (s : Float) (f : ℕ → Float) (k m : ℕ) (t : Float) → t ≡ total op s f k → k ≡ m → t ≡ total op s f m
+total-at op s f k m t e h = e ∙ ap (total op s f) h

@@ -14,14 +14,14 @@ use numbers::ell_calc::NewEllCalc;
 use numbers::refusal::Refusal;
 ghost use mathlib.Core.Path.{_≡_};
 ghost use mathlib.Core.Bool.{true};
-ghost use Prim.Native.Nat.{suc, _*_, _≤_, _<_};
+ghost use Prim.Native.Nat.{_+_, _*_, _-_, _≤_, _<_};
 ghost use lib.ListN.{length};
 ghost use Rattle.numbers.specs.Arr.{isDimension, tab};
-ghost use Rattle.numbers.specs.F64.{_⊗_, _⊘_};
-ghost use Rattle.oracles.specs.Matrix.{entry, at};
+ghost use Rattle.numbers.specs.F64.{_⊕_, _⊗_, _⊘_, 0ᶠ};
+ghost use Rattle.oracles.specs.Matrix.{entry, at, total};
 ghost use Rattle.oracles.specs.EllCommon.{centreOf};
 ghost use Rattle.oracles.specs.EllStable.{new-ell-stable-answer, inv-ml-gOf, inv-md-inv-ml-gOf, gg-tOf, omegaOf, lowered, backward, t-start, with-tsq, stable-said, stable-fits, stable-updateOf, stable-update-answer};
-ghost use Rattle.oracles.specs.EllStableLaws.{row-forwarded, summed, row-backwarded, column-taken, row-updated, rank-one};
+ghost use Rattle.oracles.specs.EllStableLaws.{row-stored, solved-to, solved-back, column-taken, row-updated, less-columns, factors-after};
 
 pub struct EllStable {
     ndim: usize,
@@ -43,7 +43,7 @@ pub struct EllStableUpdate {
 // Row i of inv(L) g; what is subtracted stays in the lower triangle.
 fn forward_row(n: usize, mq: &mut [f64], w: &mut [f64], i: usize)
     requires { ⌜ (n ≤ 32) × (length (now mq) ≡ n * n) × (length (now w) ≡ n) × (i < n) ⌝ }
-    ensures { λ _. ⌜ (now (mq .exit), now (w .exit)) ≡ row-forwarded n (now (mq .entry)) (now (w .entry)) i ⌝ }
+    ensures { λ _. ⌜ (now (mq .exit) ≡ row-stored n (now (mq .entry)) (now (w .entry)) i) × (now (w .exit) ≡ solved-to n (now (mq .entry)) (now (w .entry)) i i) ⌝ }
 {
     let mut j = 0;
     while j < i {
@@ -81,7 +81,7 @@ fn scale_into(n: usize, mq: &[f64], w: &[f64], z: &mut [f64])
 // The products of z and w, and their sum.
 fn omega_into(w: &[f64], z: &[f64], gg: &mut [f64]) -> f64
     requires { ⌜ (length (now w) ≡ length (now gg)) × (length (now z) ≡ length (now gg)) ⌝ }
-    ensures { λ r. ⌜ (r, now (gg .exit)) ≡ summed (λ i. entry (now (z .entry)) i ⊗ entry (now (w .entry)) i) (length (now (gg .entry))) ⌝ }
+    ensures { λ r. ⌜ (r ≡ total _⊕_ 0ᶠ (λ i. entry (now (z .entry)) i ⊗ entry (now (w .entry)) i) (length (now (gg .entry)))) × (now (gg .exit) ≡ tab (λ i. entry (now (z .entry)) i ⊗ entry (now (w .entry)) i) (length (now (gg .entry)))) ⌝ }
 {
     let mut omega = 0.0;
     let mut i = 0;
@@ -96,7 +96,7 @@ fn omega_into(w: &[f64], z: &[f64], gg: &mut [f64]) -> f64
 // Row i of inv(Lᵀ) z, from the rows after it.
 fn backward_row(n: usize, mq: &[f64], q: &mut [f64], i: usize)
     requires { ⌜ (n ≤ 32) × (length (now mq) ≡ n * n) × (length (now q) ≡ n) × (i < n) ⌝ }
-    ensures { λ _. ⌜ now (q .exit) ≡ row-backwarded n (now (mq .entry)) (now (q .entry)) i ⌝ }
+    ensures { λ _. ⌜ now (q .exit) ≡ solved-back n (now (mq .entry)) (now (q .entry)) i (n - (i + 1)) ⌝ }
 {
     let mut j = i + 1;
     while j < n {
@@ -145,7 +145,7 @@ fn update_row(row: &mut [f64], ratio: f64, beta2: f64, v: &[f64])
 // The rank-one update of the factors; v begins as the gradient.
 fn rank_one(n: usize, mq: &mut [f64], z: &[f64], v: &mut [f64], t0: f64)
     requires { ⌜ (n ≤ 32) × (length (now mq) ≡ n * n) × (length (now z) ≡ n) × (length (now v) ≡ n) ⌝ }
-    ensures { λ _. ⌜ (now (mq .exit), now (v .exit)) ≡ rank-one n (now (mq .entry)) (now (z .entry)) (now (v .entry)) t0 ⌝ }
+    ensures { λ _. ⌜ (now (mq .exit) ≡ factors-after n (now (mq .entry)) (now (z .entry)) (now (v .entry)) t0) × (now (v .exit) ≡ tab (λ l. less-columns n (now (mq .entry)) (now (v .entry)) l l) n) ⌝ }
 {
     let mut oldt = t0;
     let mut j = 0;
@@ -191,7 +191,7 @@ fn succeed(
     params: Params,
 )
     requires { ⌜ (isDimension n ≡ true) × (length (now grad) ≡ n) × (length (now mq) ≡ n * n) × (length (now xc) ≡ n) × (length (now z) ≡ n) × (length (now «g_t») ≡ n) ⌝ }
-    ensures { λ _. ⌜ (now (xc .exit) ≡ centreOf (now (xc .entry)) (params .rho ⊘ omega) (backward n (now (mq .entry)) (now (z .entry)) n)) × ((now (mq .exit), now («g_t» .exit)) ≡ rank-one n (now (mq .entry)) (now (z .entry)) (now (grad .entry)) (t-start omega (params .sigma))) ⌝ }
+    ensures { λ _. ⌜ (now (xc .exit) ≡ centreOf (now (xc .entry)) (params .rho ⊘ omega) (backward n (now (mq .entry)) (now (z .entry)) n)) × (now (mq .exit) ≡ factors-after n (now (mq .entry)) (now (z .entry)) (now (grad .entry)) (t-start omega (params .sigma))) × (now («g_t» .exit) ≡ tab (λ l. less-columns n (now (mq .entry)) (now (grad .entry)) l l) n) ⌝ }
 {
     copy_from(n, g_t, z);
     backward(n, mq, g_t);

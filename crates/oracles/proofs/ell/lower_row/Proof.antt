@@ -21,7 +21,7 @@ abbrev μ-loop : tie.MeasureT-loop
 μ-loop row₀ r-qg gt i j₀ row j = i + 1 - j
 
 loop-holds : tie.Need-loop-holds Inv-loop μ-loop
-loop-holds c = (search needs, sweep-zero _ _)
+loop-holds c = (search needs, sweep-zero _ _ _ refl)
 
 mul-row : tie.Need-mul-row Inv-loop μ-loop
 mul-row c = search needs

@@ -18,7 +18,7 @@ abbrev μ-loop : tie.MeasureT-loop
 μ-loop xc₀ step dir i₀ xc i = length dir - i
 
 loop-holds : tie.Need-loop-holds Inv-loop μ-loop
-loop-holds c = (search needs, sweep-zero _ _)
+loop-holds c = (search needs, sweep-zero _ _ _ refl)
 
 mul-xc : tie.Need-mul-xc Inv-loop μ-loop
 mul-xc c = search needs
