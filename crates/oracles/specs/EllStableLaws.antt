@@ -1,6 +1,7 @@
 -- The steps of an update of the factors, and laws of the definitions of EllStable. Assumes nothing.
-use Prim.Native.Nat.{ℕ, suc, _+_, _-_}
+use mathlib.Core.Path.{_≡_, refl}
 use mathlib.Core.List.{List}
+use Prim.Native.Nat.{ℕ, zero, suc, _+_}
 use lib.Dec.{ltb, eqb}
 use lib.ListN.{length, set}
 use lib.Ieee.{Float}
@@ -8,6 +9,7 @@ use Rattle.numbers.specs.F64.{_⊕_, _⊖_, _⊗_, _⊘_}
 use Rattle.numbers.specs.Pick.{pick}
 use Rattle.numbers.specs.Arr.{tab}
 use Rattle.oracles.specs.Matrix.{entry, at, grid, total}
+use Rattle.oracles.specs.EllStable.{forward, inv-ml-gOf}
 
 -- ---- row i of `forward`
 
@@ -55,3 +57,11 @@ factor-at n mq z v t0 r c =
 
 unfoldable pub factors-after : ℕ → List Float → List Float → List Float → Float → List Float
 factors-after n mq z v t0 = grid (factor-at n mq z v t0) n n
+
+-- ---- laws
+
+-- `forward` as one sum
+pub forward-total : (n : ℕ) (mq g : List Float) (l j : ℕ) → forward n mq g l j ≡ total _⊖_ (entry g l) (λ k. at n mq k l ⊗ inv-ml-gOf n mq g k) j
+unfolding forward inv-ml-gOf total
+forward-total n mq g l zero = refl
+forward-total n mq g l (suc j) = rw (forward-total n mq g l j)

@@ -1,47 +1,53 @@
+-- `oracles::ell_stable::backward` meets its contract. The invariant: the entries from i on are solved. Assumes nothing.
+use mathlib.Core.Path.{_≡_}
+use mathlib.Core.List.{_++_}
+use Prim.Native.Nat.{_-_, _<_}
+use native.Mathlib.Omega.{arith}
 use borrow.Author.Needs.{needs}
+use lib.ListN.{length, take}
+use Rattle.oracles.specs.EllStable.{backward}
+use Rattle.oracles.proofs.ell_stable.Laws.{back-rows-start, back-rows-turn, back-rows-done}
 use Rattle.oracles.proofs.ell_stable.backward.Statement.{statement}
 use Rattle.oracles.proofs.ell_stable.backward.Tie as tie
-use Rattle.oracles.proofs.ell_stable.backward.Reads as reads
-use Rattle.oracles.proofs.ell_stable.backward.Lts as lts
-use Rattle.oracles.proofs.ell_stable.backward_row.Reads as backward-row-reads
 
 abbrev Inv-loop : tie.InvT-loop
-Inv-loop n mq q₀ i₀ q i = ?
+Inv-loop n mq q₀ i₀ q i = (i < n) × (length q ≡ n) × (q ≡ take i q₀ ++ backward n mq q₀ (n - i))
 
 abbrev μ-loop : tie.MeasureT-loop
-μ-loop n mq q₀ i₀ q i = ?
+μ-loop n mq q₀ i₀ q i = i
 
--- src/ell_stable.rt:103:17
 sub-i : tie.Need-sub-i Inv-loop μ-loop
 sub-i c = search needs
 
--- src/ell_stable.rt:104:5
 loop-holds : tie.Need-loop-holds Inv-loop μ-loop
-loop-holds c = search needs
+loop-holds c =
+    let a = c .before .before .args in
+    (search needs, search needs, back-rows-start (a .n) (a .mq .now) (a .q .now) (search needs) (search needs))
 
--- src/ell_stable.rt:105:9
 sub-i-2 : tie.Need-sub-i-2 Inv-loop μ-loop
 sub-i-2 c = search needs
 
--- src/ell_stable.rt:106:9
 backward-row-requires : tie.Need-backward-row-requires Inv-loop μ-loop
 backward-row-requires c κs = search needs
 
--- src/ell_stable.rt:104:5
 loop-less : tie.Need-loop-less Inv-loop μ-loop
 loop-less c = search needs
 
--- src/ell_stable.rt:104:5
 loop-again : tie.Need-loop-again Inv-loop μ-loop
-loop-again c = search needs
+loop-again c =
+    let l = c .before .before .before .before .before .loop in
+    let a = c .before .before .before .before .before .before .before .before .args in
+    (search needs, search needs,
+    rw (c .before .before .backward-row .ensures) (back-rows-turn (a .n) (a .mq .now) (a .q .now) (l .q) (l .i) (l .i - 1) (search needs) (search needs) (search needs) (l .inv .2)))
 
--- src/ell_stable.rt:99:1
 same-length : tie.Need-same-length Inv-loop μ-loop
 same-length c = search needs
 
--- src/ell_stable.rt:99:1
 returns : tie.Need-returns Inv-loop μ-loop
-returns c = search needs
+returns c =
+    let l = c .before .loop in
+    let a = c .before .before .before .before .args in
+    back-rows-done (a .n) (a .mq .now) (a .q .now) (l .q) (l .i) (search needs) (l .inv .2)
 
 pub backward-spec : {M : Type 1} → statement M
 backward-spec =
