@@ -3,6 +3,7 @@ use crate::ell_common::CutStrategy;
 use crate::ell_common::Update;
 use crate::ell_common::is_success;
 use crate::ell_common::is_tiny;
+use crate::ell_common::lengths_fit;
 use crate::ell_common::move_centre;
 use numbers::arr::copy_from;
 use numbers::arr::is_dimension;
@@ -13,14 +14,15 @@ use numbers::ell_calc::EllCalc;
 use numbers::ell_calc::NewEllCalc;
 use numbers::refusal::Refusal;
 ghost use mathlib.Core.Path.{_≡_};
-ghost use mathlib.Core.Bool.{true};
+ghost use mathlib.Core.Bool.{true, _&&_};
 ghost use Prim.Native.Nat.{_+_, _*_, _-_, _≤_, _<_};
+ghost use lib.Dec.{eqb};
 ghost use lib.ListN.{length};
 ghost use Rattle.numbers.specs.Arr.{isDimension, tab};
 ghost use Rattle.numbers.specs.F64.{_⊕_, _⊗_, _⊘_, 0ᶠ};
 ghost use Rattle.oracles.specs.Matrix.{entry, at, total};
 ghost use Rattle.oracles.specs.EllCommon.{centreOf};
-ghost use Rattle.oracles.specs.EllStable.{new-ell-stable-answer, inv-ml-gOf, inv-md-inv-ml-gOf, gg-tOf, omegaOf, lowered, backward, t-start, with-tsq, stable-said, stable-fits, stable-updateOf, stable-update-answer};
+ghost use Rattle.oracles.specs.EllStable.{new-ell-stable-answer, inv-ml-gOf, inv-md-inv-ml-gOf, gg-tOf, omegaOf, lowered, backward, t-start, with-tsq, stable-said, stable-updateOf, stable-update-answer};
 ghost use Rattle.oracles.specs.EllStableLaws.{row-stored, solved-to, solved-back, column-taken, row-updated, less-columns, factors-after};
 
 pub struct EllStable {
@@ -201,6 +203,22 @@ fn succeed(
     rank_one(n, mq, z, g_t, omega / mu);
 }
 
+// Whether the working vectors are as long as n says.
+fn scratch_fits(n: usize, inv_ml_g: usize, inv_md_inv_ml_g: usize, gg_t: usize, g_t: usize) -> bool
+    ensures { λ r. ⌜ r ≡ (eqb «inv_ml_g» n && eqb «inv_md_inv_ml_g» n && eqb «gg_t» n && eqb «g_t» n) ⌝ }
+{
+    if inv_ml_g != n {
+        return false;
+    }
+    if inv_md_inv_ml_g != n {
+        return false;
+    }
+    if gg_t != n {
+        return false;
+    }
+    g_t == n
+}
+
 impl EllStable {
     pub fn new_with_matrix(n: usize, kappa: f64) -> NewEllStable
         ensures { λ r. ⌜ r ≡ new-ell-stable-answer n kappa ⌝ }
@@ -244,7 +262,7 @@ impl EllStable {
         gg_t: &mut [f64],
         g_t: &mut [f64],
     ) -> EllStableUpdate
-        requires { ⌜ (isDimension (self .ndim) ≡ true) × (stable-fits (self .ndim) (now grad) (record { mq = now mq; xc = now xc; inv-ml-g = now «inv_ml_g»; inv-md-inv-ml-g = now «inv_md_inv_ml_g»; gg-t = now «gg_t»; g-t = now «g_t» }) ≡ true) ⌝ }
+        requires { ⌜ (isDimension (self .ndim) ≡ true) × (length (now grad) ≡ self .ndim) × (length (now mq) ≡ self .ndim * self .ndim) × (length (now xc) ≡ self .ndim) × (length (now «inv_ml_g») ≡ self .ndim) × (length (now «inv_md_inv_ml_g») ≡ self .ndim) × (length (now «gg_t») ≡ self .ndim) × (length (now «g_t») ≡ self .ndim) ⌝ }
         ensures { λ r. ⌜ (r, record { mq = now (mq .exit); xc = now (xc .exit); inv-ml-g = now («inv_ml_g» .exit); inv-md-inv-ml-g = now («inv_md_inv_ml_g» .exit); gg-t = now («gg_t» .exit); g-t = now («g_t» .exit) }) ≡ stable-updateOf self strategy (now (grad .entry)) beta (record { mq = now (mq .entry); xc = now (xc .entry); inv-ml-g = now («inv_ml_g» .entry); inv-md-inv-ml-g = now («inv_md_inv_ml_g» .entry); gg-t = now («gg_t» .entry); g-t = now («g_t» .entry) }) ⌝ }
     {
         let n = self.ndim;
@@ -285,13 +303,13 @@ impl EllStable {
                 answer: Update::Refused(Refusal::Dimension),
             };
         }
-        if !(grad.len() == n && mq.len() == n * n && xc.len() == n) {
+        if !lengths_fit(n, grad.len(), mq.len(), xc.len()) {
             return EllStableUpdate {
                 ell: self,
                 answer: Update::Refused(Refusal::Length),
             };
         }
-        if !(inv_ml_g.len() == n && inv_md_inv_ml_g.len() == n && gg_t.len() == n && g_t.len() == n) {
+        if !scratch_fits(n, inv_ml_g.len(), inv_md_inv_ml_g.len(), gg_t.len(), g_t.len()) {
             return EllStableUpdate {
                 ell: self,
                 answer: Update::Refused(Refusal::Length),

@@ -2,9 +2,10 @@
 use mathlib.Core.Path.{_≡_, sym, ap, _∙_}
 use mathlib.Core.Bool.{Bool, true, false, not, _&&_, and-eq-true-iff}
 use mathlib.Core.List.{List}
-use Prim.Native.Nat.{ℕ, _*_}
-use borrow.Author.Tests.{eqb-true, eq-eqb, not-true, not-false}
-use lib.Dec.{eqb}
+use Prim.Native.Nat.{ℕ, _≤_, _*_}
+use native.Mathlib.Omega.{arith}
+use borrow.Author.Tests.{leb-true, eqb-true, eq-eqb, not-true, not-false}
+use lib.Dec.{leb, eqb}
 use lib.ListN.{length}
 use lib.Ieee.{Float}
 use Rattle.numbers.specs.Arr.{isDimension, mvOf, fills, dot-mv-into-answer, copy-from-answer}
@@ -25,6 +26,9 @@ mv-long n mat x = length-tab _ n
 
 pub copied : (n : ℕ) (dst src : List Float) (p : Written × List Float) → p ≡ copy-from-answer n dst src → isDimension n ≡ true → length dst ≡ n → length src ≡ n → p .1 ≡ src
 copied n dst src p e d h k = filled n _ src dst p e d (rw (eq-eqb (length dst) n h, eq-eqb (length src) n k))
+
+pub dimension-least : (n : ℕ) → isDimension n ≡ true → 1 ≤ n
+dimension-least n h = omega (arith, leb-true 2 n (and-eq-true-iff (leb 2 n) (leb n 32) .0 h .0))
 
 -- tests of the code: r is what the test answered, and the code goes by `!r`
 module _ (r t : Bool) (e : r ≡ t) where

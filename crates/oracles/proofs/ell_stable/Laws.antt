@@ -1,9 +1,10 @@
 -- The turns of the loops of ell_stable. Assumes nothing.
 use mathlib.Core.Path.{_≡_, refl, sym, ap, subst, _∙_}
+use mathlib.Core.Bool.{Bool, true, false, not, _&&_, and-eq-true-iff}
 use mathlib.Core.List.{List, _∷_, _++_}
 use mathlib.Core.Logic.{⊎-elim}
 use Prim.Native.Nat.{ℕ, zero, suc, _≤_, _<_, _+_, _-_, _*_}
-use native.Mathlib.Nat.{sub-zero, eq-or-lt-of-le}
+use native.Mathlib.Nat.{sub-zero, le-refl, eq-or-lt-of-le}
 use native.Mathlib.Numerals.{add-one}
 use native.Mathlib.Omega.{arith}
 use borrow.Author.Tests.{ltb-true, ltb-false, eqb-true, eqb-false, eq-eqb, ne-eqb, lt-ltb, le-ltb}
@@ -12,14 +13,27 @@ use lib.Dec.{ltb, eqb}
 use lib.Ieee.{Float, nan}
 use lib.ListN.{length, take, drop, set, length-drop}
 use lib.Seq.{getD-at, getD-append-add, getD-take, getD-drop, getD-set-same, getD-set-other, set-at, set-getD, set-set, append-snoc, take-all, take-suc, length-take-le}
-use Rattle.numbers.specs.F64.{_⊕_, _⊖_, _⊗_, _⊘_}
+use Rattle.numbers.specs.F64.{_⊕_, _⊖_, _⊗_, _⊘_, 0ᶠ, 1ᶠ}
 use Rattle.numbers.specs.Pick.{pick, hit, skip}
-use Rattle.numbers.specs.Arr.{tab}
+use Rattle.numbers.specs.Arr.{tab, isDimension}
+use Rattle.numbers.specs.EllCalc.{made, new-answer}
+use Rattle.numbers.specs.declared.refusal.Refusal.the-variants.{Dimension}
+use Rattle.numbers.specs.declared.cut.Answer.{Answer}
+use Rattle.numbers.specs.declared.cut.CutChoice.{CutChoice}
+use Rattle.numbers.specs.declared.cut.CutStatus.the-variants.{NoEffect}
+use Rattle.numbers.specs.declared.ell_calc.NewEllCalc.{NewEllCalc}
+use Rattle.numbers.specs.declared.ell_calc.NewEllCalc.the-variants.{Made as MadeCalc, Refused as NoCalc}
 use Rattle.numbers.specs.ArrLaws.{length-tab}
 use Rattle.oracles.specs.Matrix.{entry, at, grid, total}
-use Rattle.oracles.specs.MatrixLaws.{tab-entry, tab-ext, tab-cong, length-grid, grid-at, total-cong, total-turn, is-hit, is-skip, both-ways, pick-cong, pick-grow, VectorOf, MatrixOf, matrix-set, matrix-grid, swept, sweep-start, sweep-left, sweep-past, sweep-turn, swept-by, by-start, by-left, by-past, by-turn, by-done, part-long, part-entry, part-turn}
-use Rattle.oracles.specs.EllStable.{forward, inv-ml-gOf, lowered, backward}
-use Rattle.oracles.specs.EllStableLaws.{stored-to, row-stored, solved-to, solved-back, column-taken, row-updated, less-columns, t-after, factor-at, factors-after, forward-total}
+use Rattle.oracles.specs.MatrixLaws.{tab-entry, tab-ext, tab-cong, length-grid, grid-at, total-cong, total-turn, is-hit, is-skip, both-ways, pick-cong, pick-grow, pick-map, VectorOf, MatrixOf, matrix-set, matrix-grid, swept, sweep-start, sweep-left, sweep-past, sweep-turn, swept-by, by-start, by-left, by-past, by-turn, by-done, part-long, part-entry, part-turn}
+use Rattle.oracles.specs.EllCommon.{calcOf, is-tiny, is-success, centreOf}
+use Rattle.oracles.specs.declared.ell_common.CutStrategy.{CutStrategy}
+use Rattle.oracles.specs.declared.ell_stable.EllStable.{EllStable}
+use Rattle.oracles.specs.declared.ell_stable.EllStableUpdate.{EllStableUpdate}
+use Rattle.oracles.specs.declared.ell_stable.NewEllStable.{NewEllStable}
+use Rattle.oracles.specs.declared.ell_stable.NewEllStable.the-variants.{Made, Refused as NotMade}
+use Rattle.oracles.specs.EllStable.{StableBuffers, new-ell-stable-answer, forward, inv-ml-gOf, inv-md-inv-ml-gOf, gg-tOf, omegaOf, lowered, backward, t-start, updated, with-tsq, stable-said, succeeded, stable-updateOf}
+use Rattle.oracles.specs.EllStableLaws.{stored-to, row-stored, solved-to, solved-back, column-taken, row-updated, less-columns, t-after, factor-at, factors-after, forward-total, scaled, products, summed, columns-lowered, factors-lowered, backward-lowered}
 
 -- ---- an entry from which a sum of products is taken, in place
 
@@ -280,3 +294,80 @@ factored-done n mq₀ z v₀ t0 j mq h l = by-done n _ _ _ j mq h (λ r c a b k.
 
 pub columns-done : (n : ℕ) (mq v₀ : List Float) (j : ℕ) (v : List Float) → VectorOf n (columns-to n mq v₀ j) v → n ≤ j → v ≡ tab (λ l. less-columns n mq v₀ l l) n
 columns-done n mq v₀ j v h l = tab-ext _ n v (h .long) (λ k b. h .each k b ∙ is-hit (ltb k j) _ _ (lt-ltb k j (omega arith)))
+
+-- ---- what `prepare` and `succeed` leave, from what their calls left
+
+pub prepare-done : (n : ℕ) (mq g w mq′ w′ z gg : List Float) (m : ℕ) (omega : Float) → w ≡ g → mq′ ≡ lowered n mq w → w′ ≡ tab (inv-ml-gOf n mq w) n
+    → z ≡ tab (λ i. entry w′ i ⊗ at n mq′ i i) n → m ≡ n → omega ≡ total _⊕_ 0ᶠ (λ i. entry z i ⊗ entry w′ i) m → gg ≡ tab (λ i. entry z i ⊗ entry w′ i) m
+    → (omega ≡ omegaOf n mq g) × (mq′ ≡ lowered n mq g) × (w′ ≡ tab (inv-ml-gOf n mq g) n) × (z ≡ tab (inv-md-inv-ml-gOf n mq g) n) × (gg ≡ tab (gg-tOf n mq g) n)
+prepare-done n mq g w mq′ w′ z gg m omega a b c d e f h =
+    let b′ : mq′ ≡ lowered n mq g = b ∙ ap (lowered n mq) a in
+    let c′ : w′ ≡ tab (inv-ml-gOf n mq g) n = c ∙ ap (λ (x : List Float). tab (inv-ml-gOf n mq x) n) a in
+    let d′ : z ≡ tab (inv-md-inv-ml-gOf n mq g) n = d ∙ rw (b′, c′) (scaled n mq g) in
+    (f ∙ rw (e, c′, d′) (summed n mq g), b′, c′, d′, h ∙ rw (e, c′, d′) (products n mq g))
+
+pub succeed-done : (n : ℕ) (mq z grad xc : List Float) (omega rho sigma : Float) (q q′ v v′ mq′ xc′ : List Float) → q ≡ z → q′ ≡ backward n mq q n
+    → xc′ ≡ centreOf xc (rho ⊘ omega) q′ → v ≡ grad → mq′ ≡ factors-after n mq z v (omega ⊘ (sigma ⊘ (1ᶠ ⊖ sigma))) → v′ ≡ tab (λ l. less-columns n mq v l l) n
+    → (xc′ ≡ centreOf xc (rho ⊘ omega) (backward n mq z n)) × (mq′ ≡ factors-after n mq z grad (t-start omega sigma)) × (v′ ≡ tab (λ l. less-columns n mq grad l l) n)
+unfolding t-start
+succeed-done n mq z grad xc omega rho sigma q q′ v v′ mq′ xc′ a b c d e f = (c ∙ rw (b, a), e ∙ rw d, f ∙ rw d)
+
+-- ---- what is made of the calculator's answer
+
+abbrev pub from-calc : ℕ → Float → NewEllCalc → NewEllStable
+from-calc n kappa (MadeCalc helper) = Made (record { ndim = n; kappa = kappa; helper = helper; tsq = 0ᶠ })
+from-calc n kappa (NoCalc why) = NotMade why
+
+pub made-from : (n : ℕ) (kappa : Float) → from-calc n kappa (new-answer n) ≡ new-ell-stable-answer n kappa
+unfolding new-answer new-ell-stable-answer
+made-from n kappa = pick-map (from-calc n kappa) (not (isDimension n)) (NoCalc Dimension) (MadeCalc (made n))
+
+-- ---- the ways through an update, from what its calls answered
+
+module _ (e : EllStable) (s : CutStrategy) (grad : List Float) (beta : CutChoice) (b : StableBuffers) (omega : Float) (mq w z gg : List Float) (tiny : Bool)
+    (o : (omega ≡ omegaOf (e .ndim) (b .mq) grad) × (mq ≡ lowered (e .ndim) (b .mq) grad) × (w ≡ tab (inv-ml-gOf (e .ndim) (b .mq) grad) (e .ndim))
+    × (z ≡ tab (inv-md-inv-ml-gOf (e .ndim) (b .mq) grad) (e .ndim)) × (gg ≡ tab (gg-tOf (e .ndim) (b .mq) grad) (e .ndim)))
+    (t : tiny ≡ is-tiny omega) where
+  tiny-is : is-tiny (omegaOf (e .ndim) (b .mq) grad) ≡ tiny
+  tiny-is = sym (t ∙ ap is-tiny (o .0))
+
+  pub no-effect : (r : EllStableUpdate) → tiny ≡ true → r ≡ stable-said e NoEffect
+      → (r, record { mq = mq; xc = b .xc; inv-ml-g = w; inv-md-inv-ml-g = z; gg-t = gg; g-t = b .g-t }) ≡ stable-updateOf e s grad beta b
+  unfolding stable-updateOf
+  no-effect r h q = hit _ _ _ _ (tiny-is ∙ h) (rw (q, o .1, o .2, o .3, o .4))
+
+  module _ (a : Answer) (ok : Bool) (k : a ≡ calcOf s (e .helper) beta (e .kappa ⊗ omega)) (u : ok ≡ is-success (a .status)) (h : tiny ≡ false) where
+    pub fails : (r : EllStableUpdate) → not ok ≡ true → r ≡ stable-said (with-tsq e (e .kappa) (e .kappa ⊗ omega)) (a .status)
+        → (r, record { mq = mq; xc = b .xc; inv-ml-g = w; inv-md-inv-ml-g = z; gg-t = gg; g-t = b .g-t }) ≡ stable-updateOf e s grad beta b
+    unfolding stable-updateOf
+    fails r f q = skip _ _ _ _ (tiny-is ∙ h) (hit _ _ _ _ (rw (← o .0, ← k, ← u) f) (rw (q, k, o .0, o .1, o .2, o .3, o .4)))
+
+    pub succeeds : (r : EllStableUpdate) (mq′ xc′ v′ : List Float) → not ok ≡ false
+        → (xc′ ≡ centreOf (b .xc) (a .params .rho ⊘ omega) (backward (e .ndim) mq z (e .ndim)))
+          × (mq′ ≡ factors-after (e .ndim) mq z grad (t-start omega (a .params .sigma))) × (v′ ≡ tab (λ l. less-columns (e .ndim) mq grad l l) (e .ndim))
+        → r ≡ stable-said (with-tsq e (e .kappa ⊗ a .params .delta) (e .kappa ⊗ omega)) (a .status)
+        → (r, record { mq = mq′; xc = xc′; inv-ml-g = w; inv-md-inv-ml-g = z; gg-t = gg; g-t = v′ }) ≡ stable-updateOf e s grad beta b
+    unfolding stable-updateOf succeeded
+    succeeds r mq′ xc′ v′ f x q =
+        let n = e .ndim in
+        let xc-is : xc′ ≡ centreOf (b .xc) (a .params .rho ⊘ omega) (backward n (b .mq) (tab (inv-md-inv-ml-gOf n (b .mq) grad) n) n) =
+            x .0 ∙ rw (o .1, o .3, backward-lowered n (b .mq) grad (tab (inv-md-inv-ml-gOf n (b .mq) grad) n) n (le-refl n))
+        in
+        let mq-is : mq′ ≡ updated n (b .mq) grad (t-start omega (a .params .sigma)) = x .1 ∙ rw (o .1, o .3) (factors-lowered n (b .mq) grad (t-start omega (a .params .sigma))) in
+        let v-is : v′ ≡ tab (inv-ml-gOf n (b .mq) grad) n = x .2 ∙ rw (o .1) (columns-lowered n (b .mq) grad) in
+        skip _ _ _ _ (tiny-is ∙ h) (skip _ _ _ _ (rw (← o .0, ← k, ← u) f) (rw (q, xc-is, mq-is, v-is, k, o .0, o .2, o .3, o .4)))
+
+-- ---- the lengths: `a` is what `lengths_fit` tests, and the others what `scratch_fits` does
+
+pub unfit : (a b c d e : Bool) → a ≡ false → (a && b && c && d && e) ≡ false
+unfit a b c d e h = rw h
+
+pub fit-by : (a b c d e t : Bool) → a ≡ true → (b && c && d && e) ≡ t → (a && b && c && d && e) ≡ t
+fit-by a b c d e t h k = rw h k
+
+pub scratch-lengths : (n a b c d : ℕ) → (eqb a n && eqb b n && eqb c n && eqb d n) ≡ true → (a ≡ n) × (b ≡ n) × (c ≡ n) × (d ≡ n)
+scratch-lengths n a b c d h =
+    let p = and-eq-true-iff (eqb a n && eqb b n && eqb c n) (eqb d n) .0 h in
+    let q = and-eq-true-iff (eqb a n && eqb b n) (eqb c n) .0 (p .0) in
+    let r = and-eq-true-iff (eqb a n) (eqb b n) .0 (q .0) in
+    (eqb-true a n (r .0), eqb-true b n (r .1), eqb-true c n (q .1), eqb-true d n (p .1))
