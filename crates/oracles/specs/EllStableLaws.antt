@@ -2,7 +2,7 @@
 use mathlib.Core.Path.{_≡_, refl, sym, ap, _∙_}
 use mathlib.Core.List.{List, _∷_}
 use mathlib.Core.Logic.{⊎-elim}
-use Prim.Native.Nat.{ℕ, zero, suc, _≤_, _<_, _+_, _-_, _*_}
+use Prim.Native.Nat.{ℕ, zero, suc, _≤_, _<_, _+_, _-_}
 use native.Mathlib.Nat.{eq-or-lt-of-le}
 use native.Mathlib.Omega.{arith}
 use borrow.Author.Tests.{ltb-true, ltb-false, eqb-true, eqb-false, lt-ltb, le-ltb}
@@ -13,7 +13,7 @@ use Rattle.numbers.specs.F64.{_⊕_, _⊖_, _⊗_, _⊘_, 0ᶠ}
 use Rattle.numbers.specs.Pick.{pick}
 use Rattle.numbers.specs.Arr.{tab}
 use Rattle.oracles.specs.Matrix.{entry, at, grid, total}
-use Rattle.oracles.specs.MatrixLaws.{tab-entry, tab-cong, length-grid, grid-at, grid-cong, total-cong, is-hit, is-skip, pick-cong}
+use Rattle.oracles.specs.MatrixLaws.{tab-entry, tab-cong, grid-at, grid-cong, total-cong, is-hit, is-skip, pick-cong}
 use Rattle.oracles.specs.EllStable.{forward, inv-ml-gOf, inv-md-inv-ml-gOf, gg-tOf, omegaOf, lowered, backward, tOf, updated}
 
 -- ---- row i of `forward`
@@ -71,16 +71,8 @@ unfolding forward inv-ml-gOf total
 forward-total n mq g l zero = refl
 forward-total n mq g l (suc j) = rw (forward-total n mq g l j)
 
-pub length-factors : (n : ℕ) (mq z v : List Float) (t0 : Float) → length (factors-after n mq z v t0) ≡ n * n
-unfolding factors-after
-length-factors n mq z v t0 = length-grid (factor-at n mq z v t0) n n
-
 -- the lowered matrix: the products below the diagonal, the rest as it was
 module _ (n : ℕ) (mq g : List Float) where
-  pub length-lowered : length (lowered n mq g) ≡ n * n
-  unfolding lowered
-  length-lowered = length-grid _ n n
-
   lower-at : (r c : ℕ) → r < n → c < n → c < r → at n (lowered n mq g) r c ≡ at n mq c r ⊗ inv-ml-gOf n mq g c
   unfolding lowered
   lower-at r c a b l = grid-at _ n n r c a b ∙ is-hit (ltb c r) _ _ (lt-ltb c r l)

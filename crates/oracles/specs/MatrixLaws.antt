@@ -134,7 +134,7 @@ module _ {ℓ} {X : Type ℓ} where
 pub pick-map {ℓ ℓ′} : {X : Type ℓ} {Y : Type ℓ′} (f : X → Y) (t : Bool) (a b : X) → f (pick t a b) ≡ pick t (f a) (f b)
 pick-map f t a b = both-ways t (λ e. ap f (is-hit t a b e)) (λ e. ap f (is-skip t a b e))
 
--- ---- a list with the entries f, while a loop writes it
+-- ---- a vector with the entries f, while a loop writes it
 
 pub record VectorOf (m : ℕ) (f : ℕ → Float) (xs : List Float) : Type 0 where
   pub long : length xs ≡ m
@@ -150,9 +150,6 @@ vector-set m f g xs i v h l e o = record {
     go : (k : ℕ) → k < m → (t : Bool) → eqb k i ≡ t → entry (set xs i v) k ≡ g k
     go k b true q = let p : k ≡ i = eqb-true k i q in rw p (getD-set-same xs i v nan (omega (arith, h .long)) ∙ e)
     go k b false q = getD-set-other xs i k v nan (eqb-false k i q) ∙ h .each k b ∙ o k b (eqb-false k i q)
-
-pub vector-tab : (m : ℕ) (f : ℕ → Float) (xs : List Float) → VectorOf m f xs → xs ≡ tab f m
-vector-tab m f xs h = tab-ext f m xs (h .long) (h .each)
 
 -- ---- a loop that writes f k at each k in turn, where g k was: when the entries below i are written
 
@@ -183,9 +180,11 @@ module _ (m : ℕ) (f g : ℕ → Float) (i : ℕ) (xs : List Float) where
         go k b true t = sweep-past k (ltb-true k i t) b
         go k b false t = sweep-left k (ltb-false k i t) b ∙ e k b (ltb-false k i t)
 
--- nothing is written yet
+-- where nothing is written yet
 pub sweep-zero : (m : ℕ) (f : ℕ → Float) (xs : List Float) → length xs ≡ m → VectorOf m (swept f (λ k. entry xs k) 0) xs
 sweep-zero m f xs l = sweep-start m f (λ k. entry xs k) 0 xs l (λ k b. refl) (λ k b. absurd (omega (arith, b)))
+
+-- ---- a matrix with the entries f, while a loop writes it
 
 pub record MatrixOf (n : ℕ) (f : ℕ → ℕ → Float) (mat : List Float) : Type 0 where
   pub long : length mat ≡ n * n
@@ -209,7 +208,7 @@ matrix-set n f g mat i j v h a b e o = record {
     go r c k l true p false q = other r c k l (λ _ y. eqb-false c j q y)
     go r c k l false p t q = other r c k l (λ x _. eqb-false r i p x)
 
--- a part that was lent and is back, entry by entry
+-- a list whose part of k entries from a on was lent, and is back as ys, entry by entry
 module _ (a k : ℕ) (xs ys : List Float) (h : a + k ≤ length xs) (l : length ys ≡ k) where
   front-long : length (take a xs) ≡ a
   front-long = length-take-le a xs (omega (arith, h))
@@ -305,7 +304,7 @@ module _ (n : ℕ) (key : ℕ → ℕ → ℕ) (f g : ℕ → ℕ → Float) (i 
         go r c a b true t = by-past r c a b (ltb-true (key r c) i t)
         go r c a b false t = by-left r c a b (ltb-false (key r c) i t) ∙ e r c a b (ltb-false (key r c) i t)
 
--- nothing is written yet
+-- where nothing is written yet
 pub by-zero : (n : ℕ) (key : ℕ → ℕ → ℕ) (f : ℕ → ℕ → Float) (mat : List Float) → length mat ≡ n * n → MatrixOf n (swept-by key f (λ r c. at n mat r c) 0) mat
 by-zero n key f mat l = by-start n key f (λ r c. at n mat r c) 0 mat l (λ r c. refl) (λ r c _ _ m. absurd (omega (arith, m)))
 
@@ -337,11 +336,13 @@ module _ (n : ℕ) (f g : ℕ → ℕ → Float) (i : ℕ) (mat : List Float) (h
           ∙ sym (is-hit (ltb r (i + 1)) (f r c) (g r c) (lt-ltb r (i + 1) (omega arith)))
       go r c z true t false w = absurd (z (eqb-true r i t) (ltb-false c a w))
 
+-- ---- places and sums in a loop
+
 -- place (i, j) is a small number
 pub place-small : (n i j : ℕ) → n ≤ 32 → i < n → j < n → i * n + j < 1024
 place-small n i j h k l = omega (arith, place-in n n i j k l, mul-le-mul h h)
 
--- one term more
+-- a sum with one term more, and one whose count is known by an equation
 pub total-turn : (op : Float → Float → Float) (s : Float) (f : ℕ → Float) (k : ℕ) (t v : Float) → t ≡ total op s f k → v ≡ f k → op t v ≡ total op s f (k + 1)
 unfolding total
 total-turn op s f k t v e h = rw (e, h, add-one)

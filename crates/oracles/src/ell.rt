@@ -18,6 +18,7 @@ ghost use mathlib.Core.Bool.{true};
 ghost use Prim.Native.Nat.{_*_, _≤_, _<_};
 ghost use lib.ListN.{length};
 ghost use Rattle.numbers.specs.Arr.{isDimension};
+ghost use Rattle.oracles.specs.declared.ell_common.Update.the-variants.{Refused};
 ghost use Rattle.oracles.specs.Ell.{new-ell-answer, rank-one, with-tsq, ell-said, ell-updateOf, ell-update-answer};
 ghost use Rattle.oracles.specs.EllLaws.{row-lowered, all-lowered, row-mirrored, mirrored};
 
@@ -126,6 +127,16 @@ impl Ell {
         }
     }
 
+    // The same ellipsoid, and why a call is refused.
+    fn refused(self, why: Refusal) -> EllUpdate
+        ensures { λ r. ⌜ r ≡ record { ell = self; answer = Refused why } ⌝ }
+    {
+        EllUpdate {
+            ell: self,
+            answer: Update::Refused(why),
+        }
+    }
+
     fn update(
         self,
         strategy: CutStrategy,
@@ -170,22 +181,13 @@ impl Ell {
     {
         let n = self.ndim;
         if !is_dimension(n) {
-            return EllUpdate {
-                ell: self,
-                answer: Update::Refused(Refusal::Dimension),
-            };
+            return self.refused(Refusal::Dimension);
         }
         if !lengths_fit(n, grad.len(), mq.len(), xc.len()) {
-            return EllUpdate {
-                ell: self,
-                answer: Update::Refused(Refusal::Length),
-            };
+            return self.refused(Refusal::Length);
         }
         if grad_t.len() != n {
-            return EllUpdate {
-                ell: self,
-                answer: Update::Refused(Refusal::Length),
-            };
+            return self.refused(Refusal::Length);
         }
         self.update(strategy, grad, beta, mq, xc, grad_t)
     }

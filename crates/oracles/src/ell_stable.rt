@@ -20,6 +20,7 @@ ghost use lib.Dec.{eqb};
 ghost use lib.ListN.{length};
 ghost use Rattle.numbers.specs.Arr.{isDimension, tab};
 ghost use Rattle.numbers.specs.F64.{_⊕_, _⊗_, _⊘_, 0ᶠ};
+ghost use Rattle.oracles.specs.declared.ell_common.Update.the-variants.{Refused};
 ghost use Rattle.oracles.specs.Matrix.{entry, at, total};
 ghost use Rattle.oracles.specs.EllCommon.{centreOf};
 ghost use Rattle.oracles.specs.EllStable.{new-ell-stable-answer, inv-ml-gOf, inv-md-inv-ml-gOf, gg-tOf, omegaOf, lowered, backward, t-start, with-tsq, stable-said, stable-updateOf, stable-update-answer};
@@ -204,19 +205,25 @@ fn succeed(
 }
 
 // Whether the working vectors are as long as n says.
-fn scratch_fits(n: usize, inv_ml_g: usize, inv_md_inv_ml_g: usize, gg_t: usize, g_t: usize) -> bool
-    ensures { λ r. ⌜ r ≡ (eqb «inv_ml_g» n && eqb «inv_md_inv_ml_g» n && eqb «gg_t» n && eqb «g_t» n) ⌝ }
+fn scratch_fits(
+    n: usize,
+    inv_ml_g: &[f64],
+    inv_md_inv_ml_g: &[f64],
+    gg_t: &[f64],
+    g_t: &[f64],
+) -> bool
+    ensures { λ r. ⌜ r ≡ (eqb (length (now («inv_ml_g» .entry))) n && eqb (length (now («inv_md_inv_ml_g» .entry))) n && eqb (length (now («gg_t» .entry))) n && eqb (length (now («g_t» .entry))) n) ⌝ }
 {
-    if inv_ml_g != n {
+    if inv_ml_g.len() != n {
         return false;
     }
-    if inv_md_inv_ml_g != n {
+    if inv_md_inv_ml_g.len() != n {
         return false;
     }
-    if gg_t != n {
+    if gg_t.len() != n {
         return false;
     }
-    g_t == n
+    g_t.len() == n
 }
 
 impl EllStable {
@@ -247,6 +254,16 @@ impl EllStable {
                 tsq: tsq,
             },
             answer: Update::Status(status),
+        }
+    }
+
+    // The same ellipsoid, and why a call is refused.
+    fn refused(self, why: Refusal) -> EllStableUpdate
+        ensures { λ r. ⌜ r ≡ record { ell = self; answer = Refused why } ⌝ }
+    {
+        EllStableUpdate {
+            ell: self,
+            answer: Update::Refused(why),
         }
     }
 
@@ -298,23 +315,24 @@ impl EllStable {
     {
         let n = self.ndim;
         if !is_dimension(n) {
-            return EllStableUpdate {
-                ell: self,
-                answer: Update::Refused(Refusal::Dimension),
-            };
+            return self.refused(Refusal::Dimension);
         }
         if !lengths_fit(n, grad.len(), mq.len(), xc.len()) {
-            return EllStableUpdate {
-                ell: self,
-                answer: Update::Refused(Refusal::Length),
-            };
+            return self.refused(Refusal::Length);
         }
-        if !scratch_fits(n, inv_ml_g.len(), inv_md_inv_ml_g.len(), gg_t.len(), g_t.len()) {
-            return EllStableUpdate {
-                ell: self,
-                answer: Update::Refused(Refusal::Length),
-            };
+        if !scratch_fits(n, inv_ml_g, inv_md_inv_ml_g, gg_t, g_t) {
+            return self.refused(Refusal::Length);
         }
-        self.update(strategy, grad, beta, mq, xc, inv_ml_g, inv_md_inv_ml_g, gg_t, g_t)
+        self.update(
+            strategy,
+            grad,
+            beta,
+            mq,
+            xc,
+            inv_ml_g,
+            inv_md_inv_ml_g,
+            gg_t,
+            g_t,
+        )
     }
 }

@@ -1,10 +1,10 @@
--- The turns of the loops of ell. Assumes nothing.
+-- The turns of the loops of ell, and the ways through its update. Assumes nothing.
 use mathlib.Core.Path.{_≡_, refl, sym, ap, subst, _∙_}
 use mathlib.Core.Bool.{Bool, true, false, not}
 use mathlib.Core.List.{List}
 use Prim.Native.Nat.{ℕ, _≤_, _<_, _+_, _-_, _*_}
-use native.Mathlib.Omega.{arith}
 use native.Mathlib.Nat.{zero-add, sub-zero}
+use native.Mathlib.Omega.{arith}
 use borrow.Author.Tests.{ltb-true, ltb-false, leb-true, leb-false, le-leb, eqb-true, eq-eqb, ne-eqb, lt-ltb, le-ltb}
 use borrow.Rule.Slice.PartMut.{putMid}
 use lib.Dec.{leb, ltb, eqb}
@@ -90,7 +90,7 @@ row-long n ratio gt mq₀ mq i h l = part-long n _ _ i mq h 0 (i * n) (i * n + n
 
 pub rows-turn : (n : ℕ) (ratio : Float) (gt mq₀ mq : List Float) (i : ℕ) → MatrixOf n (lowered-to n ratio gt mq₀ i) mq → i < n
     → MatrixOf n (lowered-to n ratio gt mq₀ (i + 1))
-      (putMid (i * n) (i * n + n - i * n) mq (row-lowered (take (i * n + n - i * n) (drop (i * n) mq)) (ratio ⊗ entry gt i) gt i))
+    (putMid (i * n) (i * n + n - i * n) mq (row-lowered (take (i * n + n - i * n) (drop (i * n) mq)) (ratio ⊗ entry gt i) gt i))
 unfolding row-lowered
 rows-turn n ratio gt mq₀ mq i h l =
     part-turn n _ _ i mq h 0 (i * n) (i * n + n - i * n) l (omega arith) (omega arith) (omega arith) (tab new (length row)) (length-tab new (length row) ∙ long)

@@ -9,7 +9,7 @@ use lib.Dec.{leb, eqb}
 use lib.ListN.{length}
 use lib.Ieee.{Float}
 use Rattle.numbers.specs.Arr.{isDimension, mvOf, fills, dot-mv-into-answer, copy-from-answer}
-use Rattle.numbers.specs.ArrLaws.{accepted, length-tab}
+use Rattle.numbers.specs.ArrLaws.{accepted}
 use Rattle.numbers.specs.declared.arr.Written.{Written}
 
 -- what the calls of numbers that fill a list leave in it, where they refuse nothing
@@ -19,10 +19,6 @@ filled n fit new old p e h k = ap (λ (q : Written × List Float). q .1) (e ∙ 
 pub multiplied : (n : ℕ) (mat x out : List Float) (p : Written × List Float) → p ≡ dot-mv-into-answer n mat x out → isDimension n ≡ true
     → length mat ≡ n * n → length x ≡ n → length out ≡ n → p .1 ≡ mvOf n mat x
 multiplied n mat x out p e d h k l = filled n _ (mvOf n mat x) out p e d (rw (eq-eqb (length mat) (n * n) h, eq-eqb (length x) n k, eq-eqb (length out) n l))
-
-pub mv-long : (n : ℕ) (mat x : List Float) → length (mvOf n mat x) ≡ n
-unfolding mvOf
-mv-long n mat x = length-tab _ n
 
 pub copied : (n : ℕ) (dst src : List Float) (p : Written × List Float) → p ≡ copy-from-answer n dst src → isDimension n ≡ true → length dst ≡ n → length src ≡ n → p .1 ≡ src
 copied n dst src p e d h k = filled n _ src dst p e d (rw (eq-eqb (length dst) n h, eq-eqb (length src) n k))

@@ -1,4 +1,4 @@
--- The turns of the loops of ell_stable. Assumes nothing.
+-- The turns of the loops of ell_stable, and the ways through its update. Assumes nothing.
 use mathlib.Core.Path.{_≡_, refl, sym, ap, subst, _∙_}
 use mathlib.Core.Bool.{Bool, true, false, not, _&&_, and-eq-true-iff}
 use mathlib.Core.List.{List, _∷_, _++_}
@@ -33,6 +33,7 @@ use Rattle.oracles.specs.declared.ell_stable.EllStableUpdate.{EllStableU
 use Rattle.oracles.specs.declared.ell_stable.NewEllStable.{NewEllStable}
 use Rattle.oracles.specs.declared.ell_stable.NewEllStable.the-variants.{Made, Refused as NotMade}
 use Rattle.oracles.specs.EllStable.{StableBuffers, new-ell-stable-answer, forward, inv-ml-gOf, inv-md-inv-ml-gOf, gg-tOf, omegaOf, lowered, backward, t-start, updated, with-tsq, stable-said, succeeded, stable-updateOf}
+use Rattle.oracles.proofs.ell_common.Laws.{lengths}
 use Rattle.oracles.specs.EllStableLaws.{stored-to, row-stored, solved-to, solved-back, column-taken, row-updated, less-columns, t-after, factor-at, factors-after, forward-total, scaled, products, summed, columns-lowered, factors-lowered, backward-lowered}
 
 -- ---- an entry from which a sum of products is taken, in place
@@ -272,7 +273,7 @@ module _ (n : ℕ) (mq₀ z v₀ : List Float) (t0 : Float) (j : ℕ) (mq v : Li
           row′ (ap length y ∙ length-tab _ _ ∙ row-long)
           (λ c m.
           let e : entry (take (j * n + n - (j * n + j)) (drop (j * n + j) mq)) c ≡ at n mq₀ j (j + c) =
-              part-entry n _ _ j mq h j (j * n + j) (j * n + n - (j * n + j)) l (omega arith) refl (omega arith) c m
+          part-entry n _ _ j mq h j (j * n + j) (j * n + n - (j * n + j)) l (omega arith) refl (omega arith) c m
           in
           let w′ : newt ≡ t-after n mq₀ z v₀ t0 (suc j) = w ∙ t-turn ∙ ap (t-after n mq₀ z v₀ t0) (add-one j) in
           ap (λ (r : List Float). entry r c) y ∙ tab-entry _ _ c (omega (arith, row-long))
@@ -344,14 +345,14 @@ module _ (e : EllStable) (s : CutStrategy) (grad : List Float) (beta : CutChoice
 
     pub succeeds : (r : EllStableUpdate) (mq′ xc′ v′ : List Float) → not ok ≡ false
         → (xc′ ≡ centreOf (b .xc) (a .params .rho ⊘ omega) (backward (e .ndim) mq z (e .ndim)))
-          × (mq′ ≡ factors-after (e .ndim) mq z grad (t-start omega (a .params .sigma))) × (v′ ≡ tab (λ l. less-columns (e .ndim) mq grad l l) (e .ndim))
+        × (mq′ ≡ factors-after (e .ndim) mq z grad (t-start omega (a .params .sigma))) × (v′ ≡ tab (λ l. less-columns (e .ndim) mq grad l l) (e .ndim))
         → r ≡ stable-said (with-tsq e (e .kappa ⊗ a .params .delta) (e .kappa ⊗ omega)) (a .status)
         → (r, record { mq = mq′; xc = xc′; inv-ml-g = w; inv-md-inv-ml-g = z; gg-t = gg; g-t = v′ }) ≡ stable-updateOf e s grad beta b
     unfolding stable-updateOf succeeded
     succeeds r mq′ xc′ v′ f x q =
         let n = e .ndim in
         let xc-is : xc′ ≡ centreOf (b .xc) (a .params .rho ⊘ omega) (backward n (b .mq) (tab (inv-md-inv-ml-gOf n (b .mq) grad) n) n) =
-            x .0 ∙ rw (o .1, o .3, backward-lowered n (b .mq) grad (tab (inv-md-inv-ml-gOf n (b .mq) grad) n) n (le-refl n))
+        x .0 ∙ rw (o .1, o .3, backward-lowered n (b .mq) grad (tab (inv-md-inv-ml-gOf n (b .mq) grad) n) n (le-refl n))
         in
         let mq-is : mq′ ≡ updated n (b .mq) grad (t-start omega (a .params .sigma)) = x .1 ∙ rw (o .1, o .3) (factors-lowered n (b .mq) grad (t-start omega (a .params .sigma))) in
         let v-is : v′ ≡ tab (inv-ml-gOf n (b .mq) grad) n = x .2 ∙ rw (o .1) (columns-lowered n (b .mq) grad) in
@@ -365,9 +366,12 @@ unfit a b c d e h = rw h
 pub fit-by : (a b c d e t : Bool) → a ≡ true → (b && c && d && e) ≡ t → (a && b && c && d && e) ≡ t
 fit-by a b c d e t h k = rw h k
 
-pub scratch-lengths : (n a b c d : ℕ) → (eqb a n && eqb b n && eqb c n && eqb d n) ≡ true → (a ≡ n) × (b ≡ n) × (c ≡ n) × (d ≡ n)
-scratch-lengths n a b c d h =
-    let p = and-eq-true-iff (eqb a n && eqb b n && eqb c n) (eqb d n) .0 h in
+-- what `update` requires
+pub lengths-known : (n grad mq xc a b c d : ℕ) → isDimension n ≡ true → (eqb grad n && eqb mq (n * n) && eqb xc n) ≡ true → (eqb a n && eqb b n && eqb c n && eqb d n) ≡ true
+    → (isDimension n ≡ true) × (grad ≡ n) × (mq ≡ n * n) × (xc ≡ n) × (a ≡ n) × (b ≡ n) × (c ≡ n) × (d ≡ n)
+lengths-known n grad mq xc a b c d h k m =
+    let l = lengths n grad mq xc k in
+    let p = and-eq-true-iff (eqb a n && eqb b n && eqb c n) (eqb d n) .0 m in
     let q = and-eq-true-iff (eqb a n && eqb b n) (eqb c n) .0 (p .0) in
     let r = and-eq-true-iff (eqb a n) (eqb b n) .0 (q .0) in
-    (eqb-true a n (r .0), eqb-true b n (r .1), eqb-true c n (q .1), eqb-true d n (p .1))
+    (h, l .0, l .1, l .2, eqb-true a n (r .0), eqb-true b n (r .1), eqb-true c n (q .1), eqb-true d n (p .1))

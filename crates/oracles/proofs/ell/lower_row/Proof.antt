@@ -49,9 +49,11 @@ loop-less c = search needs
 
 loop-again : tie.Need-loop-again Inv-loop μ-loop
 loop-again c =
-    let l = c .before .before .before .loop in
-    (search needs, sweep-turn _ _ _ (l .j) (l .row) (l .inv .1) _ (search needs)
-    (hit (leb (l .j) _) _ _ _ (le-leb (l .j) _ (c .before .before .loop-test .taken)) (rw (sweep-left _ _ _ (l .j) (l .row) (l .inv .1) (l .j) (omega arith) (search needs)))))
+    let l = c .before .before .before .loop in (
+      search needs,
+      sweep-turn _ _ _ (l .j) (l .row) (l .inv .1) _ (search needs)
+          (hit (leb (l .j) _) _ _ _ (le-leb (l .j) _ (c .before .before .loop-test .taken)) (rw (sweep-left _ _ _ (l .j) (l .row) (l .inv .1) (l .j) (omega arith) (search needs)))),
+    )
 
 same-length : tie.Need-same-length Inv-loop μ-loop
 same-length c = search needs

@@ -1,5 +1,4 @@
 -- `oracles::ell::mirror` meets its contract. The invariant: the columns below i are taken from the rows. Assumes nothing.
-use mathlib.Core.Path.{refl}
 use Prim.Native.Nat.{_-_, _≤_}
 use borrow.Author.Needs.{needs}
 use Rattle.oracles.specs.MatrixLaws.{MatrixOf}

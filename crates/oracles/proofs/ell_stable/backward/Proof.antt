@@ -2,7 +2,6 @@
 use mathlib.Core.Path.{_≡_}
 use mathlib.Core.List.{_++_}
 use Prim.Native.Nat.{_-_, _<_}
-use native.Mathlib.Omega.{arith}
 use borrow.Author.Needs.{needs}
 use lib.ListN.{length, take}
 use Rattle.oracles.specs.EllStable.{backward}
@@ -36,9 +35,11 @@ loop-less c = search needs
 loop-again : tie.Need-loop-again Inv-loop μ-loop
 loop-again c =
     let l = c .before .before .before .before .before .loop in
-    let a = c .before .before .before .before .before .before .before .before .args in
-    (search needs, search needs,
-    rw (c .before .before .backward-row .ensures) (back-rows-turn (a .n) (a .mq .now) (a .q .now) (l .q) (l .i) (l .i - 1) (search needs) (search needs) (search needs) (l .inv .2)))
+    let a = c .before .before .before .before .before .before .before .before .args in (
+      search needs,
+      search needs,
+      rw (c .before .before .backward-row .ensures) (back-rows-turn (a .n) (a .mq .now) (a .q .now) (l .q) (l .i) (l .i - 1) (search needs) (search needs) (search needs) (l .inv .2)),
+    )
 
 same-length : tie.Need-same-length Inv-loop μ-loop
 same-length c = search needs

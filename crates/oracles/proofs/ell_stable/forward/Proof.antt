@@ -31,9 +31,10 @@ loop-again : tie.Need-loop-again Inv-loop μ-loop
 loop-again c =
     let l = c .before .before .before .before .before .before .before .before .loop in
     let a = c .before .before .before .before .before .before .before .before .before .before .before .args in
-    let e = c .before .before .before .before .forward-row .ensures in
-    (rw (e .0) (lowered-turn (a .n) (a .mq .now) (a .w .now) (l .i) (l .mq) (l .w) (l .inv .0) (l .inv .1) (search needs)),
-    rw (e .1) (solved-turn (a .n) (a .mq .now) (a .w .now) (l .i) (l .mq) (l .w) (l .inv .0) (l .inv .1) (search needs)))
+    let e = c .before .before .before .before .forward-row .ensures in (
+      rw (e .0) (lowered-turn (a .n) (a .mq .now) (a .w .now) (l .i) (l .mq) (l .w) (l .inv .0) (l .inv .1) (search needs)),
+      rw (e .1) (solved-turn (a .n) (a .mq .now) (a .w .now) (l .i) (l .mq) (l .w) (l .inv .0) (l .inv .1) (search needs)),
+    )
 
 same-length : tie.Need-same-length Inv-loop μ-loop
 same-length c = search needs
@@ -44,9 +45,10 @@ same-length-2 c = search needs
 returns : tie.Need-returns Inv-loop μ-loop
 returns c =
     let l = c .before .loop in
-    let a = c .before .before .before .before .args in
-    (lowered-done (a .n) (a .mq .now) (a .w .now) (l .i) (l .mq) (l .inv .0) (search needs),
-    sweep-done _ _ _ (l .i) (l .w) (l .inv .1) (λ k b g. absurd (omega arith)))
+    let a = c .before .before .before .before .args in (
+      lowered-done (a .n) (a .mq .now) (a .w .now) (l .i) (l .mq) (l .inv .0) (search needs),
+      sweep-done _ _ _ (l .i) (l .w) (l .inv .1) (λ k b g. absurd (omega arith)),
+    )
 
 pub forward-spec : {M : Type 1} → statement M
 forward-spec =

@@ -101,11 +101,16 @@ loop-again c =
     let l = c .before .before .before .before .loop in
     let a = c .before .before .before .before .before .args in
     let x : at (a .n) (l .mq) (l .j) (a .i) ⊗ entry (l .w) (l .j) ≡ at (a .n) (a .mq .now) (l .j) (a .i) ⊗ entry (a .w .now) (l .j) =
-        rw (stored-reads (a .n) (a .i) (l .j) (a .mq .now) (a .w .now) (l .mq) (l .inv .1) (search needs) (search needs),
-        taken-other (a .w .now) (a .i) _ (l .w) (l .j) (l .j) (l .inv .3) (λ q. absurd (omega (arith, q))))
-    in
-    (search needs, stored-turn (a .n) (a .i) (l .j) (a .mq .now) (a .w .now) (l .mq) _ (l .inv .1) (search needs) (search needs) x, search needs,
-    taken-turn (a .w .now) (a .i) _ (l .w) (l .j) _ (search needs) (l .inv .3) x)
+    rw (
+      stored-reads (a .n) (a .i) (l .j) (a .mq .now) (a .w .now) (l .mq) (l .inv .1) (search needs) (search needs),
+      taken-other (a .w .now) (a .i) _ (l .w) (l .j) (l .j) (l .inv .3) (λ q. absurd (omega (arith, q))),
+    )
+    in (
+      search needs,
+      stored-turn (a .n) (a .i) (l .j) (a .mq .now) (a .w .now) (l .mq) _ (l .inv .1) (search needs) (search needs) x,
+      search needs,
+      taken-turn (a .w .now) (a .i) _ (l .w) (l .j) _ (search needs) (l .inv .3) x,
+    )
 
 same-length : tie.Need-same-length Inv-loop μ-loop
 same-length c = search needs
@@ -116,9 +121,10 @@ same-length-2 c = search needs
 returns : tie.Need-returns Inv-loop μ-loop
 returns c =
     let l = c .before .loop in
-    let a = c .before .before .args in
-    (stored-done (a .n) (a .i) (l .j) (a .mq .now) (a .w .now) (l .mq) (l .inv .1) (search needs),
-    solved-done (a .n) (a .i) (l .j) (a .mq .now) (a .w .now) (l .w) (l .inv .3) (search needs))
+    let a = c .before .before .args in (
+      stored-done (a .n) (a .i) (l .j) (a .mq .now) (a .w .now) (l .mq) (l .inv .1) (search needs),
+      solved-done (a .n) (a .i) (l .j) (a .mq .now) (a .w .now) (l .w) (l .inv .3) (search needs),
+    )
 
 pub forward-row-spec : {M : Type 1} → statement M
 forward-row-spec =

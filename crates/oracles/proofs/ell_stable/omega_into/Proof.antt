@@ -6,7 +6,6 @@ use borrow.Author.Needs.{needs}
 use lib.Ieee.{nan}
 use lib.ListN.{length, length-set}
 use lib.Seq.{getD-set-same}
-
 use Rattle.numbers.specs.F64.{_⊗_, _⊕_, 0ᶠ}
 use Rattle.oracles.specs.Matrix.{entry, total}
 use Rattle.oracles.specs.MatrixLaws.{VectorOf, swept, sweep-zero, sweep-turn, sweep-done, total-turn, total-at}
@@ -55,10 +54,11 @@ loop-less c = search needs
 
 loop-again : tie.Need-loop-again Inv-loop μ-loop
 loop-again c =
-    let l = c .before .before .before .before .loop in
-    let a = c .before .before .before .before .before .args in
-    (search needs, sweep-turn _ _ _ (l .i) (l .gg) (l .inv .1) _ (search needs) refl,
-    total-turn _⊕_ 0ᶠ _ (l .i) _ _ (l .inv .2) (getD-set-same (l .gg) (l .i) _ nan (search needs)))
+    let l = c .before .before .before .before .loop in (
+      search needs,
+      sweep-turn _ _ _ (l .i) (l .gg) (l .inv .1) _ (search needs) refl,
+      total-turn _⊕_ 0ᶠ _ (l .i) _ _ (l .inv .2) (getD-set-same (l .gg) (l .i) _ nan (search needs)),
+    )
 
 same-length : tie.Need-same-length Inv-loop μ-loop
 same-length c = search needs

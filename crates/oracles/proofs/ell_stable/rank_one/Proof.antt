@@ -112,9 +112,12 @@ loop-again : tie.Need-loop-again Inv-loop μ-loop
 loop-again c =
     let l = c .before .before .before .before .before .before .before .before .before .before .before .before .before .before .loop in
     let a = c .before .before .before .before .before .before .before .before .before .before .before .before .before .before .before .before .before .before .args in
-    let e = c .before .before .before .before .before .before .before .before .take-column .ensures in
-    (search needs, factored-turn (a .n) (a .mq .now) (a .z .now) (a .v .now) (a .t0) (l .j) (l .mq) (l .v) (l .inv .1) (l .inv .2) (search needs) _ e (l .oldt) (l .inv .3) _ _ refl (c .before .before .update-row .ensures),
-    columns-turn (a .n) (a .mq .now) (a .z .now) (a .v .now) (a .t0) (l .j) (l .mq) (l .v) (l .inv .1) (l .inv .2) (search needs) _ e, t-turn (a .n) (a .mq .now) (a .z .now) (a .v .now) (a .t0) (l .j) (l .mq) (l .v) (l .inv .1) (l .inv .2) (search needs) _ e (l .oldt) (l .inv .3))
+    let e = c .before .before .before .before .before .before .before .before .take-column .ensures in (
+      search needs,
+      factored-turn (a .n) (a .mq .now) (a .z .now) (a .v .now) (a .t0) (l .j) (l .mq) (l .v) (l .inv .1) (l .inv .2) (search needs) _ e (l .oldt) (l .inv .3) _ _ refl (c .before .before .update-row .ensures),
+      columns-turn (a .n) (a .mq .now) (a .z .now) (a .v .now) (a .t0) (l .j) (l .mq) (l .v) (l .inv .1) (l .inv .2) (search needs) _ e,
+      t-turn (a .n) (a .mq .now) (a .z .now) (a .v .now) (a .t0) (l .j) (l .mq) (l .v) (l .inv .1) (l .inv .2) (search needs) _ e (l .oldt) (l .inv .3),
+    )
 
 same-length : tie.Need-same-length Inv-loop μ-loop
 same-length c = search needs
@@ -125,9 +128,10 @@ same-length-2 c = search needs
 returns : tie.Need-returns Inv-loop μ-loop
 returns c =
     let l = c .before .loop in
-    let a = c .before .before .before .before .before .args in
-    (factored-done (a .n) (a .mq .now) (a .z .now) (a .v .now) (a .t0) (l .j) (l .mq) (l .inv .1) (search needs),
-    columns-done (a .n) (a .mq .now) (a .v .now) (l .j) (l .v) (l .inv .2) (search needs))
+    let a = c .before .before .before .before .before .args in (
+      factored-done (a .n) (a .mq .now) (a .z .now) (a .v .now) (a .t0) (l .j) (l .mq) (l .inv .1) (search needs),
+      columns-done (a .n) (a .mq .now) (a .v .now) (l .j) (l .v) (l .inv .2) (search needs),
+    )
 
 pub rank-one-spec : {M : Type 1} → statement M
 rank-one-spec =

@@ -3,7 +3,6 @@ use mathlib.Core.Path.{refl}
 use Prim.Native.Nat.{_-_}
 use native.Mathlib.Omega.{arith}
 use borrow.Author.Needs.{needs}
-
 use Rattle.numbers.specs.F64.{_⊗_}
 use Rattle.oracles.specs.Matrix.{entry, at}
 use Rattle.oracles.specs.MatrixLaws.{place-in, place-small, VectorOf, swept, sweep-zero, sweep-turn, sweep-done}
@@ -64,7 +63,6 @@ loop-less c = search needs
 loop-again : tie.Need-loop-again Inv-loop μ-loop
 loop-again c =
     let l = c .before .before .before .loop in
-    let a = c .before .before .before .before .args in
     sweep-turn _ _ _ (l .i) (l .z) (l .inv) _ (search needs) refl
 
 same-length : tie.Need-same-length Inv-loop μ-loop

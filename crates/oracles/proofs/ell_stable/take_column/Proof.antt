@@ -3,7 +3,6 @@ use mathlib.Core.Path.{refl}
 use Prim.Native.Nat.{_-_, _<_}
 use native.Mathlib.Omega.{arith}
 use borrow.Author.Needs.{needs}
-
 use borrow.Author.Tests.{lt-ltb, le-ltb}
 use lib.Dec.{ltb}
 use Rattle.numbers.specs.F64.{_⊖_}
@@ -71,9 +70,11 @@ loop-less c = search needs
 loop-again : tie.Need-loop-again Inv-loop μ-loop
 loop-again c =
     let l = c .before .before .before .loop in
-    let a = c .before .before .before .before .args in
-    (search needs, sweep-turn _ _ _ (l .l) (l .v) (l .inv .1) _ (search needs)
-    (hit (ltb (a .j) (l .l)) _ _ _ (lt-ltb (a .j) (l .l) (search needs)) (rw (sweep-left _ _ _ (l .l) (l .v) (l .inv .1) (l .l) (omega arith) (search needs)))))
+    let a = c .before .before .before .before .args in (
+      search needs,
+      sweep-turn _ _ _ (l .l) (l .v) (l .inv .1) _ (search needs)
+          (hit (ltb (a .j) (l .l)) _ _ _ (lt-ltb (a .j) (l .l) (search needs)) (rw (sweep-left _ _ _ (l .l) (l .v) (l .inv .1) (l .l) (omega arith) (search needs)))),
+    )
 
 same-length : tie.Need-same-length Inv-loop μ-loop
 same-length c = search needs

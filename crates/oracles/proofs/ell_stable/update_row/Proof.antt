@@ -55,9 +55,11 @@ loop-less c = search needs
 
 loop-again : tie.Need-loop-again Inv-loop μ-loop
 loop-again c =
-    let l = c .before .before .before .loop in
-    (search needs, sweep-turn _ _ _ (l .l) (l .row) (l .inv .1) _ (search needs)
-    (skip (eqb (l .l) 0) _ _ _ (ne-eqb (l .l) 0 (λ q. absurd (omega (arith, q)))) (rw (sweep-left _ _ _ (l .l) (l .row) (l .inv .1) (l .l) (omega arith) (search needs)))))
+    let l = c .before .before .before .loop in (
+      search needs,
+      sweep-turn _ _ _ (l .l) (l .row) (l .inv .1) _ (search needs)
+          (skip (eqb (l .l) 0) _ _ _ (ne-eqb (l .l) 0 (λ q. absurd (omega (arith, q)))) (rw (sweep-left _ _ _ (l .l) (l .row) (l .inv .1) (l .l) (omega arith) (search needs)))),
+    )
 
 same-length : tie.Need-same-length Inv-loop μ-loop
 same-length c = search needs

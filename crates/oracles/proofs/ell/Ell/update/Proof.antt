@@ -1,9 +1,8 @@
 -- `oracles::ell::Ell::update` meets its contract. Assumes nothing.
-use mathlib.Core.Path.{sym, ap, _∙_}
+use mathlib.Core.Path.{_∙_}
 use borrow.Author.Needs.{needs}
-use lib.ListN.{length}
 use Rattle.numbers.specs.ArrLaws.{dimension-most}
-use Rattle.oracles.proofs.ell_common.Laws.{multiplied, mv-long}
+use Rattle.oracles.proofs.ell_common.Laws.{multiplied}
 use Rattle.oracles.proofs.ell.Laws.{no-effect, fails, succeeds}
 use Rattle.oracles.proofs.ell_common.Laws.{multiplied}
 use Rattle.oracles.proofs.ell.Laws.{no-effect, fails, succeeds}
@@ -70,12 +69,8 @@ move-centre-requires c κs = search needs
 
 shrink-requires : tie.Need-shrink-requires
 shrink-requires c κs =
-    let z = c .before .before .before .before .before .before .before .before .before .before .before .before .before .before .before .before .before in
-    let m = z .before .before .before .before .dot-mv-into in
-    let i = z .before .before .before .before .before .before .before .before .before .before .before in
-    let a = i .args in
-    let g = multiplied (a .self .ndim) (a .mq .now) (a .grad .now) (a .grad-t .now) (m .result, m .last .1 .1 .1 .0) (m .ensures) (i .pre .0) (i .pre .2) (i .pre .1) (i .pre .4) in
-    (dimension-most (a .self .ndim) (i .pre .0), i .pre .2, ap length g ∙ mv-long (a .self .ndim) (a .mq .now) (a .grad .now))
+    let i = c .before .before .before .before .before .before .before .before .before .before .before .before .before .before .before .before .before .before .before .before .before .before .before .before .before .before .before .before in
+    (dimension-most (i .args .self .ndim) (i .pre .0), i .pre .2, c .before .before .before .before .before .before .before .before .before .before .before .before .before .before .before .before .before .before .before .before .before .dot-mv-into .kept .1 .1 .1 .0 ∙ i .pre .4)
 
 said-requires-3 : tie.Need-said-requires-3
 said-requires-3 c κs = search needs
@@ -87,13 +82,7 @@ same-length-6 : tie.Need-same-length-6
 same-length-6 c = search needs
 
 same-length-7 : tie.Need-same-length-7
-same-length-7 c =
-    let z = c .before .before .before .before .before .before .before .before .before .before .before .before .before .before .before .before .before .before .before .before .before .before .before in
-    let m = z .before .before .before .before .dot-mv-into in
-    let i = z .before .before .before .before .before .before .before .before .before .before .before in
-    let a = i .args in
-    let g = multiplied (a .self .ndim) (a .mq .now) (a .grad .now) (a .grad-t .now) (m .result, m .last .1 .1 .1 .0) (m .ensures) (i .pre .0) (i .pre .2) (i .pre .1) (i .pre .4) in
-    ap length g ∙ mv-long (a .self .ndim) (a .mq .now) (a .grad .now) ∙ sym (i .pre .4)
+same-length-7 c = c .before .before .before .before .before .before .before .before .before .before .before .before .before .before .before .before .before .before .before .before .before .before .before .before .before .before .before .dot-mv-into .kept .1 .1 .1 .0
 
 returns-3 : tie.Need-returns-3
 returns-3 c =
