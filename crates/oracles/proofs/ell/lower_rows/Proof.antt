@@ -7,7 +7,6 @@ use lib.ListN.{length, take, drop}
 use Rattle.numbers.specs.ArrLaws.{row-in}
 use Rattle.oracles.specs.MatrixLaws.{MatrixOf, place-small}
 use Rattle.oracles.proofs.ell.Laws.{lowered-to, rows-start, row-long, rows-turn, rows-done}
-use Rattle.oracles.proofs.ell.Laws.{lowered-to, rows-start, rows-turn, rows-done}
 use Rattle.oracles.proofs.ell.lower_rows.Statement.{statement}
 use Rattle.oracles.proofs.ell.lower_rows.Tie as tie
 

@@ -3,7 +3,6 @@ use Prim.Native.Nat.{_-_, _≤_}
 use borrow.Author.Needs.{needs}
 use Rattle.oracles.specs.MatrixLaws.{MatrixOf}
 use Rattle.oracles.proofs.ell.Laws.{from-rows, columns-start, columns-turn, columns-done}
-use Rattle.oracles.proofs.ell.Laws.{from-rows, columns-start, columns-turn, columns-done}
 use Rattle.oracles.proofs.ell.mirror.Statement.{statement}
 use Rattle.oracles.proofs.ell.mirror.Tie as tie
 

@@ -7,7 +7,6 @@ use lib.ListN.{length}
 use Rattle.oracles.specs.MatrixLaws.{place-in, place-small}
 use Rattle.oracles.specs.EllStableLaws.{solved-back}
 use Rattle.oracles.proofs.ell_stable.Laws.{back-start, back-turn, back-done}
-use Rattle.oracles.proofs.ell_stable.Laws.{back-turn}
 use Rattle.oracles.proofs.ell_stable.backward_row.Statement.{statement}
 use Rattle.oracles.proofs.ell_stable.backward_row.Tie as tie
 

@@ -9,7 +9,6 @@ use Rattle.oracles.specs.Matrix.{entry, at}
 use Rattle.oracles.specs.MatrixLaws.{place-in, place-small, MatrixOf}
 use Rattle.oracles.specs.EllStableLaws.{stored-to, solved-to}
 use Rattle.oracles.proofs.ell_stable.Laws.{taken-start, taken-turn, taken-other, stored-start, stored-reads, stored-turn, stored-done, solved-done}
-use Rattle.oracles.proofs.ell_stable.Laws.{taken-start, taken-turn, taken-other, stored-start, stored-reads, stored-turn, stored-done}
 use Rattle.oracles.proofs.ell_stable.forward_row.Statement.{statement}
 use Rattle.oracles.proofs.ell_stable.forward_row.Tie as tie
 

@@ -10,7 +10,6 @@ use Rattle.numbers.specs.Pick.{hit, skip}
 use Rattle.oracles.specs.Matrix.{entry}
 use Rattle.oracles.specs.MatrixLaws.{VectorOf, swept, sweep-start, sweep-left, sweep-turn, sweep-done}
 use Rattle.oracles.proofs.ell_stable.Laws.{updated-from, row-done}
-use Rattle.oracles.proofs.ell_stable.Laws.{row-done}
 use Rattle.oracles.proofs.ell_stable.update_row.Statement.{statement}
 use Rattle.oracles.proofs.ell_stable.update_row.Tie as tie
 

@@ -4,8 +4,6 @@ use borrow.Author.Needs.{needs}
 use Rattle.numbers.specs.ArrLaws.{dimension-most}
 use Rattle.oracles.proofs.ell_common.Laws.{multiplied}
 use Rattle.oracles.proofs.ell.Laws.{no-effect, fails, succeeds}
-use Rattle.oracles.proofs.ell_common.Laws.{multiplied}
-use Rattle.oracles.proofs.ell.Laws.{no-effect, fails, succeeds}
 use Rattle.oracles.proofs.ell.Ell.update.Statement.{statement}
 use Rattle.oracles.proofs.ell.Ell.update.Tie as tie
 
