@@ -1,6 +1,5 @@
 -- The steps of `rank-one`, and laws of the definitions of Ell. Assumes nothing.
 use Prim.Native.Nat.{ℕ}
-use mathlib.Core.Bool.{_&&_}
 use mathlib.Core.List.{List}
 use lib.Dec.{leb, ltb, eqb}
 use lib.ListN.{length}
@@ -18,10 +17,13 @@ row-lowered row r-qg gt i = tab (λ j. pick (leb j i) (entry row j ⊖ r-qg ⊗ 
 unfoldable pub all-lowered : ℕ → Float → List Float → List Float → List Float
 all-lowered n ratio gt mq = grid (λ r c. pick (leb c r) (at n mq r c ⊖ ratio ⊗ entry gt r ⊗ entry gt c) (at n mq r c)) n n
 
--- column i above the diagonal from row i
+-- the matrix with column i's entries before j from row i; all above the diagonal
+abbrev pub mirrored-to : ℕ → List Float → ℕ → ℕ → ℕ → ℕ → Float
+mirrored-to n mq i j r c = pick (eqb c i) (pick (ltb r j) (at n mq c r) (at n mq r c)) (at n mq r c)
+
 unfoldable pub row-mirrored : ℕ → List Float → ℕ → List Float
-row-mirrored n mq i = grid (λ r c. pick (ltb r i && eqb c i) (at n mq c r) (at n mq r c)) n n
+row-mirrored n mq i = grid (mirrored-to n mq i i) n n
 
 -- the upper triangle from the lower one
 unfoldable pub mirrored : ℕ → List Float → List Float
-mirrored n mq = grid (λ r c. pick (leb c r) (at n mq r c) (at n mq c r)) n n
+mirrored n mq = grid (λ r c. pick (ltb r c) (at n mq c r) (at n mq r c)) n n

@@ -159,5 +159,5 @@ rows =
     []
 
 pub known : map (λ r. r .got) rows ≡ map (λ r. r .expected) rows
-unfolding add neg lt sub mul div le tab ofInt ofBits toBits pick isqrtTo isqrt rounded sqrtOf core-new core-parallel-bias-cut-fast core-bias-cut-fast core-bias-cut made calc-bias-cut calc-bias-cut-q calc-parallel-impl calc-parallel-bias-cut dotFrom dotOf setDiag diagOf tested advanced valueOf scanFrom scanOf band-beta assess-sign assess-middle assess-stop assessOf assess-feas-answer grid total get-elem taken reduced stored stop-from stopOf filled rowsOf factorOf order-tested witness-tail witnessOf quad-term quadOf
+unfolding add neg lt sub mul div le tab ofInt ofBits toBits pick isqrtTo isqrt rounded sqrtOf core-new core-parallel-bias-cut-fast core-bias-cut-fast core-bias-cut made calc-bias-cut calc-bias-cut-q calc-parallel-impl calc-parallel-bias-cut dotFrom dotOf setDiag diagOf tested advanced valueOf scanFrom scanOf assess-sign assess-middle assess-stop assessOf assess-feas-answer grid total get-elem taken reduced stored stop-from stopOf filled rowsOf factorOf order-tested witness-tail witnessOf quad-term quadOf
 known = refl

@@ -17,6 +17,7 @@ pub mod AssessLaws
 pub mod CursorRule
 pub mod Known
 pub mod MatrixLaws
+pub mod LoopLaws
 pub mod LdltLaws
 pub mod EllLaws
 pub mod EllStableLaws

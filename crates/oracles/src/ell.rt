@@ -3,6 +3,7 @@ use crate::ell_common::CutStrategy;
 use crate::ell_common::Update;
 use crate::ell_common::is_success;
 use crate::ell_common::is_tiny;
+use crate::ell_common::lengths_fit;
 use crate::ell_common::move_centre;
 use numbers::arr::dot_mv_into;
 use numbers::arr::dot_zip;
@@ -17,7 +18,8 @@ ghost use mathlib.Core.Bool.{true};
 ghost use Prim.Native.Nat.{_*_, _≤_, _<_};
 ghost use lib.ListN.{length};
 ghost use Rattle.numbers.specs.Arr.{isDimension};
-ghost use Rattle.oracles.specs.Ell.{new-ell-answer, rank-one, with-tsq, ell-said, ell-fits, ell-updateOf, ell-update-answer};
+ghost use Rattle.oracles.specs.declared.ell_common.Update.the-variants.{Refused};
+ghost use Rattle.oracles.specs.Ell.{new-ell-answer, rank-one, with-tsq, ell-said, ell-updateOf, ell-update-answer};
 ghost use Rattle.oracles.specs.EllLaws.{row-lowered, all-lowered, row-mirrored, mirrored};
 
 pub struct Ell {
@@ -125,6 +127,16 @@ impl Ell {
         }
     }
 
+    // The same ellipsoid, and why a call is refused.
+    fn refused(self, why: Refusal) -> EllUpdate
+        ensures { λ r. ⌜ r ≡ record { ell = self; answer = Refused why } ⌝ }
+    {
+        EllUpdate {
+            ell: self,
+            answer: Update::Refused(why),
+        }
+    }
+
     fn update(
         self,
         strategy: CutStrategy,
@@ -134,7 +146,7 @@ impl Ell {
         xc: &mut [f64],
         grad_t: &mut [f64],
     ) -> EllUpdate
-        requires { ⌜ (isDimension (self .ndim) ≡ true) × (ell-fits (self .ndim) (now grad) (record { mq = now mq; xc = now xc; grad-t = now «grad_t» }) ≡ true) ⌝ }
+        requires { ⌜ (isDimension (self .ndim) ≡ true) × (length (now grad) ≡ self .ndim) × (length (now mq) ≡ self .ndim * self .ndim) × (length (now xc) ≡ self .ndim) × (length (now «grad_t») ≡ self .ndim) ⌝ }
         ensures { λ r. ⌜ (r, record { mq = now (mq .exit); xc = now (xc .exit); grad-t = now («grad_t» .exit) }) ≡ ell-updateOf self strategy (now (grad .entry)) beta (record { mq = now (mq .entry); xc = now (xc .entry); grad-t = now («grad_t» .entry) }) ⌝ }
     {
         let n = self.ndim;
@@ -169,16 +181,13 @@ impl Ell {
     {
         let n = self.ndim;
         if !is_dimension(n) {
-            return EllUpdate {
-                ell: self,
-                answer: Update::Refused(Refusal::Dimension),
-            };
+            return self.refused(Refusal::Dimension);
         }
-        if !(grad.len() == n && mq.len() == n * n && xc.len() == n && grad_t.len() == n) {
-            return EllUpdate {
-                ell: self,
-                answer: Update::Refused(Refusal::Length),
-            };
+        if !lengths_fit(n, grad.len(), mq.len(), xc.len()) {
+            return self.refused(Refusal::Length);
+        }
+        if grad_t.len() != n {
+            return self.refused(Refusal::Length);
         }
         self.update(strategy, grad, beta, mq, xc, grad_t)
     }

@@ -5,6 +5,9 @@ use numbers::cut::CutStatus;
 use numbers::ell_calc::EllCalc;
 use numbers::refusal::Refusal;
 ghost use mathlib.Core.Path.{_≡_};
+ghost use mathlib.Core.Bool.{_&&_};
+ghost use Prim.Native.Nat.{_*_, _≤_};
+ghost use lib.Dec.{eqb};
 ghost use lib.ListN.{length};
 ghost use Rattle.oracles.specs.EllCommon.{calcOf, is-tiny, is-success, centreOf};
 
@@ -35,8 +38,23 @@ pub(crate) fn is_success(status: CutStatus) -> bool
 {
     match status {
         CutStatus::Success => true,
-        _ => false,
+        CutStatus::NoSoln => false,
+        CutStatus::NoEffect => false,
     }
+}
+
+// Whether the gradient, the matrix and the centre are as long as n says.
+pub(crate) fn lengths_fit(n: usize, grad: usize, mq: usize, xc: usize) -> bool
+    requires { ⌜ n ≤ 32 ⌝ }
+    ensures { λ r. ⌜ r ≡ (eqb grad n && eqb mq (n * n) && eqb xc n) ⌝ }
+{
+    if grad != n {
+        return false;
+    }
+    if mq != n * n {
+        return false;
+    }
+    xc == n
 }
 
 impl CutStrategy {

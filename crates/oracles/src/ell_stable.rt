@@ -3,6 +3,7 @@ use crate::ell_common::CutStrategy;
 use crate::ell_common::Update;
 use crate::ell_common::is_success;
 use crate::ell_common::is_tiny;
+use crate::ell_common::lengths_fit;
 use crate::ell_common::move_centre;
 use numbers::arr::copy_from;
 use numbers::arr::is_dimension;
@@ -13,15 +14,17 @@ use numbers::ell_calc::EllCalc;
 use numbers::ell_calc::NewEllCalc;
 use numbers::refusal::Refusal;
 ghost use mathlib.Core.Path.{_≡_};
-ghost use mathlib.Core.Bool.{true};
-ghost use Prim.Native.Nat.{suc, _*_, _≤_, _<_};
+ghost use mathlib.Core.Bool.{true, _&&_};
+ghost use Prim.Native.Nat.{_+_, _*_, _-_, _≤_, _<_};
+ghost use lib.Dec.{eqb};
 ghost use lib.ListN.{length};
 ghost use Rattle.numbers.specs.Arr.{isDimension, tab};
-ghost use Rattle.numbers.specs.F64.{_⊗_, _⊘_};
-ghost use Rattle.oracles.specs.Matrix.{entry, at};
+ghost use Rattle.numbers.specs.F64.{_⊕_, _⊗_, _⊘_, 0ᶠ};
+ghost use Rattle.oracles.specs.declared.ell_common.Update.the-variants.{Refused};
+ghost use Rattle.oracles.specs.Matrix.{entry, at, total};
 ghost use Rattle.oracles.specs.EllCommon.{centreOf};
-ghost use Rattle.oracles.specs.EllStable.{new-ell-stable-answer, inv-ml-gOf, inv-md-inv-ml-gOf, gg-tOf, omegaOf, lowered, backward, t-start, with-tsq, stable-said, stable-fits, stable-updateOf, stable-update-answer};
-ghost use Rattle.oracles.specs.EllStableLaws.{row-forwarded, summed, row-backwarded, column-taken, row-updated, rank-one};
+ghost use Rattle.oracles.specs.EllStable.{new-ell-stable-answer, inv-ml-gOf, inv-md-inv-ml-gOf, gg-tOf, omegaOf, lowered, backward, t-start, with-tsq, stable-said, stable-updateOf, stable-update-answer};
+ghost use Rattle.oracles.specs.EllStableLaws.{row-stored, solved-to, solved-back, column-taken, row-updated, less-columns, factors-after};
 
 pub struct EllStable {
     ndim: usize,
@@ -43,7 +46,7 @@ pub struct EllStableUpdate {
 // Row i of inv(L) g; what is subtracted stays in the lower triangle.
 fn forward_row(n: usize, mq: &mut [f64], w: &mut [f64], i: usize)
     requires { ⌜ (n ≤ 32) × (length (now mq) ≡ n * n) × (length (now w) ≡ n) × (i < n) ⌝ }
-    ensures { λ _. ⌜ (now (mq .exit), now (w .exit)) ≡ row-forwarded n (now (mq .entry)) (now (w .entry)) i ⌝ }
+    ensures { λ _. ⌜ (now (mq .exit) ≡ row-stored n (now (mq .entry)) (now (w .entry)) i) × (now (w .exit) ≡ solved-to n (now (mq .entry)) (now (w .entry)) i i) ⌝ }
 {
     let mut j = 0;
     while j < i {
@@ -81,7 +84,7 @@ fn scale_into(n: usize, mq: &[f64], w: &[f64], z: &mut [f64])
 // The products of z and w, and their sum.
 fn omega_into(w: &[f64], z: &[f64], gg: &mut [f64]) -> f64
     requires { ⌜ (length (now w) ≡ length (now gg)) × (length (now z) ≡ length (now gg)) ⌝ }
-    ensures { λ r. ⌜ (r, now (gg .exit)) ≡ summed (λ i. entry (now (z .entry)) i ⊗ entry (now (w .entry)) i) (length (now (gg .entry))) ⌝ }
+    ensures { λ r. ⌜ (r ≡ total _⊕_ 0ᶠ (λ i. entry (now (z .entry)) i ⊗ entry (now (w .entry)) i) (length (now (gg .entry)))) × (now (gg .exit) ≡ tab (λ i. entry (now (z .entry)) i ⊗ entry (now (w .entry)) i) (length (now (gg .entry)))) ⌝ }
 {
     let mut omega = 0.0;
     let mut i = 0;
@@ -96,7 +99,7 @@ fn omega_into(w: &[f64], z: &[f64], gg: &mut [f64]) -> f64
 // Row i of inv(Lᵀ) z, from the rows after it.
 fn backward_row(n: usize, mq: &[f64], q: &mut [f64], i: usize)
     requires { ⌜ (n ≤ 32) × (length (now mq) ≡ n * n) × (length (now q) ≡ n) × (i < n) ⌝ }
-    ensures { λ _. ⌜ now (q .exit) ≡ row-backwarded n (now (mq .entry)) (now (q .entry)) i ⌝ }
+    ensures { λ _. ⌜ now (q .exit) ≡ solved-back n (now (mq .entry)) (now (q .entry)) i (n - (i + 1)) ⌝ }
 {
     let mut j = i + 1;
     while j < n {
@@ -145,7 +148,7 @@ fn update_row(row: &mut [f64], ratio: f64, beta2: f64, v: &[f64])
 // The rank-one update of the factors; v begins as the gradient.
 fn rank_one(n: usize, mq: &mut [f64], z: &[f64], v: &mut [f64], t0: f64)
     requires { ⌜ (n ≤ 32) × (length (now mq) ≡ n * n) × (length (now z) ≡ n) × (length (now v) ≡ n) ⌝ }
-    ensures { λ _. ⌜ (now (mq .exit), now (v .exit)) ≡ rank-one n (now (mq .entry)) (now (z .entry)) (now (v .entry)) t0 ⌝ }
+    ensures { λ _. ⌜ (now (mq .exit) ≡ factors-after n (now (mq .entry)) (now (z .entry)) (now (v .entry)) t0) × (now (v .exit) ≡ tab (λ l. less-columns n (now (mq .entry)) (now (v .entry)) l l) n) ⌝ }
 {
     let mut oldt = t0;
     let mut j = 0;
@@ -191,7 +194,7 @@ fn succeed(
     params: Params,
 )
     requires { ⌜ (isDimension n ≡ true) × (length (now grad) ≡ n) × (length (now mq) ≡ n * n) × (length (now xc) ≡ n) × (length (now z) ≡ n) × (length (now «g_t») ≡ n) ⌝ }
-    ensures { λ _. ⌜ (now (xc .exit) ≡ centreOf (now (xc .entry)) (params .rho ⊘ omega) (backward n (now (mq .entry)) (now (z .entry)) n)) × ((now (mq .exit), now («g_t» .exit)) ≡ rank-one n (now (mq .entry)) (now (z .entry)) (now (grad .entry)) (t-start omega (params .sigma))) ⌝ }
+    ensures { λ _. ⌜ (now (xc .exit) ≡ centreOf (now (xc .entry)) (params .rho ⊘ omega) (backward n (now (mq .entry)) (now (z .entry)) n)) × (now (mq .exit) ≡ factors-after n (now (mq .entry)) (now (z .entry)) (now (grad .entry)) (t-start omega (params .sigma))) × (now («g_t» .exit) ≡ tab (λ l. less-columns n (now (mq .entry)) (now (grad .entry)) l l) n) ⌝ }
 {
     copy_from(n, g_t, z);
     backward(n, mq, g_t);
@@ -199,6 +202,28 @@ fn succeed(
     let mu = params.sigma / (1.0 - params.sigma);
     copy_from(n, g_t, grad);
     rank_one(n, mq, z, g_t, omega / mu);
+}
+
+// Whether the working vectors are as long as n says.
+fn scratch_fits(
+    n: usize,
+    inv_ml_g: &[f64],
+    inv_md_inv_ml_g: &[f64],
+    gg_t: &[f64],
+    g_t: &[f64],
+) -> bool
+    ensures { λ r. ⌜ r ≡ (eqb (length (now («inv_ml_g» .entry))) n && eqb (length (now («inv_md_inv_ml_g» .entry))) n && eqb (length (now («gg_t» .entry))) n && eqb (length (now («g_t» .entry))) n) ⌝ }
+{
+    if inv_ml_g.len() != n {
+        return false;
+    }
+    if inv_md_inv_ml_g.len() != n {
+        return false;
+    }
+    if gg_t.len() != n {
+        return false;
+    }
+    g_t.len() == n
 }
 
 impl EllStable {
@@ -232,6 +257,16 @@ impl EllStable {
         }
     }
 
+    // The same ellipsoid, and why a call is refused.
+    fn refused(self, why: Refusal) -> EllStableUpdate
+        ensures { λ r. ⌜ r ≡ record { ell = self; answer = Refused why } ⌝ }
+    {
+        EllStableUpdate {
+            ell: self,
+            answer: Update::Refused(why),
+        }
+    }
+
     fn update(
         self,
         strategy: CutStrategy,
@@ -244,7 +279,7 @@ impl EllStable {
         gg_t: &mut [f64],
         g_t: &mut [f64],
     ) -> EllStableUpdate
-        requires { ⌜ (isDimension (self .ndim) ≡ true) × (stable-fits (self .ndim) (now grad) (record { mq = now mq; xc = now xc; inv-ml-g = now «inv_ml_g»; inv-md-inv-ml-g = now «inv_md_inv_ml_g»; gg-t = now «gg_t»; g-t = now «g_t» }) ≡ true) ⌝ }
+        requires { ⌜ (isDimension (self .ndim) ≡ true) × (length (now grad) ≡ self .ndim) × (length (now mq) ≡ self .ndim * self .ndim) × (length (now xc) ≡ self .ndim) × (length (now «inv_ml_g») ≡ self .ndim) × (length (now «inv_md_inv_ml_g») ≡ self .ndim) × (length (now «gg_t») ≡ self .ndim) × (length (now «g_t») ≡ self .ndim) ⌝ }
         ensures { λ r. ⌜ (r, record { mq = now (mq .exit); xc = now (xc .exit); inv-ml-g = now («inv_ml_g» .exit); inv-md-inv-ml-g = now («inv_md_inv_ml_g» .exit); gg-t = now («gg_t» .exit); g-t = now («g_t» .exit) }) ≡ stable-updateOf self strategy (now (grad .entry)) beta (record { mq = now (mq .entry); xc = now (xc .entry); inv-ml-g = now («inv_ml_g» .entry); inv-md-inv-ml-g = now («inv_md_inv_ml_g» .entry); gg-t = now («gg_t» .entry); g-t = now («g_t» .entry) }) ⌝ }
     {
         let n = self.ndim;
@@ -280,23 +315,24 @@ impl EllStable {
     {
         let n = self.ndim;
         if !is_dimension(n) {
-            return EllStableUpdate {
-                ell: self,
-                answer: Update::Refused(Refusal::Dimension),
-            };
+            return self.refused(Refusal::Dimension);
         }
-        if !(grad.len() == n && mq.len() == n * n && xc.len() == n) {
-            return EllStableUpdate {
-                ell: self,
-                answer: Update::Refused(Refusal::Length),
-            };
+        if !lengths_fit(n, grad.len(), mq.len(), xc.len()) {
+            return self.refused(Refusal::Length);
         }
-        if !(inv_ml_g.len() == n && inv_md_inv_ml_g.len() == n && gg_t.len() == n && g_t.len() == n) {
-            return EllStableUpdate {
-                ell: self,
-                answer: Update::Refused(Refusal::Length),
-            };
+        if !scratch_fits(n, inv_ml_g, inv_md_inv_ml_g, gg_t, g_t) {
+            return self.refused(Refusal::Length);
         }
-        self.update(strategy, grad, beta, mq, xc, inv_ml_g, inv_md_inv_ml_g, gg_t, g_t)
+        self.update(
+            strategy,
+            grad,
+            beta,
+            mq,
+            xc,
+            inv_ml_g,
+            inv_md_inv_ml_g,
+            gg_t,
+            g_t,
+        )
     }
 }

@@ -1,0 +1,113 @@
+-- `oracles::ell_stable::EllStable::update_core` meets its contract. Assumes nothing.
+use mathlib.Core.Path.{_∙_}
+use borrow.Author.Needs.{needs}
+use Rattle.numbers.specs.ArrLaws.{dimension-most, wrong-dimension, wrong-length, accepted}
+use Rattle.oracles.proofs.ell_common.Laws.{says-no, says-yes}
+use Rattle.oracles.proofs.ell_stable.Laws.{unfit, fit-by, lengths-known}
+use Rattle.oracles.proofs.ell_stable.EllStable.update_core.Statement.{statement}
+use Rattle.oracles.proofs.ell_stable.EllStable.update_core.Tie as tie
+
+is-dimension-requires : tie.Need-is-dimension-requires
+is-dimension-requires c κs = search needs
+
+refused-requires : tie.Need-refused-requires
+refused-requires c κs = search needs
+
+returns : tie.Need-returns
+returns c = rw (c .refused .ensures) (wrong-dimension _ _ _ _ _ (says-no _ _ (c .before .before .is-dimension .ensures) (c .before .if1 .taken)))
+
+lengths-fit-requires : tie.Need-lengths-fit-requires
+lengths-fit-requires c κs = dimension-most _ (says-yes _ _ (c .before .is-dimension .ensures) (c .if1 .left))
+
+refused-requires-2 : tie.Need-refused-requires-2
+refused-requires-2 c κs = search needs
+
+returns-2 : tie.Need-returns-2
+returns-2 c =
+    rw (c .refused2 .ensures)
+    (wrong-length _ _ _ _ _ (says-yes _ _ (c .before .before .before .before .is-dimension .ensures) (c .before .before .before .if1 .left))
+    (unfit _ _ _ _ _ (says-no _ _ (c .before .before .lengths-fit .ensures) (c .before .if2 .taken))))
+
+scratch-fits-requires : tie.Need-scratch-fits-requires
+scratch-fits-requires c κs = search needs
+
+refused-requires-3 : tie.Need-refused-requires-3
+refused-requires-3 c κs = search needs
+
+same-length : tie.Need-same-length
+same-length c = search needs
+
+same-length-2 : tie.Need-same-length-2
+same-length-2 c = search needs
+
+same-length-3 : tie.Need-same-length-3
+same-length-3 c = search needs
+
+same-length-4 : tie.Need-same-length-4
+same-length-4 c = search needs
+
+returns-3 : tie.Need-returns-3
+returns-3 c =
+    rw (c .refused3 .ensures)
+    (wrong-length _ _ _ _ _ (says-yes _ _ (c .before .before .before .before .before .before .before .before .before .before .is-dimension .ensures) (c .before .before .before .before .before .before .before .before .before .if1 .left))
+    (fit-by _ _ _ _ _ _ (says-yes _ _ (c .before .before .before .before .before .before .before .before .lengths-fit .ensures) (c .before .before .before .before .before .before .before .if2 .left))
+    (says-no _ _ (c .before .before .scratch-fits .ensures) (c .before .if3 .taken))))
+
+update-requires : tie.Need-update-requires
+update-requires c κs =
+    lengths-known _ _ _ _ _ _ _ _ (says-yes _ _ (c .before .before .before .before .before .before .before .before .before .before .before .before .before .before .before .is-dimension .ensures) (c .before .before .before .before .before .before .before .before .before .before .before .before .before .before .if1 .left))
+    (says-yes _ _ (c .before .before .before .before .before .before .before .before .before .before .before .before .before .lengths-fit .ensures) (c .before .before .before .before .before .before .before .before .before .before .before .before .if2 .left))
+    (says-yes _ _ (c .before .before .before .before .before .before .before .scratch-fits .ensures) (c .before .before .before .before .before .before .if3 .left))
+
+same-length-5 : tie.Need-same-length-5
+same-length-5 c = search needs
+
+same-length-6 : tie.Need-same-length-6
+same-length-6 c = search needs
+
+same-length-7 : tie.Need-same-length-7
+same-length-7 c = search needs
+
+same-length-8 : tie.Need-same-length-8
+same-length-8 c = search needs
+
+same-length-9 : tie.Need-same-length-9
+same-length-9 c = search needs
+
+same-length-10 : tie.Need-same-length-10
+same-length-10 c = search needs
+
+returns-4 : tie.Need-returns-4
+returns-4 c =
+    c .before .before .before .before .before .before .before .before .before .before .before .before .update .ensures
+    ∙ accepted _ _ _ _ _
+    (says-yes _ _ (c .before .before .before .before .before .before .before .before .before .before .before .before .before .before .before .before .before .before .before .before .before .before .before .before .before .before .before .before .is-dimension .ensures) (c .before .before .before .before .before .before .before .before .before .before .before .before .before .before .before .before .before .before .before .before .before .before .before .before .before .before .before .if1 .left))
+    (fit-by _ _ _ _ _ _
+    (says-yes _ _ (c .before .before .before .before .before .before .before .before .before .before .before .before .before .before .before .before .before .before .before .before .before .before .before .before .before .before .lengths-fit .ensures) (c .before .before .before .before .before .before .before .before .before .before .before .before .before .before .before .before .before .before .before .before .before .before .before .before .before .if2 .left))
+    (says-yes _ _ (c .before .before .before .before .before .before .before .before .before .before .before .before .before .before .before .before .before .before .before .before .scratch-fits .ensures) (c .before .before .before .before .before .before .before .before .before .before .before .before .before .before .before .before .before .before .before .if3 .left)))
+
+pub update-core-spec : {M : Type 1} → statement M
+update-core-spec =
+    tie.close
+    (tie.spec
+    is-dimension-requires
+    refused-requires
+    returns
+    lengths-fit-requires
+    refused-requires-2
+    returns-2
+    scratch-fits-requires
+    refused-requires-3
+    same-length
+    same-length-2
+    same-length-3
+    same-length-4
+    returns-3
+    update-requires
+    same-length-5
+    same-length-6
+    same-length-7
+    same-length-8
+    same-length-9
+    same-length-10
+    returns-4)

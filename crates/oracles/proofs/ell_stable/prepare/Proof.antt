@@ -1,0 +1,56 @@
+-- `oracles::ell_stable::prepare` meets its contract. Assumes nothing.
+use borrow.Author.Needs.{needs}
+use Rattle.numbers.specs.ArrLaws.{dimension-most}
+use Rattle.oracles.proofs.ell_common.Laws.{copied}
+use Rattle.oracles.proofs.ell_stable.Laws.{prepare-done}
+use Rattle.oracles.proofs.ell_stable.prepare.Statement.{statement}
+use Rattle.oracles.proofs.ell_stable.prepare.Tie as tie
+
+copy-from-requires : tie.Need-copy-from-requires
+copy-from-requires c κs = search needs
+
+forward-requires : tie.Need-forward-requires
+forward-requires c κs = (dimension-most _ (c .before .before .before .before .before .before .before .before .before .before .before .pre .0), search needs, search needs)
+
+scale-into-requires : tie.Need-scale-into-requires
+scale-into-requires c κs = (dimension-most _ (c .before .before .before .before .before .before .before .before .before .before .before .before .before .before .before .before .before .before .before .pre .0), search needs, search needs, search needs)
+
+omega-into-requires : tie.Need-omega-into-requires
+omega-into-requires c κs = search needs
+
+same-length : tie.Need-same-length
+same-length c = search needs
+
+same-length-2 : tie.Need-same-length-2
+same-length-2 c = search needs
+
+same-length-3 : tie.Need-same-length-3
+same-length-3 c = search needs
+
+same-length-4 : tie.Need-same-length-4
+same-length-4 c = search needs
+
+returns : tie.Need-returns
+returns c =
+    let i = c .before .before .before .before .before .before .before .before .before .before .before .before .before .before .before .before .before .before .before .before .before .before .before .before .before .before .before .before in
+    let a = i .args in
+    let k = c .before .before .before .before .before .before .before .before .before .before .before .before .before .before .before .before .before .before .before .before .before .copy-from in
+    let f = c .before .before .before .before .before .before .before .before .before .before .before .before .before .before .before .before .forward .ensures in
+    let o = c .before .before .omega-into .ensures in
+    prepare-done (a .n) (a .mq .now) (a .grad .now) _ _ _ _ _ _ _
+    (copied (a .n) (a .inv-ml-g .now) (a .grad .now) (k .result, k .last .1 .0) (k .ensures) (i .pre .0) (i .pre .3) (i .pre .1))
+    (f .0) (f .1) (c .before .before .before .before .before .before .before .before .scale-into .ensures) (i .pre .5) (o .0) (o .1)
+
+pub prepare-spec : {M : Type 1} → statement M
+prepare-spec =
+    tie.close
+    (tie.spec
+    copy-from-requires
+    forward-requires
+    scale-into-requires
+    omega-into-requires
+    same-length
+    same-length-2
+    same-length-3
+    same-length-4
+    returns)
