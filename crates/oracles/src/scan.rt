@@ -12,6 +12,7 @@ ghost use lib.IntN.{natAbs, _-ℤ_};
 ghost use lib.Signed.{nonNeg};
 ghost use lib.ListN.{length};
 ghost use Rattle.oracles.specs.RoundRobin.{moved, Legal};
+ghost use Rattle.oracles.specs.declared.scan.ScanAnswer.the-variants.{Refused};
 ghost use Rattle.oracles.specs.Scan.{valueOf, isOver, isRows, band-fits, scanOf, scan-band-answer, Ready, Scannable};
 
 // The upper limit of a band, where it has one.
@@ -123,6 +124,7 @@ fn scan_rows(n: usize, table: &[f64], x: &[f64], start: RoundRobin, lower: f64, 
         left -= 1;
         let next = rr.step();
         rr = next;
+        let cur = rr.cur;
         let row = row_at(rr);
         let value = row_value(n, table, x, row);
         if is_over(upper, value) {
@@ -130,7 +132,7 @@ fn scan_rows(n: usize, table: &[f64], x: &[f64], start: RoundRobin, lower: f64, 
                 viol: Violation::Broken(row, value, true),
                 fmax: fmax,
                 kmax: kmax,
-                last: rr.cur,
+                last: cur,
             };
         }
         if value < lower {
@@ -138,12 +140,12 @@ fn scan_rows(n: usize, table: &[f64], x: &[f64], start: RoundRobin, lower: f64, 
                 viol: Violation::Broken(row, value, false),
                 fmax: fmax,
                 kmax: kmax,
-                last: rr.cur,
+                last: cur,
             };
         }
         if value > fmax {
             fmax = value;
-            kmax = rr.cur;
+            kmax = cur;
         }
     }
     Scan {
@@ -154,21 +156,31 @@ fn scan_rows(n: usize, table: &[f64], x: &[f64], start: RoundRobin, lower: f64, 
     }
 }
 
+// A refusal, and the cursor as it came.
+fn scan_refused(rr: RoundRobin, why: Refusal) -> ScanEnd
+    ensures { λ r. ⌜ r ≡ record { answer = Refused why; cursor = rr } ⌝ }
+{
+    ScanEnd {
+        answer: ScanAnswer::Refused(why),
+        cursor: rr,
+    }
+}
+
 // `scan_band` with the cursor by value.
 fn scan_by_value(n: usize, rows: usize, table: &[f64], x: &[f64], rr: RoundRobin, lower: f64, upper: Upper) -> ScanEnd
     ensures { λ r. ⌜ (r .answer, r .cursor) ≡ scan-band-answer n rows (now (table .entry)) (now (x .entry)) rr lower upper ⌝ }
 {
     if !is_dimension(n) {
-        return ScanEnd { answer: ScanAnswer::Refused(Refusal::Dimension), cursor: rr };
+        return scan_refused(rr, Refusal::Dimension);
     }
     if !table_fits(n, rows, table.len(), x.len()) {
-        return ScanEnd { answer: ScanAnswer::Refused(Refusal::Length), cursor: rr };
+        return scan_refused(rr, Refusal::Length);
     }
     if !band_fits(rows, rr.lo, rr.hi) {
-        return ScanEnd { answer: ScanAnswer::Refused(Refusal::Band), cursor: rr };
+        return scan_refused(rr, Refusal::Band);
     }
     if !rr.is_at() {
-        return ScanEnd { answer: ScanAnswer::Refused(Refusal::Cursor), cursor: rr };
+        return scan_refused(rr, Refusal::Cursor);
     }
     let scan = scan_rows(n, table, x, rr, lower, upper);
     let cursor = RoundRobin { cur: scan.last, lo: rr.lo, hi: rr.hi };

@@ -13,7 +13,9 @@ use Rattle.oracles.specs.Scan.{band-fits, scanOf, scan-band-answer, Scan
 use Rattle.oracles.specs.declared.scan.Upper.{Upper}
 use Rattle.oracles.specs.declared.scan.Scan.{Scan}
 use Rattle.oracles.specs.declared.scan.ScanAnswer.{ScanAnswer}
-use Rattle.oracles.specs.declared.scan.ScanAnswer.the-variants.{Scanned}
+use Rattle.oracles.specs.declared.scan.ScanAnswer.the-variants.{Scanned, Refused}
+use Rattle.oracles.specs.declared.scan.ScanEnd.{ScanEnd}
+use Rattle.numbers.specs.declared.refusal.Refusal.{Refusal}
 use Rattle.oracles.specs.declared.round_robin.RoundRobin.{RoundRobin}
 use Rattle.oracles.proofs.Signed.{read}
 use Rattle.oracles.proofs.scan.Tests.{dimension-least, ready-of, scanned, no-dimension, no-length, no-band, no-cursor, passed, failed}
@@ -31,49 +33,74 @@ ends : (n rows : ℕ) (table x : List Float) (c : RoundRobin) (lower : Float) (u
 ends n rows table x c lower upper S s e f fl fh =
     rw (toZ-ofZ f, toZ-ofZ fl, toZ-ofZ fh) (rw e (scanned n rows table x c lower upper S))
 
+-- a refusal, as it is made
+refused-as : {r : ScanEnd} {why : Refusal} {c : RoundRobin} {p : ScanAnswer × RoundRobin} → r ≡ record { answer = Refused why; cursor = c } → _≡_ {A = ScanAnswer × RoundRobin} (Refused why, c) p
+    → _≡_ {A = ScanAnswer × RoundRobin} (r .answer, r .cursor) p
+refused-as e q = ap (λ (z : ScanEnd). (z .answer, z .cursor)) e ∙ q
+
 is-dimension-requires : tie.Need-is-dimension-requires
 is-dimension-requires c κs = tt
 
+scan-refused-requires : tie.Need-scan-refused-requires
+scan-refused-requires c κs = tt
+
 returns : tie.Need-returns
 returns c =
-    let a = c .before .before .before .before .args in
-    no-dimension (a .n) (a .rows) (a .table .now) (a .x .now) (a .rr) (a .lower) (a .upper) (failed (c .before .is-dimension .ensures) (c .if1 .taken))
+    let e = c .before in
+    let a = e .before .before .before .before .args in
+    refused-as (c .scan-refused .ensures)
+    (no-dimension (a .n) (a .rows) (a .table .now) (a .x .now) (a .rr) (a .lower) (a .upper) (failed (e .before .is-dimension .ensures) (e .if1 .taken)))
 
 table-fits-requires : tie.Need-table-fits-requires
 table-fits-requires c κs = let n = c .before .before .before .before .args .n in omega (arith, dimension-least n (passed (c .before .is-dimension .ensures) (c .if1 .left)))
 
+scan-refused-requires-2 : tie.Need-scan-refused-requires-2
+scan-refused-requires-2 c κs = tt
+
 returns-2 : tie.Need-returns-2
 returns-2 c =
-    let e = c .before .before in
+    let f = c .before in
+    let e = f .before .before in
     let a = e .before .before .before .before .args in
-    no-length (a .n) (a .rows) (a .table .now) (a .x .now) (a .rr) (a .lower) (a .upper) (passed (e .before .is-dimension .ensures) (e .if1 .left)) (failed (c .before .table-fits .ensures) (c .if2 .taken))
+    refused-as (c .scan-refused2 .ensures)
+    (no-length (a .n) (a .rows) (a .table .now) (a .x .now) (a .rr) (a .lower) (a .upper) (passed (e .before .is-dimension .ensures) (e .if1 .left)) (failed (f .before .table-fits .ensures) (f .if2 .taken)))
 
 band-fits-requires : tie.Need-band-fits-requires
 band-fits-requires c κs = tt
 
+scan-refused-requires-3 : tie.Need-scan-refused-requires-3
+scan-refused-requires-3 c κs = tt
+
 returns-3 : tie.Need-returns-3
 returns-3 c =
-    let t = c .before .before in
-    let g = t .struct-told2 .given in
-    let f = t .before .before in
-    let e = f .before .before in
-    let a = e .before .before .before .before .args in
-    no-band (a .n) (a .rows) (a .table .now) (a .x .now) (a .rr) (a .lower) (a .upper) (passed (e .before .is-dimension .ensures) (e .if1 .left)) (passed (f .before .table-fits .ensures) (f .if2 .left))
-    (failed (band-read (a .rows) (a .rr) (record { sfits = g .1 .0 .1 }) (record { sfits = g .1 .1 .0 .1 }) (c .before .band-fits .ensures)) (c .if3 .taken))
-
-is-at-requires : tie.Need-is-at-requires
-is-at-requires c κs = tt
-
-returns-4 : tie.Need-returns-4
-returns-4 c =
-    let b = c .before .before in
+    let b = c .before in
     let t = b .before .before in
     let g = t .struct-told2 .given in
     let f = t .before .before in
     let e = f .before .before in
     let a = e .before .before .before .before .args in
-    no-cursor (a .n) (a .rows) (a .table .now) (a .x .now) (a .rr) (a .lower) (a .upper) (passed (e .before .is-dimension .ensures) (e .if1 .left)) (passed (f .before .table-fits .ensures) (f .if2 .left))
-    (passed (band-read (a .rows) (a .rr) (record { sfits = g .1 .0 .1 }) (record { sfits = g .1 .1 .0 .1 }) (b .before .band-fits .ensures)) (b .if3 .left)) (failed (c .before .is-at .ensures) (c .if4 .taken))
+    refused-as (c .scan-refused3 .ensures)
+    (no-band (a .n) (a .rows) (a .table .now) (a .x .now) (a .rr) (a .lower) (a .upper) (passed (e .before .is-dimension .ensures) (e .if1 .left)) (passed (f .before .table-fits .ensures) (f .if2 .left))
+    (failed (band-read (a .rows) (a .rr) (record { sfits = g .1 .0 .1 }) (record { sfits = g .1 .1 .0 .1 }) (b .before .band-fits .ensures)) (b .if3 .taken)))
+
+is-at-requires : tie.Need-is-at-requires
+is-at-requires c κs = tt
+
+scan-refused-requires-4 : tie.Need-scan-refused-requires-4
+scan-refused-requires-4 c κs = tt
+
+returns-4 : tie.Need-returns-4
+returns-4 c =
+    let k = c .before in
+    let b = k .before .before in
+    let t = b .before .before in
+    let g = t .struct-told2 .given in
+    let f = t .before .before in
+    let e = f .before .before in
+    let a = e .before .before .before .before .args in
+    refused-as (c .scan-refused4 .ensures)
+    (no-cursor (a .n) (a .rows) (a .table .now) (a .x .now) (a .rr) (a .lower) (a .upper) (passed (e .before .is-dimension .ensures) (e .if1 .left)) (passed (f .before .table-fits .ensures) (f .if2 .left))
+    (passed (band-read (a .rows) (a .rr) (record { sfits = g .1 .0 .1 }) (record { sfits = g .1 .1 .0 .1 }) (b .before .band-fits .ensures)) (b .if3 .left)) (failed (k .before .is-at .ensures) (k .if4 .taken)))
 
 scan-rows-requires : tie.Need-scan-rows-requires
 scan-rows-requires c κs =
@@ -111,4 +138,5 @@ returns-5 c =
 pub scan-by-value-spec : {M : Type 1} → statement M
 scan-by-value-spec =
     tie.close
-    (tie.spec is-dimension-requires returns table-fits-requires returns-2 band-fits-requires returns-3 is-at-requires returns-4 scan-rows-requires returns-5)
+    (tie.spec is-dimension-requires scan-refused-requires returns table-fits-requires scan-refused-requires-2 returns-2 band-fits-requires scan-refused-requires-3 returns-3
+    is-at-requires scan-refused-requires-4 returns-4 scan-rows-requires returns-5)

@@ -37,11 +37,13 @@ step-requires : tie.Need-step-requires Inv-loop μ-loop
 step-requires c κs = c .before .loop .inv .0 .legal
 
 row-at-requires : tie.Need-row-at-requires Inv-loop μ-loop
-row-at-requires c κs = at-nonNeg (c .before .before .loop .inv .0) (c .before .loop-test .taken) (c .step .result) (c .step .ensures)
+row-at-requires c κs =
+    let s = c .before in
+    at-nonNeg (s .before .before .loop .inv .0) (s .before .loop-test .taken) (s .step .result) (s .step .ensures)
 
 row-value-requires : tie.Need-row-value-requires Inv-loop μ-loop
 row-value-requires c κs =
-    let s = c .before in
+    let s = c .before .before in
     rw (c .row-at .ensures) (at-within (s .before .before .loop .inv .0) (s .before .loop-test .taken) (s .step .result) (s .step .ensures))
 
 is-over-requires : tie.Need-is-over-requires Inv-loop μ-loop
@@ -49,52 +51,52 @@ is-over-requires c κs = tt
 
 returns : tie.Need-returns Inv-loop μ-loop
 returns c =
-    let o = c .before .before in
+    let o = c .before in
     let v = o .before in
     let r = v .before in
-    let s = r .before in
+    let s = r .before .before in
     let i = s .before in
     let l = i .before .loop in
     let a = i .before .before .before .before .before .args in
     rw (toZ-ofZ (at-fits (l .inv .0) (i .loop-test .taken) (s .step .result) (s .step .ensures)))
     (turn-over (a .n) (a .table .now) (a .x .now) (a .lower) (a .upper) (l .left) (l .rr) (l .fmax) (toZ w32 (l .kmax)) _ (l .inv .1) (i .loop-test .taken) (s .step .result) (r .row-at .result) (v .row-value .result)
-    (s .step .ensures) (r .row-at .ensures) (v .row-value .ensures) (sym (o .is-over .ensures) ∙ c .before .if1 .taken))
+    (s .step .ensures) (r .row-at .ensures) (v .row-value .ensures) (sym (o .is-over .ensures) ∙ c .if1 .taken))
 
 returns-2 : tie.Need-returns-2 Inv-loop μ-loop
 returns-2 c =
-    let e = c .before .before in
+    let e = c .before in
     let o = e .before in
     let v = o .before in
     let r = v .before in
-    let s = r .before in
+    let s = r .before .before in
     let i = s .before in
     let l = i .before .loop in
     let a = i .before .before .before .before .before .args in
     rw (toZ-ofZ (at-fits (l .inv .0) (i .loop-test .taken) (s .step .result) (s .step .ensures)))
     (turn-under (a .n) (a .table .now) (a .x .now) (a .lower) (a .upper) (l .left) (l .rr) (l .fmax) (toZ w32 (l .kmax)) _ (l .inv .1) (i .loop-test .taken) (s .step .result) (r .row-at .result) (v .row-value .result)
-    (s .step .ensures) (r .row-at .ensures) (v .row-value .ensures) (sym (o .is-over .ensures) ∙ e .if1 .left) (c .before .if2 .taken))
+    (s .step .ensures) (r .row-at .ensures) (v .row-value .ensures) (sym (o .is-over .ensures) ∙ e .if1 .left) (c .if2 .taken))
 
 loop-less : tie.Need-loop-less Inv-loop μ-loop
 loop-less c = omega (arith, c .before .before .before .before .before .before .before .before .loop-test .taken)
 
 loop-again : tie.Need-loop-again Inv-loop μ-loop
 loop-again c =
-    let d = c .before .before in
+    let d = c .before in
     let e = d .before in
     let o = e .before in
     let v = o .before in
     let r = v .before in
-    let s = r .before in
+    let s = r .before .before in
     let i = s .before in
     let l = i .before .loop in
     let a = i .before .before .before .before .before .args in
     (goes-on (l .inv .0) (i .loop-test .taken) (s .step .result) (s .step .ensures),
     rw (toZ-ofZ (at-fits (l .inv .0) (i .loop-test .taken) (s .step .result) (s .step .ensures)))
     (turn-more (a .n) (a .table .now) (a .x .now) (a .lower) (a .upper) (l .left) (l .rr) (l .fmax) (toZ w32 (l .kmax)) _ (l .inv .1) (i .loop-test .taken) (s .step .result) (r .row-at .result) (v .row-value .result)
-    (s .step .ensures) (r .row-at .ensures) (v .row-value .ensures) (sym (o .is-over .ensures) ∙ e .if1 .left) (d .if2 .left) (c .before .if3 .taken)))
+    (s .step .ensures) (r .row-at .ensures) (v .row-value .ensures) (sym (o .is-over .ensures) ∙ e .if1 .left) (d .if2 .left) (c .if3 .taken)))
 
 loop-less-2 : tie.Need-loop-less-2 Inv-loop μ-loop
-loop-less-2 c = omega (arith, c .before .before .before .before .before .before .before .loop-test .taken)
+loop-less-2 c = omega (arith, c .before .before .before .before .before .before .before .before .loop-test .taken)
 
 loop-again-2 : tie.Need-loop-again-2 Inv-loop μ-loop
 loop-again-2 c =
@@ -103,7 +105,7 @@ loop-again-2 c =
     let o = e .before in
     let v = o .before in
     let r = v .before in
-    let s = r .before in
+    let s = r .before .before in
     let i = s .before in
     let l = i .before .loop in
     let a = i .before .before .before .before .before .args in
