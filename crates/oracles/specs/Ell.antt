@@ -57,9 +57,10 @@ ell-updateOf e strategy grad beta b =
     let a = calcOf strategy (e .helper) beta tsq in
     let p = a .params in
     pick (is-tiny omega) (ell-said e NoEffect, record { mq = b .mq; xc = b .xc; grad-t = gt })
-    (pick (not (is-success (a .status))) (ell-said (with-tsq e (e .kappa) tsq) (a .status), record { mq = b .mq; xc = b .xc; grad-t = gt })
-    (ell-said (with-tsq e (e .kappa ⊗ p .delta) tsq) (a .status),
-    record { mq = rank-one n (p .sigma ⊘ omega) gt (b .mq); xc = centreOf (b .xc) (p .rho ⊘ omega) gt; grad-t = gt }))
+    (pick (not (is-success (a .status))) (ell-said (with-tsq e (e .kappa) tsq) (a .status), record { mq = b .mq; xc = b .xc; grad-t = gt }) (
+      ell-said (with-tsq e (e .kappa ⊗ p .delta) tsq) (a .status),
+      record { mq = rank-one n (p .sigma ⊘ omega) gt (b .mq); xc = centreOf (b .xc) (p .rho ⊘ omega) gt; grad-t = gt },
+    ))
 
 -- the lengths that n says
 abbrev pub ell-fits : ℕ → List Float → EllBuffers → Bool

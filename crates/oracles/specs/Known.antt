@@ -99,8 +99,20 @@ table = 1ᶠ ∷ 0ᶠ ∷ 1ᶠ ∷ 1ᶠ ∷ 0ᶠ ∷ 1ᶠ ∷ []
 
 abbrev oracle : LowpassOracle
 oracle = record {
-  «more_alt» = true; idx1 = negsuc 0; nwpass = pos 1; nwstop = pos 2; «lp_sq» = 1ᶠ; «up_sq» = 2ᶠ; «sp_sq» = ofBits binary64 0x4010_0000_0000_0000;
-  idx2 = pos 0; idx3 = pos 1; fmax = −∞; kmax = none; rr1 = fresh (pos 0) (pos 1); rr2 = fresh (pos 1) (pos 2); rr3 = fresh (pos 2) (pos 3);
+  «more_alt» = true;
+  idx1 = negsuc 0;
+  nwpass = pos 1;
+  nwstop = pos 2;
+  «lp_sq» = 1ᶠ;
+  «up_sq» = 2ᶠ;
+  «sp_sq» = ofBits binary64 0x4010_0000_0000_0000;
+  idx2 = pos 0;
+  idx3 = pos 1;
+  fmax = −∞;
+  kmax = none;
+  rr1 = fresh (pos 0) (pos 1);
+  rr2 = fresh (pos 1) (pos 2);
+  rr3 = fresh (pos 2) (pos 3);
 }
 
 -- a verdict's words: 4 is feasible, else the group, the row and the side where it has them, and the betas

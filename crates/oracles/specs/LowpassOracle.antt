@@ -38,22 +38,58 @@ abbrev pub −1ᶠ : Float
 -- after the pass scan: more_alt is set, and idx1 takes cur
 abbrev pub after-pass : LowpassOracle → ℤ → RoundRobin → LowpassOracle
 after-pass o last rr = record {
-  «more_alt» = true; idx1 = last; nwpass = o .nwpass; nwstop = o .nwstop; «lp_sq» = o .«lp_sq»; «up_sq» = o .«up_sq»; «sp_sq» = o .«sp_sq»;
-  idx2 = o .idx2; idx3 = o .idx3; fmax = o .fmax; kmax = o .kmax; rr1 = rr; rr2 = o .rr2; rr3 = o .rr3;
+  «more_alt» = true;
+  idx1 = last;
+  nwpass = o .nwpass;
+  nwstop = o .nwstop;
+  «lp_sq» = o .«lp_sq»;
+  «up_sq» = o .«up_sq»;
+  «sp_sq» = o .«sp_sq»;
+  idx2 = o .idx2;
+  idx3 = o .idx3;
+  fmax = o .fmax;
+  kmax = o .kmax;
+  rr1 = rr;
+  rr2 = o .rr2;
+  rr3 = o .rr3;
 }
 
 -- after the stop scan
 abbrev pub after-stop : LowpassOracle → ℤ → RoundRobin → Float → ℤ → LowpassOracle
 after-stop o last rr fmax kmax = record {
-  «more_alt» = o .«more_alt»; idx1 = o .idx1; nwpass = o .nwpass; nwstop = o .nwstop; «lp_sq» = o .«lp_sq»; «up_sq» = o .«up_sq»; «sp_sq» = o .«sp_sq»;
-  idx2 = o .idx2; idx3 = last; fmax = fmax; kmax = kmax; rr1 = o .rr1; rr2 = o .rr2; rr3 = rr;
+  «more_alt» = o .«more_alt»;
+  idx1 = o .idx1;
+  nwpass = o .nwpass;
+  nwstop = o .nwstop;
+  «lp_sq» = o .«lp_sq»;
+  «up_sq» = o .«up_sq»;
+  «sp_sq» = o .«sp_sq»;
+  idx2 = o .idx2;
+  idx3 = last;
+  fmax = fmax;
+  kmax = kmax;
+  rr1 = o .rr1;
+  rr2 = o .rr2;
+  rr3 = rr;
 }
 
 -- after the middle scan
 abbrev pub after-middle : LowpassOracle → ℤ → RoundRobin → Bool → LowpassOracle
 after-middle o last rr more-alt = record {
-  «more_alt» = more-alt; idx1 = o .idx1; nwpass = o .nwpass; nwstop = o .nwstop; «lp_sq» = o .«lp_sq»; «up_sq» = o .«up_sq»; «sp_sq» = o .«sp_sq»;
-  idx2 = last; idx3 = o .idx3; fmax = o .fmax; kmax = o .kmax; rr1 = o .rr1; rr2 = rr; rr3 = o .rr3;
+  «more_alt» = more-alt;
+  idx1 = o .idx1;
+  nwpass = o .nwpass;
+  nwstop = o .nwstop;
+  «lp_sq» = o .«lp_sq»;
+  «up_sq» = o .«up_sq»;
+  «sp_sq» = o .«sp_sq»;
+  idx2 = last;
+  idx3 = o .idx3;
+  fmax = o .fmax;
+  kmax = o .kmax;
+  rr1 = o .rr1;
+  rr2 = rr;
+  rr3 = o .rr3;
 }
 
 -- the last test: x[0] below zero, with the gradient −1, 0, .. 0
@@ -118,8 +154,20 @@ assess-feas-answer o n rows table x grad =
 -- the oracle with the offered sp_sq
 abbrev pub offered : LowpassOracle → Float → LowpassOracle
 offered o gamma = record {
-  «more_alt» = o .«more_alt»; idx1 = o .idx1; nwpass = o .nwpass; nwstop = o .nwstop; «lp_sq» = o .«lp_sq»; «up_sq» = o .«up_sq»; «sp_sq» = gamma;
-  idx2 = o .idx2; idx3 = o .idx3; fmax = o .fmax; kmax = o .kmax; rr1 = o .rr1; rr2 = o .rr2; rr3 = o .rr3;
+  «more_alt» = o .«more_alt»;
+  idx1 = o .idx1;
+  nwpass = o .nwpass;
+  nwstop = o .nwstop;
+  «lp_sq» = o .«lp_sq»;
+  «up_sq» = o .«up_sq»;
+  «sp_sq» = gamma;
+  idx2 = o .idx2;
+  idx3 = o .idx3;
+  fmax = o .fmax;
+  kmax = o .kmax;
+  rr1 = o .rr1;
+  rr2 = o .rr2;
+  rr3 = o .rr3;
 }
 
 -- a feasible point's answer: the kmax row cuts with (0, fmax) and the caller's number is fmax; refusal 6, and the oracle as it came, where no stop row compares

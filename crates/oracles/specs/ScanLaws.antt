@@ -7,7 +7,6 @@ use Prim.Native.Nat.{ℕ, zero, suc, _≤_, _<_, _+_, _-_}
 use native.Mathlib.Nat.{eq-or-lt-of-le}
 use native.Mathlib.Decide.{decLt}
 use native.Mathlib.Omega.{arith}
-
 use lib.IntN.{ℤ, pos, predℤ, natAbs, _-ℤ_}
 use lib.Signed.{ltZ}
 use lib.Ieee.{Float, lt, isNan}

@@ -333,14 +333,7 @@ impl LowpassOracle {
         }
     }
 
-    fn assess(
-        self,
-        n: usize,
-        rows: usize,
-        table: &[f64],
-        x: &[f64],
-        grad: &mut [f64],
-    ) -> Assessed
+    fn assess(self, n: usize, rows: usize, table: &[f64], x: &[f64], grad: &mut [f64]) -> Assessed
         requires { ⌜ Scannable n rows (now table) (now x) (self .rr1) × Scannable n rows (now table) (now x) (self .rr3) × Scannable n rows (now table) (now x) (self .rr2) × (length (now grad) ≡ n) ⌝ }
         ensures { λ r. ⌜ (r, now (grad .exit)) ≡ assessOf self n (now (table .entry)) (now (x .entry)) (now (grad .entry)) ⌝ }
     {

@@ -112,7 +112,14 @@ fn band_rows(rr: RoundRobin) -> usize
     (rr.hi - rr.lo) as usize
 }
 
-fn scan_rows(n: usize, table: &[f64], x: &[f64], start: RoundRobin, lower: f64, upper: Upper) -> Scan
+fn scan_rows(
+    n: usize,
+    table: &[f64],
+    x: &[f64],
+    start: RoundRobin,
+    lower: f64,
+    upper: Upper,
+) -> Scan
     requires { ⌜ Ready n (now table) (now x) start ⌝ }
     ensures { λ r. ⌜ r ≡ scanOf n (now (table .entry)) (now (x .entry)) start lower upper ⌝ }
 {
@@ -122,22 +129,14 @@ fn scan_rows(n: usize, table: &[f64], x: &[f64], start: RoundRobin, lower: f64, 
     let mut left = band_rows(start);
     while left > 0 {
         left -= 1;
-        let next = rr.step();
-        rr = next;
+        rr = rr.step();
         let cur = rr.cur;
         let row = row_at(rr);
         let value = row_value(n, table, x, row);
-        if is_over(upper, value) {
+        let over = is_over(upper, value);
+        if over | (value < lower) {
             return Scan {
-                viol: Violation::Broken(row, value, true),
-                fmax: fmax,
-                kmax: kmax,
-                last: cur,
-            };
-        }
-        if value < lower {
-            return Scan {
-                viol: Violation::Broken(row, value, false),
+                viol: Violation::Broken(row, value, over),
                 fmax: fmax,
                 kmax: kmax,
                 last: cur,
@@ -167,7 +166,15 @@ fn scan_refused(rr: RoundRobin, why: Refusal) -> ScanEnd
 }
 
 // `scan_band` with the cursor by value.
-fn scan_by_value(n: usize, rows: usize, table: &[f64], x: &[f64], rr: RoundRobin, lower: f64, upper: Upper) -> ScanEnd
+fn scan_by_value(
+    n: usize,
+    rows: usize,
+    table: &[f64],
+    x: &[f64],
+    rr: RoundRobin,
+    lower: f64,
+    upper: Upper,
+) -> ScanEnd
     ensures { λ r. ⌜ (r .answer, r .cursor) ≡ scan-band-answer n rows (now (table .entry)) (now (x .entry)) rr lower upper ⌝ }
 {
     if !is_dimension(n) {
@@ -183,12 +190,27 @@ fn scan_by_value(n: usize, rows: usize, table: &[f64], x: &[f64], rr: RoundRobin
         return scan_refused(rr, Refusal::Cursor);
     }
     let scan = scan_rows(n, table, x, rr, lower, upper);
-    let cursor = RoundRobin { cur: scan.last, lo: rr.lo, hi: rr.hi };
-    ScanEnd { answer: ScanAnswer::Scanned(scan), cursor: cursor }
+    let cursor = RoundRobin {
+        cur: scan.last,
+        lo: rr.lo,
+        hi: rr.hi,
+    };
+    ScanEnd {
+        answer: ScanAnswer::Scanned(scan),
+        cursor: cursor,
+    }
 }
 
 // The cursor is lent and moved. A thin form over the one by value.
-pub fn scan_band(n: usize, rows: usize, table: &[f64], x: &[f64], rr: &mut RoundRobin, lower: f64, upper: Upper) -> ScanAnswer
+pub fn scan_band(
+    n: usize,
+    rows: usize,
+    table: &[f64],
+    x: &[f64],
+    rr: &mut RoundRobin,
+    lower: f64,
+    upper: Upper,
+) -> ScanAnswer
     ensures { λ r. ⌜ (r, now (rr .exit)) ≡ scan-band-answer n rows (now (table .entry)) (now (x .entry)) (now (rr .entry)) lower upper ⌝ }
 {
     let c = *rr;
@@ -198,16 +220,35 @@ pub fn scan_band(n: usize, rows: usize, table: &[f64], x: &[f64], rr: &mut Round
 }
 
 // Lends a local cursor to `scan_band`, so that its callers have plain parameters.
-fn scan_lent(n: usize, rows: usize, table: &[f64], x: &[f64], start: RoundRobin, lower: f64, upper: Upper) -> ScanEnd
+fn scan_lent(
+    n: usize,
+    rows: usize,
+    table: &[f64],
+    x: &[f64],
+    start: RoundRobin,
+    lower: f64,
+    upper: Upper,
+) -> ScanEnd
     ensures { λ r. ⌜ (r .answer, r .cursor) ≡ scan-band-answer n rows (now (table .entry)) (now (x .entry)) start lower upper ⌝ }
 {
     let mut c = start;
     let answer = scan_band(n, rows, table, x, &mut c, lower, upper);
-    ScanEnd { answer: answer, cursor: c }
+    ScanEnd {
+        answer: answer,
+        cursor: c,
+    }
 }
 
 // `scan_band` where nothing is left to refuse.
-pub(crate) fn scan_ready(n: usize, rows: usize, table: &[f64], x: &[f64], start: RoundRobin, lower: f64, upper: Upper) -> Swept
+pub(crate) fn scan_ready(
+    n: usize,
+    rows: usize,
+    table: &[f64],
+    x: &[f64],
+    start: RoundRobin,
+    lower: f64,
+    upper: Upper,
+) -> Swept
     requires { ⌜ Scannable n rows (now table) (now x) start ⌝ }
     ensures { λ r. ⌜ (r .scan ≡ scanOf n (now (table .entry)) (now (x .entry)) start lower upper) × (r .cursor ≡ moved start (r .scan .last)) ⌝ }
 {
@@ -215,9 +256,17 @@ pub(crate) fn scan_ready(n: usize, rows: usize, table: &[f64], x: &[f64], start:
     let cursor = end.cursor;
     let answer = end.answer;
     match answer {
-        ScanAnswer::Scanned(scan) => Swept { scan: scan, cursor: cursor },
+        ScanAnswer::Scanned(scan) => Swept {
+            scan: scan,
+            cursor: cursor,
+        },
         ScanAnswer::Refused(_) => Swept {
-            scan: Scan { viol: Violation::Nothing, fmax: 0.0, kmax: -1, last: -1 },
+            scan: Scan {
+                viol: Violation::Nothing,
+                fmax: 0.0,
+                kmax: -1,
+                last: -1,
+            },
             cursor: cursor,
         },
     }

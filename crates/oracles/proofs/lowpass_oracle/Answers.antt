@@ -102,9 +102,12 @@ module _ (o : LowpassOracle) (n rows : ℕ) (table x grad : List Float) where
 
       pub all-scannable : Scannable n rows table x (o .rr1) × Scannable n rows table x (o .rr3) × Scannable n rows table x (o .rr2) × (length grad ≡ n)
       all-scannable =
-          let F = fit o rows b c in
-          (spanned (o .rr1) _ _ (F .pass-rows) (F .pass-high), spanned (o .rr3) _ _ (F .stop-rows) (omega arith), spanned (o .rr2) _ _ (F .middle-rows) (F .middle-high),
-          eqb-true (length grad) n (and-parts (table-fits n rows table x) (eqb (length grad) n) f .1))
+          let F = fit o rows b c in (
+            spanned (o .rr1) _ _ (F .pass-rows) (F .pass-high),
+            spanned (o .rr3) _ _ (F .stop-rows) (omega arith),
+            spanned (o .rr2) _ _ (F .middle-rows) (F .middle-high),
+            eqb-true (length grad) n (and-parts (table-fits n rows table x) (eqb (length grad) n) f .1),
+          )
 
   -- a feasible point was accepted
   feasible-accepted : assess-feas-answer o n rows table x grad .0 .verdict ≡ Feasible → is-accepted o n rows table x grad ≡ true
@@ -127,9 +130,12 @@ module _ (o : LowpassOracle) (n rows : ℕ) (table x grad : List Float) where
       let same = ap (λ (p : Answer). p .0) e in
       let ok = feasible-accepted (ap (λ (z : Assessed). z .verdict) (sym same) ∙ v) in
       let A = accepted-of o n rows table x grad ok in
-      let rule = with-rule r grad′ e .1 ok in
-      (dimension-least n (A .dimension), dimension-most n (A .dimension), kmax-fits A (rule .peak (sym (rule .verdict-is) ∙ ap judgement v)),
-      ap (λ (p : Answer). length (p .1)) e ∙ gradient-length o n rows table x grad ok)
+      let rule = with-rule r grad′ e .1 ok in (
+        dimension-least n (A .dimension),
+        dimension-most n (A .dimension),
+        kmax-fits A (rule .peak (sym (rule .verdict-is) ∙ ap judgement v)),
+        ap (λ (p : Answer). length (p .1)) e ∙ gradient-length o n rows table x grad ok,
+      )
     where
       kmax-fits : Accepted o n rows table x grad → Peak (asked o (o .«sp_sq») n rows table x) (r .oracle .fmax) (r .oracle .kmax)
           → ltZ (r .oracle .kmax) (pos 0) ≡ false → natAbs (r .oracle .kmax) * n + n ≤ length table
@@ -143,7 +149,7 @@ module _ (o : LowpassOracle) (gamma : Float) (n rows : ℕ) (table x grad : List
       → (_≡_ {A = AssessedOptim × List Float} (s, g) (assess-optim-answer o gamma n rows table x grad)) × (is-accepted o n rows table x grad ≡ true → OptimRule (asked o gamma n rows table x) s)
   optim-as v ev s g q =
       let t : _≡_ {A = AssessedOptim × List Float} (s, g) (assess-optim-answer o gamma n rows table x grad) =
-          subst (λ (z : Assessed × List Float). _≡_ {A = AssessedOptim × List Float} (s, g) (optim-of o gamma n table (z .0 .oracle) (z .0 .verdict) (z .1))) e (rw ev q)
+      subst (λ (z : Assessed × List Float). _≡_ {A = AssessedOptim × List Float} (s, g) (optim-of o gamma n table (z .0 .oracle) (z .0 .verdict) (z .1))) e (rw ev q)
       in
       (t, λ h. subst (OptimRule (asked o gamma n rows table x)) (sym (ap (λ (p : AssessedOptim × List Float). p .0) t)) (optim-rule o gamma n rows table x grad h))
 

@@ -110,7 +110,7 @@ module _ (o : LowpassOracle) (n : ℕ) (table x grad : List Float) (s : Scan) (r
     stop-passes fk e eo p q =
         let u = ap (λ (z : Scan). after-stop o (z .last) (moved (o .rr3) (z .last)) (z .fmax) (z .kmax)) es in
         let w : after-stop o (s .last) (moved (o .rr3) (s .last)) (s .fmax) (s .kmax) ≡ after-stop o (read (s .last)) rr (s .fmax) (read (s .kmax)) =
-            rw (er, toZ-ofZ fl, toZ-ofZ fk)
+        rw (er, toZ-ofZ fl, toZ-ofZ fk)
         in
         goes-on _ _ _ p (found n table x (o .rr3) 0ᶠ (At (o .«sp_sq»)) s rr es er fl e)
         (q ∙ ap (λ (z : LowpassOracle). assess-middle z n table x grad) (eo ∙ sym w ∙ u))

@@ -1,6 +1,6 @@
 -- The turn of the scan's loop: where the cursor goes, and what each way through leaves to be found. Assumes nothing.
 use mathlib.Core.Path.{_≡_, refl, sym, ap, _∙_, subst}
-use mathlib.Core.Bool.{Bool, true, false}
+use mathlib.Core.Bool.{Bool, true, false, _||_}
 use mathlib.Core.List.{List}
 use Prim.Native.Nat.{ℕ, zero, suc, _≤_, _<_, _+_, _*_, _-_}
 use native.Mathlib.Nat.{suc-mul, le-trans, le-of-eq, mul-le-mul-right}
@@ -13,9 +13,9 @@ use lib.Ieee.{Float, lt}
 use mir.Syntax.{w32}
 use mir.Val.{SFits}
 use borrow.Author.Tests.{eqb-true, eqb-false}
-use Rattle.numbers.specs.Pick.{pick}
+use Rattle.numbers.specs.Pick.{pick, hit, skip}
 use Rattle.oracles.specs.RoundRobin.{advanced, Legal}
-use Rattle.oracles.specs.RoundRobinLaws.{canon, legal-canon, adv-next, adv-wrap, band-is}
+use Rattle.oracles.specs.RoundRobinLaws.{or-parts, canon, legal-canon, adv-next, adv-wrap, band-is}
 use Rattle.oracles.specs.Scan.{−∞, none, valueOf, isOver, scanFrom, scanOf, Ready}
 use Rattle.oracles.specs.declared.round_robin.RoundRobin.{RoundRobin}
 use Rattle.oracles.specs.declared.scan.Upper.{Upper}
@@ -117,18 +117,24 @@ module _ (n : ℕ) (table x : List Float) (lower : Float) (upper : Upper) (left 
         e : left ≡ suc (left - 1)
         e = omega arith
 
-    pub turn-over : isOver upper v ≡ true → record { viol = Broken i v true; fmax = fmax; kmax = k; last = d .cur } ≡ whole
-    unfolding pick
-    turn-over o = rw o at opened
+    module _ {over : Bool} (eo : over ≡ isOver upper v) where
+      pub turn-broken : (over || lt v lower) ≡ true → record { viol = Broken i v over; fmax = fmax; kmax = k; last = d .cur } ≡ whole
+      turn-broken h = go over eo h
+        where
+          go : (t : Bool) → t ≡ isOver upper v → (t || lt v lower) ≡ true → record { viol = Broken i v t; fmax = fmax; kmax = k; last = d .cur } ≡ whole
+          go true e h = hit _ _ _ _ (sym e) refl ∙ opened
+          go false e h = skip _ _ _ _ (sym e) (hit _ _ _ _ h refl) ∙ opened
 
-    pub turn-under : isOver upper v ≡ false → lt v lower ≡ true → record { viol = Broken i v false; fmax = fmax; kmax = k; last = d .cur } ≡ whole
-    unfolding pick
-    turn-under o u = rw (o, u) at opened
+      passed : (over || lt v lower) ≡ false
+          → scanFrom n table x lower upper (left - 1) d (pick (lt fmax v) v fmax) (pick (lt fmax v) (d .cur) k) ≡ whole
+      passed h =
+          let p = or-parts over (lt v lower) h in
+          skip _ _ _ _ (sym eo ∙ p .0) (skip _ _ _ _ (p .1) refl) ∙ opened
 
-    pub turn-more : isOver upper v ≡ false → lt v lower ≡ false → lt fmax v ≡ true → scanFrom n table x lower upper (left - 1) d v (d .cur) ≡ whole
-    unfolding pick
-    turn-more o u h = rw (o, u, h) at opened
+      pub turn-more : (over || lt v lower) ≡ false → lt fmax v ≡ true → scanFrom n table x lower upper (left - 1) d v (d .cur) ≡ whole
+      unfolding pick
+      turn-more h t = rw t at (passed h)
 
-    pub turn-same : isOver upper v ≡ false → lt v lower ≡ false → lt fmax v ≡ false → scanFrom n table x lower upper (left - 1) d fmax k ≡ whole
-    unfolding pick
-    turn-same o u h = rw (o, u, h) at opened
+      pub turn-same : (over || lt v lower) ≡ false → lt fmax v ≡ false → scanFrom n table x lower upper (left - 1) d fmax k ≡ whole
+      unfolding pick
+      turn-same h t = rw t at (passed h)

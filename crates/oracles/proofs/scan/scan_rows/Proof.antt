@@ -1,6 +1,5 @@
 -- `oracles::scan::scan_rows` meets its contract: at each turn what is left computes the answer. Assumes nothing.
-use mathlib.Core.Path.{_≡_, refl, sym, ap, _∙_}
-use Prim.Native.Nat.{ℕ, _≤_, _<_, _-_}
+use mathlib.Core.Path.{_≡_}
 use native.Mathlib.Omega.{arith}
 use borrow.Author.Needs.{needs}
 use mir.Syntax.{w32}
@@ -9,7 +8,7 @@ use mir.Facts.{toZ-ofZ}
 use lib.Ieee
 use Rattle.oracles.specs.Scan.{scanFrom, scanOf}
 use Rattle.oracles.proofs.Signed.{cur-fits}
-use Rattle.oracles.proofs.scan.Turn.{Going, starts, at-nonNeg, at-fits, at-within, goes-on, clear, turn-over, turn-under, turn-more, turn-same}
+use Rattle.oracles.proofs.scan.Turn.{Going, starts, at-nonNeg, at-fits, at-within, goes-on, clear, turn-broken, turn-more, turn-same}
 use Rattle.oracles.proofs.scan.scan_rows.Statement.{statement}
 use Rattle.oracles.proofs.scan.scan_rows.Tie as tie
 
@@ -59,11 +58,14 @@ returns c =
     let l = i .before .loop in
     let a = i .before .before .before .before .before .args in
     rw (toZ-ofZ (at-fits (l .inv .0) (i .loop-test .taken) (s .step .result) (s .step .ensures)))
-    (turn-over (a .n) (a .table .now) (a .x .now) (a .lower) (a .upper) (l .left) (l .rr) (l .fmax) (toZ w32 (l .kmax)) _ (l .inv .1) (i .loop-test .taken) (s .step .result) (r .row-at .result) (v .row-value .result)
-    (s .step .ensures) (r .row-at .ensures) (v .row-value .ensures) (sym (o .is-over .ensures) ∙ c .if1 .taken))
+    (turn-broken (a .n) (a .table .now) (a .x .now) (a .lower) (a .upper) (l .left) (l .rr) (l .fmax) (toZ w32 (l .kmax)) _ (l .inv .1) (i .loop-test .taken) (s .step .result) (r .row-at .result) (v .row-value .result)
+    (s .step .ensures) (r .row-at .ensures) (v .row-value .ensures) (o .is-over .ensures) (c .if1 .taken))
 
-returns-2 : tie.Need-returns-2 Inv-loop μ-loop
-returns-2 c =
+loop-less : tie.Need-loop-less Inv-loop μ-loop
+loop-less c = omega (arith, c .before .before .before .before .before .before .before .loop-test .taken)
+
+loop-again : tie.Need-loop-again Inv-loop μ-loop
+loop-again c =
     let e = c .before in
     let o = e .before in
     let v = o .before in
@@ -71,50 +73,33 @@ returns-2 c =
     let s = r .before .before in
     let i = s .before in
     let l = i .before .loop in
-    let a = i .before .before .before .before .before .args in
-    rw (toZ-ofZ (at-fits (l .inv .0) (i .loop-test .taken) (s .step .result) (s .step .ensures)))
-    (turn-under (a .n) (a .table .now) (a .x .now) (a .lower) (a .upper) (l .left) (l .rr) (l .fmax) (toZ w32 (l .kmax)) _ (l .inv .1) (i .loop-test .taken) (s .step .result) (r .row-at .result) (v .row-value .result)
-    (s .step .ensures) (r .row-at .ensures) (v .row-value .ensures) (sym (o .is-over .ensures) ∙ e .if1 .left) (c .if2 .taken))
-
-loop-less : tie.Need-loop-less Inv-loop μ-loop
-loop-less c = omega (arith, c .before .before .before .before .before .before .before .before .loop-test .taken)
-
-loop-again : tie.Need-loop-again Inv-loop μ-loop
-loop-again c =
-    let d = c .before in
-    let e = d .before in
-    let o = e .before in
-    let v = o .before in
-    let r = v .before in
-    let s = r .before .before in
-    let i = s .before in
-    let l = i .before .loop in
-    let a = i .before .before .before .before .before .args in
-    (goes-on (l .inv .0) (i .loop-test .taken) (s .step .result) (s .step .ensures),
-    rw (toZ-ofZ (at-fits (l .inv .0) (i .loop-test .taken) (s .step .result) (s .step .ensures)))
-    (turn-more (a .n) (a .table .now) (a .x .now) (a .lower) (a .upper) (l .left) (l .rr) (l .fmax) (toZ w32 (l .kmax)) _ (l .inv .1) (i .loop-test .taken) (s .step .result) (r .row-at .result) (v .row-value .result)
-    (s .step .ensures) (r .row-at .ensures) (v .row-value .ensures) (sym (o .is-over .ensures) ∙ e .if1 .left) (d .if2 .left) (c .if3 .taken)))
+    let a = i .before .before .before .before .before .args in (
+      goes-on (l .inv .0) (i .loop-test .taken) (s .step .result) (s .step .ensures),
+      rw (toZ-ofZ (at-fits (l .inv .0) (i .loop-test .taken) (s .step .result) (s .step .ensures)))
+          (turn-more (a .n) (a .table .now) (a .x .now) (a .lower) (a .upper) (l .left) (l .rr) (l .fmax) (toZ w32 (l .kmax)) _ (l .inv .1) (i .loop-test .taken) (s .step .result) (r .row-at .result) (v .row-value .result)
+          (s .step .ensures) (r .row-at .ensures) (v .row-value .ensures) (o .is-over .ensures) (e .if1 .left) (c .if2 .taken)),
+    )
 
 loop-less-2 : tie.Need-loop-less-2 Inv-loop μ-loop
-loop-less-2 c = omega (arith, c .before .before .before .before .before .before .before .before .loop-test .taken)
+loop-less-2 c = omega (arith, c .before .before .before .before .before .before .before .loop-test .taken)
 
 loop-again-2 : tie.Need-loop-again-2 Inv-loop μ-loop
 loop-again-2 c =
-    let d = c .before in
-    let e = d .before in
+    let e = c .before in
     let o = e .before in
     let v = o .before in
     let r = v .before in
     let s = r .before .before in
     let i = s .before in
     let l = i .before .loop in
-    let a = i .before .before .before .before .before .args in
-    (goes-on (l .inv .0) (i .loop-test .taken) (s .step .result) (s .step .ensures),
-    turn-same (a .n) (a .table .now) (a .x .now) (a .lower) (a .upper) (l .left) (l .rr) (l .fmax) (toZ w32 (l .kmax)) _ (l .inv .1) (i .loop-test .taken) (s .step .result) (r .row-at .result) (v .row-value .result)
-    (s .step .ensures) (r .row-at .ensures) (v .row-value .ensures) (sym (o .is-over .ensures) ∙ e .if1 .left) (d .if2 .left) (c .if3 .left))
+    let a = i .before .before .before .before .before .args in (
+      goes-on (l .inv .0) (i .loop-test .taken) (s .step .result) (s .step .ensures),
+      turn-same (a .n) (a .table .now) (a .x .now) (a .lower) (a .upper) (l .left) (l .rr) (l .fmax) (toZ w32 (l .kmax)) _ (l .inv .1) (i .loop-test .taken) (s .step .result) (r .row-at .result) (v .row-value .result)
+          (s .step .ensures) (r .row-at .ensures) (v .row-value .ensures) (o .is-over .ensures) (e .if1 .left) (c .if2 .left),
+    )
 
-returns-3 : tie.Need-returns-3 Inv-loop μ-loop
-returns-3 c =
+returns-2 : tie.Need-returns-2 Inv-loop μ-loop
+returns-2 c =
     let b = c .before in
     let l = b .before .loop in
     let a = b .before .before .before .before .before .args in
@@ -124,5 +109,5 @@ returns-3 c =
 pub scan-rows-spec : {M : Type 1} → statement M
 scan-rows-spec =
     tie.close
-    (tie.spec Inv-loop μ-loop band-rows-requires loop-holds sub-left step-requires row-at-requires row-value-requires is-over-requires returns returns-2
-    loop-less loop-again loop-less-2 loop-again-2 returns-3)
+    (tie.spec Inv-loop μ-loop band-rows-requires loop-holds sub-left step-requires row-at-requires row-value-requires is-over-requires returns
+    loop-less loop-again loop-less-2 loop-again-2 returns-2)

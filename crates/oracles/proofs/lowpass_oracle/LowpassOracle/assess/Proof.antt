@@ -22,10 +22,11 @@ assess-stop-requires : tie.Need-assess-stop-requires
 assess-stop-requires c κs =
     let p = c .before .before .before in
     let st = p .before .before .before .before .before .before .before .before .before in
-    let a = st .args in
-    (subst (λ (o : LowpassOracle). Scannable (a .n) (a .rows) (a .table .now) (a .x .now) (o .rr3)) (sym (p .after-pass .ensures)) (st .pre .1),
-    subst (λ (o : LowpassOracle). Scannable (a .n) (a .rows) (a .table .now) (a .x .now) (o .rr2)) (sym (p .after-pass .ensures)) (st .pre .2),
-    st .pre .3)
+    let a = st .args in (
+      subst (λ (o : LowpassOracle). Scannable (a .n) (a .rows) (a .table .now) (a .x .now) (o .rr3)) (sym (p .after-pass .ensures)) (st .pre .1),
+      subst (λ (o : LowpassOracle). Scannable (a .n) (a .rows) (a .table .now) (a .x .now) (o .rr2)) (sym (p .after-pass .ensures)) (st .pre .2),
+      st .pre .3,
+    )
 
 enum-known-viol : tie.Need-enum-known-viol
 enum-known-viol c = search needs
