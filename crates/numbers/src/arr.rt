@@ -130,6 +130,7 @@ pub fn copy_from(n: usize, dst: &mut [f64], src: &[f64]) -> Written
     Written::Done
 }
 
+// Zeros all over.
 pub fn fill_zero(out: &mut [f64])
     ensures { λ _. ⌜ now (out .exit) ≡ replicate (length (now (out .entry))) 0ᶠ ⌝ }
 {

@@ -41,9 +41,11 @@ rank-one n ratio gt mq = grid (λ r c. pick (leb c r) (low r c) (low c r)) n n
     low : ℕ → ℕ → Float
     low i j = at n mq i j ⊖ ratio ⊗ entry gt i ⊗ entry gt j
 
+-- with another kappa and tsq
 abbrev pub with-tsq : Ell → Float → Float → Ell
 with-tsq e kappa tsq = record { ndim = e .ndim; kappa = kappa; helper = e .helper; tsq = tsq }
 
+-- an answer that is a status
 abbrev pub ell-said : Ell → CutStatus → EllUpdate
 ell-said e status = record { ell = e; answer = Status status }
 

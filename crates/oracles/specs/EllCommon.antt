@@ -26,6 +26,7 @@ calcOf Q helper beta tsq = calc-single-or-parallel-q helper beta tsq
 abbrev pub is-tiny : Float → Bool
 is-tiny omega = le omega (ofBits binary64 0x0010_0000_0000_0000)
 
+-- only a success changes the ellipsoid
 abbrev pub is-success : CutStatus → Bool
 is-success Success = true
 is-success NoSoln = false

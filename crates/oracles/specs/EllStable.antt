@@ -1,4 +1,5 @@
--- The ellipsoid whose matrix is kept as factors L D Lᵀ (ell_stable.rs): D on the diagonal, L[i, j] above it at (j, i), scratch below. Definitions only.
+-- The ellipsoid by factors (ell_stable.rs): the inverse of its matrix is L D Lᵀ; the diagonal holds D's inverse, L[i, j] stands above it at (j, i), scratch below.
+-- Definitions only.
 use Prim.Native.Nat.{ℕ, zero, suc, _+_, _-_, _*_}
 use mathlib.Core.Bool.{Bool, not, _&&_}
 use mathlib.Core.List.{List, [], _∷_}
@@ -37,7 +38,7 @@ pub record StableBuffers : Type 0 where
   pub gg-t : List Float
   pub g-t : List Float
 
--- ---- the factors at work, for a matrix mq with rows of n and a gradient g
+-- ---- the parts of an update, for factors mq with rows of n and a gradient g
 
 -- entry l of the gradient when the columns below j have been taken from it; entry l of L⁻¹g where j is l
 unfoldable pub forward : ℕ → List Float → List Float → ℕ → ℕ → Float
@@ -94,9 +95,11 @@ updated n mq g t0 = grid (λ r c. pick (ltb c r) (at n mq c r ⊗ inv-ml-gOf n m
 
 -- ---- the update
 
+-- with another kappa and tsq
 abbrev pub with-tsq : EllStable → Float → Float → EllStable
 with-tsq e kappa tsq = record { ndim = e .ndim; kappa = kappa; helper = e .helper; tsq = tsq }
 
+-- an answer that is a status
 abbrev pub stable-said : EllStable → CutStatus → EllStableUpdate
 stable-said e status = record { ell = e; answer = Status status }
 
@@ -125,6 +128,7 @@ succeeded n grad b omega rho sigma =
       g-t = c .inv-ml-g;
     }
 
+-- the update itself
 unfoldable pub stable-updateOf : EllStable → CutStrategy → List Float → CutChoice → StableBuffers → EllStableUpdate × StableBuffers
 stable-updateOf e strategy grad beta b =
     let n = e .ndim in

@@ -1,10 +1,10 @@
 -- Document 01, "Known values (P: proved)": all of them, of both layers, as one table with a single proof.
 -- A row has what a definition gives and what the document says, each as words: a float as its bits, an answer as its numbers in order.
-use Prim.Native.Nat.{ℕ}
+use Prim.Native.Nat.{ℕ, _-_}
 use mathlib.Core.Path.{_≡_, refl}
 use mathlib.Core.Bool.{Bool, true, cond}
 use mathlib.Core.List.{List, [], _∷_, _++_, map}
-use lib.IntN.{pos, negsuc, natAbs}
+use lib.IntN.{ℤ, pos, negsuc}
 use lib.Ieee.{Float, binary64, add, neg, lt, sub, mul, div, le, ofInt, ofBits, toBits}
 use Rattle.numbers.specs.Pick.{pick}
 use Rattle.numbers.specs.Sqrt.{isqrtTo, isqrt, rounded, sqrtOf}
@@ -15,7 +15,7 @@ use Rattle.numbers.specs.EllCalcCore.{core-new, core-parallel-bias-cut-fast, co
 use Rattle.numbers.specs.EllCalc.{made, calc-bias-cut, calc-bias-cut-q, calc-parallel-impl, calc-parallel-bias-cut}
 use Rattle.oracles.specs.RoundRobin.{fresh, advanced}
 use Rattle.oracles.specs.Scan.{−∞, none, valueOf, scanFrom, scanOf, band-beta}
-use Rattle.oracles.specs.LowpassOracle.{assess-sign, assess-middle, assess-stop, assessOf, assess-feas-answer}
+use Rattle.oracles.specs.LowpassOracle.{groupNumber, groupSide, assess-sign, assess-middle, assess-stop, assessOf, assess-feas-answer}
 use Rattle.oracles.specs.Matrix.{grid, total}
 use Rattle.oracles.specs.LdltMgr.{get-elem, taken, reduced, stored, stop-from, stopOf, filled, posOf, rowsOf, factorOf, order-tested, factor-answer, witness-tail, witnessOf, witness-answer, quad-term, quadOf, sym-quad-answer}
 use Rattle.oracles.specs.declared.ldlt_mgr.Factored.{Factored}
@@ -115,16 +115,21 @@ oracle = record {
   rr3 = fresh (pos 2) (pos 3);
 }
 
--- a verdict's words: 4 is feasible, else the group, the row and the side where it has them, and the betas
-abbrev group : Group → List ℕ
-group (Pass row over) = 0 ∷ row ∷ cond over 1 0 ∷ []
-group (Stop row over) = 1 ∷ row ∷ cond over 1 0 ∷ []
-group (Middle row) = 2 ∷ row ∷ []
-group Sign = 3 ∷ []
+-- a signed number as a word of 64 bits
+abbrev signed : ℤ → ℕ
+signed (pos n) = n
+signed (negsuc n) = 0xffff_ffff_ffff_ffff - n
+
+-- a verdict's words: 4 is feasible, else the group, its row if it has one, 1 for over and 0 for under, and the betas
+abbrev row : Group → List ℕ
+row (Pass i over) = i ∷ []
+row (Stop i over) = i ∷ []
+row (Middle i) = i ∷ []
+row Sign = []
 
 abbrev verdict : Verdict → List ℕ
 verdict Feasible = 4 ∷ []
-verdict (Cut g beta) = group g ++ chosen beta (λ beta0. floats (beta0 ∷ [])) (λ beta0 beta1. floats (beta0 ∷ beta1 ∷ []))
+verdict (Cut g beta) = groupNumber g ∷ row g ++ cond (groupSide g) 1 0 ∷ chosen beta (λ beta0. floats (beta0 ∷ [])) (λ beta0 beta1. floats (beta0 ∷ beta1 ∷ []))
 verdict (NotAssessed why) = []
 
 abbrev assess : Float → Float → Assessed
@@ -161,11 +166,12 @@ rows =
     -- sym_quad of it is −3, of the identity 5
     record { got = number (sym-quad-answer 2 (posOf 2) wit mat); expected = 0xc008_0000_0000_0000 ∷ [] } ∷
     record { got = number (sym-quad-answer 2 (posOf 2) wit (diagOf 2 (1ᶠ ∷ 1ᶠ ∷ []))); expected = 0x4014_0000_0000_0000 ∷ [] } ∷
-    -- the 1 by 1 zero: value −0
+    -- the 1 by 1 zero stops at (0, 1), with the value −0
+    record { got = place (factor-answer 1 (0ᶠ ∷ []) (0ᶠ ∷ []) .0); expected = 0 ∷ 1 ∷ [] } ∷
     record { got = number (witness-answer 1 (posOf 1) (factor-answer 1 (0ᶠ ∷ []) (0ᶠ ∷ []) .1) (0ᶠ ∷ []) .0); expected = 0x8000_0000_0000_0000 ∷ [] } ∷
     -- (1.5, 1) is feasible, with fmax 1 and kmax 2
     record { got = verdict (assess ³⁄₂ 1ᶠ .verdict); expected = 4 ∷ [] } ∷
-    record { got = toBits binary64 (assess ³⁄₂ 1ᶠ .oracle .fmax) ∷ natAbs (assess ³⁄₂ 1ᶠ .oracle .kmax) ∷ []; expected = 0x3ff0_0000_0000_0000 ∷ 2 ∷ [] } ∷
+    record { got = toBits binary64 (assess ³⁄₂ 1ᶠ .oracle .fmax) ∷ signed (assess ³⁄₂ 1ᶠ .oracle .kmax) ∷ []; expected = 0x3ff0_0000_0000_0000 ∷ 2 ∷ [] } ∷
     -- (3, 1): row 0 over, betas 1, 2
     record { got = verdict (assess 3ᶠ 1ᶠ .verdict); expected = 0 ∷ 0 ∷ 1 ∷ 0x3ff0_0000_0000_0000 ∷ 0x4000_0000_0000_0000 ∷ [] } ∷
     []

@@ -55,6 +55,7 @@ unfoldable pub stop-from : (ℕ → ℕ → Float) → ℕ → ℕ → ℕ
 stop-from A zero i = 0
 stop-from A (suc left) i = pick (stops (reduced A i i)) (suc i) (stop-from A left (suc i))
 
+-- the stop of all m rows
 unfoldable pub stopOf : (ℕ → ℕ → Float) → ℕ → ℕ
 stopOf A m = stop-from A m 0
 
@@ -70,6 +71,7 @@ posOf e = record { start = 0; end = e }
 unfoldable pub rowsOf : (ℕ → ℕ → Float) → ℕ → List Float → ℕ × List Float
 rowsOf A m storage = let e = stopOf A m in (e, filled A m storage (pick (eqb e 0) m e))
 
+-- definite where there is no stop
 unfoldable pub factorOf : (ℕ → ℕ → Float) → ℕ → List Float → Factored × List Float
 factorOf A m storage = let w = rowsOf A m storage in (pick (eqb (w .0) 0) Definite (Stopped (posOf (w .0))), w .1)
 
@@ -113,6 +115,7 @@ quad-term m wit mat end i =
     let s = total _⊕_ 0ᶠ (λ j. at m mat i (i + 1 + j) ⊗ entry wit (i + 1 + j)) (end - (i + 1)) in
     entry wit i ⊗ (at m mat i i ⊗ entry wit i ⊕ 2ᶠ ⊗ s)
 
+-- the sum over the rows start to end − 1
 unfoldable pub quadOf : ℕ → Pos → List Float → List Float → Float
 quadOf m pos wit mat = total _⊕_ 0ᶠ (λ k. quad-term m wit mat (pos .end) (pos .start + k)) (pos .end - pos .start)
 

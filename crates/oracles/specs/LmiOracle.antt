@@ -9,6 +9,7 @@ use Rattle.numbers.specs.F64.{_⊗_, 1ᶠ}
 use Rattle.numbers.specs.Pick.{pick}
 use Rattle.numbers.specs.Arr.{isDimension, tab}
 use Rattle.numbers.specs.declared.refusal.Refusal.the-variants.{Dimension, Length}
+use Rattle.numbers.specs.declared.cut.CutChoice.the-variants.{Single}
 use Rattle.oracles.specs.Matrix.{at}
 use Rattle.oracles.specs.LdltMgr.{isOrder, get-elem, rowsOf, posOf, witnessOf, quadOf}
 use Rattle.oracles.specs.declared.ldlt_mgr.Pos.{Pos}
@@ -37,7 +38,7 @@ lmi-assessOf m n mat-b mat-f xc b =
     let storage = w .1 in
     let wit = witnessOf m (posOf e) storage (b .wit) in
     pick (eqb e 0) (Feasible, record { storage = storage; wit = b .wit; grad = b .grad })
-    (Cut (posOf e) (neg (at m storage (e - 1) (e - 1))), record { storage = storage; wit = wit; grad = lmi-gradient m n (posOf e) wit mat-f })
+    (Cut (posOf e) (Single (neg (at m storage (e - 1) (e - 1)))), record { storage = storage; wit = wit; grad = lmi-gradient m n (posOf e) wit mat-f })
 
 -- the lengths that m and n say
 abbrev pub lmi-fits : ℕ → ℕ → List Float → List Float → List Float → LmiBuffers → Bool

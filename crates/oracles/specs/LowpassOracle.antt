@@ -33,6 +33,19 @@ use Rattle.oracles.specs.declared.lowpass_oracle.AssessedOptim.{Assessed
 abbrev pub −1ᶠ : Float
 −1ᶠ = ofBits binary64 0xbff0_0000_0000_0000
 
+-- the groups in the order in which they are tried, and whether a cut's value lies above its limit; middle rows and x[0] have only a lower one
+abbrev pub groupNumber : Group → ℕ
+groupNumber (Pass row over) = 0
+groupNumber (Stop row over) = 1
+groupNumber (Middle row) = 2
+groupNumber Sign = 3
+
+abbrev pub groupSide : Group → Bool
+groupSide (Pass row over) = over
+groupSide (Stop row over) = over
+groupSide (Middle row) = false
+groupSide Sign = false
+
 -- ---- the assessment of a point, with `grad` as it is left
 
 -- after the pass scan: more_alt is set, and idx1 takes cur

@@ -22,6 +22,7 @@ ghost use Rattle.oracles.specs.declared.ell_common.Update.the-variants.{
 ghost use Rattle.oracles.specs.Ell.{new-ell-answer, rank-one, with-tsq, ell-said, ell-updateOf, ell-update-answer};
 ghost use Rattle.oracles.specs.EllLaws.{row-lowered, all-lowered, row-mirrored, mirrored};
 
+// What is kept beside the matrix mq and the centre xc.
 pub struct Ell {
     ndim: usize,
     pub kappa: f64,
@@ -97,6 +98,7 @@ fn shrink(n: usize, mq: &mut [f64], ratio: f64, gt: &[f64])
 }
 
 impl Ell {
+    // The state beside a matrix and a centre of dimension n.
     pub fn new_with_matrix(n: usize, kappa: f64) -> NewEll
         ensures { λ r. ⌜ r ≡ new-ell-answer n kappa ⌝ }
     {
@@ -137,6 +139,7 @@ impl Ell {
         }
     }
 
+    // The update with nothing left to refuse.
     fn update(
         self,
         strategy: CutStrategy,
@@ -168,6 +171,7 @@ impl Ell {
         self.said(self.kappa * params.delta, tsq, status)
     }
 
+    // Cuts the ellipsoid by the half-space of `grad` and `beta`, or by the slab between two; grad_t is scratch.
     pub fn update_core(
         self,
         strategy: CutStrategy,

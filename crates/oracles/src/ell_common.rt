@@ -18,6 +18,7 @@ pub enum CutStrategy {
     Q,
 }
 
+// A status, where the call is not refused.
 pub enum Update {
     Status(CutStatus),
     Refused(Refusal),
@@ -33,6 +34,7 @@ pub(crate) fn is_tiny(omega: f64) -> bool
     omega <= MIN_POSITIVE
 }
 
+// Whether the update goes on.
 pub(crate) fn is_success(status: CutStatus) -> bool
     ensures { λ r. ⌜ r ≡ is-success status ⌝ }
 {
@@ -58,6 +60,7 @@ pub(crate) fn lengths_fit(n: usize, grad: usize, mq: usize, xc: usize) -> bool
 }
 
 impl CutStrategy {
+    // The calculator's answer.
     pub fn calc(self, helper: EllCalc, beta: CutChoice, tsq: f64) -> Answer
         ensures { λ r. ⌜ r ≡ calcOf self helper beta tsq ⌝ }
     {
@@ -69,6 +72,7 @@ impl CutStrategy {
     }
 }
 
+// xc − step × dir, entry by entry.
 pub(crate) fn move_centre(xc: &mut [f64], step: f64, dir: &[f64])
     requires { ⌜ length (now xc) ≡ length (now dir) ⌝ }
     ensures { λ _. ⌜ now (xc .exit) ≡ centreOf (now (xc .entry)) step (now (dir .entry)) ⌝ }

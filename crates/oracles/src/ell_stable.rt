@@ -1,4 +1,4 @@
-// The ellipsoid whose matrix is kept as factors L D Lᵀ (ell_stable.rs): D on the diagonal, L[i, j] above it at (j, i), scratch below it.
+// The ellipsoid by factors (ell_stable.rs): the inverse of its matrix is L D Lᵀ; the diagonal holds D's inverse, L[i, j] stands above it at (j, i), scratch below it.
 use crate::ell_common::CutStrategy;
 use crate::ell_common::Update;
 use crate::ell_common::is_success;
@@ -26,6 +26,7 @@ ghost use Rattle.oracles.specs.EllCommon.{centreOf};
 ghost use Rattle.oracles.specs.EllStable.{new-ell-stable-answer, inv-ml-gOf, inv-md-inv-ml-gOf, gg-tOf, omegaOf, lowered, backward, t-start, with-tsq, stable-said, stable-updateOf, stable-update-answer};
 ghost use Rattle.oracles.specs.EllStableLaws.{row-stored, solved-to, solved-back, column-taken, row-updated, less-columns, factors-after};
 
+// What is kept beside the factors mq and the centre xc.
 pub struct EllStable {
     ndim: usize,
     pub kappa: f64,
@@ -132,7 +133,7 @@ fn take_column(n: usize, mq: &[f64], v: &mut [f64], j: usize)
     }
 }
 
-// A row of the matrix, lent from its diagonal on: D's entry times `ratio`, and L's entries with beta2 × v.
+// A row of the matrix, lent from its diagonal on: the diagonal's entry times `ratio`, and beta2 × v added to L's.
 fn update_row(row: &mut [f64], ratio: f64, beta2: f64, v: &[f64])
     requires { ⌜ (0 < length (now row)) × (length (now row) ≡ length (now v)) ⌝ }
     ensures { λ _. ⌜ now (row .exit) ≡ row-updated (now (row .entry)) ratio beta2 (now (v .entry)) ⌝ }
@@ -227,6 +228,7 @@ fn scratch_fits(
 }
 
 impl EllStable {
+    // The state beside the factors and a centre of dimension n.
     pub fn new_with_matrix(n: usize, kappa: f64) -> NewEllStable
         ensures { λ r. ⌜ r ≡ new-ell-stable-answer n kappa ⌝ }
     {
@@ -267,6 +269,7 @@ impl EllStable {
         }
     }
 
+    // The update with nothing left to refuse.
     fn update(
         self,
         strategy: CutStrategy,
@@ -299,6 +302,7 @@ impl EllStable {
         self.said(self.kappa * params.delta, tsq, status)
     }
 
+    // Cuts the ellipsoid by the half-space of `grad` and `beta`, or by the slab between two; the last four slices are scratch.
     pub fn update_core(
         self,
         strategy: CutStrategy,

@@ -10,12 +10,13 @@ ghost use Rattle.oracles.specs.Matrix.{entry, at, total};
 ghost use Rattle.oracles.specs.LdltMgr.{isOrder, get-elem, reduced, filled, rowsOf, factor-answer, witnessOf, witness-answer, quad-term, quadOf, sym-quad-answer};
 ghost use Rattle.oracles.specs.LdltLaws.{LmiReads, FactoredTo};
 
-// Where the factorization stopped: (0, 0) where it did not.
+// The rows of a leading block that is not positive definite: start to end − 1.
 pub struct Pos {
     pub start: usize,
     pub end: usize,
 }
 
+// Positive definite, or where the factorization stopped.
 pub enum Factored {
     Definite,
     Stopped(Pos),
@@ -111,6 +112,7 @@ pub(crate) fn factor_rows(
     0
 }
 
+// Factors `mat` into `storage`: reads the lower triangle and stops at a pivot that is not positive; NaN passes.
 pub fn factor(m: usize, mat: &[f64], storage: &mut [f64]) -> Factored
     ensures { λ r. ⌜ (r, now (storage .exit)) ≡ factor-answer m (now (mat .entry)) (now (storage .entry)) ⌝ }
 {
@@ -159,6 +161,7 @@ pub(crate) fn witness_into(m: usize, pos: Pos, storage: &[f64], wit: &mut [f64])
     }
 }
 
+// The vector that proves a stopped factorization's matrix not positive definite, and the negated last pivot.
 pub fn witness(m: usize, pos: Pos, storage: &[f64], wit: &mut [f64]) -> Number
     ensures { λ r. ⌜ (r, now (wit .exit)) ≡ witness-answer m pos (now (storage .entry)) (now (wit .entry)) ⌝ }
 {
@@ -196,6 +199,7 @@ fn quad_row(m: usize, wit: &[f64], mat: &[f64], end: usize, i: usize) -> f64
     wit[i] * (at(m, mat, i, i) * wit[i] + 2.0 * s)
 }
 
+// `sym_quad` with nothing left to refuse.
 pub(crate) fn quad(m: usize, pos: Pos, wit: &[f64], mat: &[f64]) -> f64
     requires { ⌜ (m ≤ 32) × (pos .start ≤ pos .end) × (pos .end ≤ m) × (length (now wit) ≡ m) × (length (now mat) ≡ m * m) ⌝ }
     ensures { λ r. ⌜ r ≡ quadOf m pos (now (wit .entry)) (now (mat .entry)) ⌝ }
@@ -210,6 +214,7 @@ pub(crate) fn quad(m: usize, pos: Pos, wit: &[f64], mat: &[f64]) -> f64
     result
 }
 
+// The quadratic form of `mat` at the witness, from the upper triangle.
 pub fn sym_quad(m: usize, pos: Pos, wit: &[f64], mat: &[f64]) -> Number
     ensures { λ r. ⌜ r ≡ sym-quad-answer m pos (now (wit .entry)) (now (mat .entry)) ⌝ }
 {

@@ -6,6 +6,7 @@ use crate::ldlt_mgr::is_order;
 use crate::ldlt_mgr::quad;
 use crate::ldlt_mgr::witness_into;
 use numbers::arr::is_dimension;
+use numbers::cut::CutChoice;
 use numbers::refusal::Refusal;
 ghost use mathlib.Core.Path.{_≡_};
 ghost use Prim.Native.Nat.{_*_, _≤_, _<_};
@@ -14,10 +15,10 @@ ghost use lib.Dec.{eqb};
 ghost use lib.ListN.{length};
 ghost use Rattle.oracles.specs.LmiOracle.{lmi-gradient, lmi-assessOf, lmi-answer};
 
-// A cut has the place where the factorization stopped, and the negated last pivot as its beta.
+// A cut has the place where the factorization stopped, and one beta: the negated last pivot.
 pub enum LmiVerdict {
     Feasible,
-    Cut(Pos, f64),
+    Cut(Pos, CutChoice),
     Refused(Refusal),
 }
 
@@ -58,7 +59,7 @@ fn assess(
     witness_into(m, pos, storage, wit);
     gradient_into(m, n, pos, wit, mat_f, grad);
     let last = end - 1;
-    LmiVerdict::Cut(pos, -at(m, storage, last, last))
+    LmiVerdict::Cut(pos, CutChoice::Single(-at(m, storage, last, last)))
 }
 
 // Whether the lengths of the slices are those that m and n say.
@@ -94,6 +95,7 @@ fn lengths_fit(
     grad == n
 }
 
+// Whether mat_b − Σ xc[k] mat_f[k] is positive definite; if not, `grad` is the cut's gradient.
 pub fn assess_feas(
     m: usize,
     n: usize,

@@ -21,7 +21,7 @@ ghost use lib.IntN.{pos, natAbs};
 ghost use lib.Signed.{ltZ};
 ghost use mathlib.Core.Bool.{true, false};
 ghost use Rattle.oracles.specs.Verdict.{is-accepted, asked, FeasRule, OptimRule};
-ghost use Rattle.oracles.specs.LowpassOracle.{bands-fit, cursors-fit, isOf, after-pass, after-stop, after-middle, offered, improvedOf, refusedOf, assess-sign, assess-middle, assess-stop, assessOf, assess-feas-answer, assess-optim-answer};
+ghost use Rattle.oracles.specs.LowpassOracle.{bands-fit, cursors-fit, isOf, groupNumber, groupSide, after-pass, after-stop, after-middle, offered, improvedOf, refusedOf, assess-sign, assess-middle, assess-stop, assessOf, assess-feas-answer, assess-optim-answer};
 
 // The state of an oracle over a row table that the caller lends: pass rows are 0 to nwpass − 1, middle rows reach nwstop − 1, stop rows the end.
 pub struct LowpassOracle {
@@ -49,24 +49,53 @@ pub enum Group {
     Sign,
 }
 
+impl Group {
+    // Its place in the order of the scans: pass, stop, middle, sign.
+    pub fn number(self) -> u8
+        ensures { λ r. ⌜ r ≡ groupNumber self ⌝ }
+    {
+        match self {
+            Group::Pass(_, _) => 0,
+            Group::Stop(_, _) => 1,
+            Group::Middle(_) => 2,
+            Group::Sign => 3,
+        }
+    }
+
+    // Whether the value lies above its limit; a middle row and x[0] lie below theirs.
+    pub fn is_over(self) -> bool
+        ensures { λ r. ⌜ r ≡ groupSide self ⌝ }
+    {
+        match self {
+            Group::Pass(_, over) => over,
+            Group::Stop(_, over) => over,
+            Group::Middle(_) => false,
+            Group::Sign => false,
+        }
+    }
+}
+
+// What `assess_feas` says of a point: nothing is broken, or the first broken group and the betas of its cut.
 pub enum Verdict {
     Feasible,
     Cut(Group, CutChoice),
     Refused(Refusal),
 }
 
+// The oracle after an assessment; as it came where the call is refused.
 pub struct Assessed {
     pub oracle: LowpassOracle,
     pub verdict: Verdict,
 }
 
+// What `assess_optim` says: the betas of the improving cut of a feasible point, or of the broken group's cut.
 pub enum OptimVerdict {
     Improved(CutChoice),
     Cut(Group, CutChoice),
     Refused(Refusal),
 }
 
-// `gamma` is the caller's sp_sq.
+// `gamma` is the caller's sp_sq, after the call.
 pub struct AssessedOptim {
     pub oracle: LowpassOracle,
     pub gamma: f64,
@@ -250,6 +279,7 @@ impl LowpassOracle {
         }
     }
 
+    // The last test: x[0] below zero.
     fn assess_sign(self, x: &[f64], grad: &mut [f64]) -> Assessed
         requires { ⌜ (0 < length (now x)) × (0 < length (now grad)) ⌝ }
         ensures { λ r. ⌜ (r, now (grad .exit)) ≡ assess-sign self (now (x .entry)) (now (grad .entry)) ⌝ }
@@ -268,6 +298,7 @@ impl LowpassOracle {
         }
     }
 
+    // The middle rows, then the sign.
     fn assess_middle(
         self,
         n: usize,
@@ -286,8 +317,8 @@ impl LowpassOracle {
         let viol = scan.viol;
         match viol {
             Violation::Nothing => {
-                let omega = self.after_middle(scan.last, moved, false);
-                omega.assess_sign(x, grad)
+                let after = self.after_middle(scan.last, moved, false);
+                after.assess_sign(x, grad)
             }
             Violation::Broken(row, value, is_over) => {
                 gradient_into(n, table, row, is_over, grad);
@@ -300,6 +331,7 @@ impl LowpassOracle {
         }
     }
 
+    // The stop rows, then the rest.
     fn assess_stop(
         self,
         n: usize,
@@ -319,8 +351,8 @@ impl LowpassOracle {
         let viol = scan.viol;
         match viol {
             Violation::Nothing => {
-                let omega = self.after_stop(scan.last, moved, scan.fmax, scan.kmax);
-                omega.assess_middle(n, rows, table, x, grad)
+                let after = self.after_stop(scan.last, moved, scan.fmax, scan.kmax);
+                after.assess_middle(n, rows, table, x, grad)
             }
             Violation::Broken(row, value, is_over) => {
                 gradient_into(n, table, row, is_over, grad);
@@ -343,21 +375,23 @@ impl LowpassOracle {
         let swept = scan_ready(n, rows, table, x, rr, lower, upper);
         let scan = swept.scan;
         let moved = swept.cursor;
-        let omega = self.after_pass(scan.last, moved);
+        let after = self.after_pass(scan.last, moved);
         let viol = scan.viol;
         match viol {
-            Violation::Nothing => omega.assess_stop(n, rows, table, x, grad),
+            Violation::Nothing => after.assess_stop(n, rows, table, x, grad),
             Violation::Broken(row, value, is_over) => {
                 gradient_into(n, table, row, is_over, grad);
                 let beta = band_beta(value, is_over, lower, upper);
                 Assessed {
-                    oracle: omega,
+                    oracle: after,
                     verdict: Verdict::Cut(Group::Pass(row, is_over), beta),
                 }
             }
         }
     }
 
+    // Tries pass, stop and middle rows and then the sign of x[0]; on a break `grad` is the cut's gradient. The second `ensures` is demand 3: the verdict
+    // depends on no cursor, and on nothing that an earlier point left in the oracle.
     pub fn assess_feas(
         self,
         n: usize,
@@ -394,6 +428,7 @@ impl LowpassOracle {
         }
     }
 
+    // The same with the offered sp_sq, which is stored; a feasible point gives the cut of its largest stop value, which becomes the caller's number.
     pub fn assess_optim(
         self,
         gamma: f64,
@@ -406,8 +441,8 @@ impl LowpassOracle {
         ensures { λ r. ⌜ (r, now (grad .exit)) ≡ assess-optim-answer self gamma n rows (now (table .entry)) (now (x .entry)) (now (grad .entry)) ⌝ }
         ensures { λ r. ⌜ (is-accepted self n rows (now (table .entry)) (now (x .entry)) (now (grad .entry)) ≡ true → OptimRule (asked self gamma n rows (now (table .entry)) (now (x .entry))) r) ⌝ }
     {
-        let omega = self.offered(gamma);
-        let assessed = omega.assess_feas(n, rows, table, x, grad);
+        let after = self.offered(gamma);
+        let assessed = after.assess_feas(n, rows, table, x, grad);
         let oracle = assessed.oracle;
         let verdict = assessed.verdict;
         match verdict {
@@ -429,26 +464,26 @@ impl LowpassOracle {
     fn improved(
         self,
         gamma: f64,
-        omega: LowpassOracle,
+        after: LowpassOracle,
         n: usize,
         table: &[f64],
         grad: &mut [f64],
     ) -> AssessedOptim
-        requires { ⌜ (2 ≤ n) × (n ≤ 32) × (ltZ (omega .kmax) (pos 0) ≡ false → natAbs (omega .kmax) * n + n ≤ length (now table)) × (length (now grad) ≡ n) ⌝ }
-        ensures { λ r. ⌜ (r, now (grad .exit)) ≡ improvedOf self gamma omega n (now (table .entry)) (now (grad .entry)) ⌝ }
+        requires { ⌜ (2 ≤ n) × (n ≤ 32) × (ltZ (after .kmax) (pos 0) ≡ false → natAbs (after .kmax) * n + n ≤ length (now table)) × (length (now grad) ≡ n) ⌝ }
+        ensures { λ r. ⌜ (r, now (grad .exit)) ≡ improvedOf self gamma after n (now (table .entry)) (now (grad .entry)) ⌝ }
     {
-        if omega.kmax < 0 {
+        if after.kmax < 0 {
             return AssessedOptim {
                 oracle: self,
                 gamma: gamma,
                 verdict: OptimVerdict::Refused(Refusal::NoStopValue),
             };
         }
-        gradient_into(n, table, omega.kmax as usize, true, grad);
+        gradient_into(n, table, after.kmax as usize, true, grad);
         AssessedOptim {
-            oracle: omega,
-            gamma: omega.fmax,
-            verdict: OptimVerdict::Improved(CutChoice::Parallel(0.0, omega.fmax)),
+            oracle: after,
+            gamma: after.fmax,
+            verdict: OptimVerdict::Improved(CutChoice::Parallel(0.0, after.fmax)),
         }
     }
 }

@@ -25,12 +25,14 @@ pub fn is_band(lo: i32, hi: i32) -> bool
 }
 
 impl RoundRobin {
+    // A fresh cursor over 0 .. hi − 1.
     pub fn new(hi: i32) -> CursorAnswer
         ensures { λ r. ⌜ r ≡ new-range-answer (pos 0) hi ⌝ }
     {
         RoundRobin::new_range(0, hi)
     }
 
+    // A fresh cursor over lo .. hi − 1.
     pub fn new_range(lo: i32, hi: i32) -> CursorAnswer
         ensures { λ r. ⌜ r ≡ new-range-answer lo hi ⌝ }
     {
@@ -51,7 +53,7 @@ impl RoundRobin {
         self.cur < self.hi && self.lo <= self.cur + 1
     }
 
-    // The next row of a band that has one.
+    // `advance` with nothing left to refuse.
     pub(crate) fn step(self) -> RoundRobin
         requires { ⌜ Legal self ⌝ }
         ensures { λ r. ⌜ r ≡ advanced self ⌝ }
@@ -71,6 +73,7 @@ impl RoundRobin {
         }
     }
 
+    // One on, and hi turns into lo.
     pub fn advance(self) -> CursorAnswer
         ensures { λ r. ⌜ r ≡ advance-answer self ⌝ }
     {
@@ -85,6 +88,7 @@ impl RoundRobin {
         CursorAnswer::At(self.step())
     }
 
+    // The row last given.
     pub fn current(self) -> i32
         ensures { λ r. ⌜ r ≡ self .cur ⌝ }
     {

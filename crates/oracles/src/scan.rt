@@ -77,6 +77,7 @@ fn band_fits(rows: usize, lo: i32, hi: i32) -> bool
     is_band(lo, hi) & (hi <= rows as i32)
 }
 
+// Whether a value lies above the upper limit.
 fn is_over(upper: Upper, value: f64) -> bool
     ensures { λ r. ⌜ r ≡ isOver upper value ⌝ }
 {
@@ -112,6 +113,7 @@ fn band_rows(rr: RoundRobin) -> usize
     (rr.hi - rr.lo) as usize
 }
 
+// The rows of the band in turn, each once at most.
 fn scan_rows(
     n: usize,
     table: &[f64],
@@ -260,6 +262,7 @@ pub(crate) fn scan_ready(
             scan: scan,
             cursor: cursor,
         },
+        // does not occur
         ScanAnswer::Refused(_) => Swept {
             scan: Scan {
                 viol: Violation::Nothing,

@@ -10,6 +10,7 @@ use lib.Dec.{eqb}
 use lib.ListN.{length, take, drop, length-drop}
 use lib.Seq.{length-take-le}
 use lib.Ieee.{Float, neg}
+use Rattle.numbers.specs.declared.cut.CutChoice.the-variants.{Single}
 use Rattle.numbers.specs.F64.{_⊗_, 1ᶠ}
 use Rattle.numbers.specs.Arr.{isDimension, tab}
 use Rattle.numbers.specs.declared.refusal.Refusal.the-variants.{Dimension, Length}
@@ -64,7 +65,7 @@ module _ (m n : ℕ) (mat-b mat-f xc : List Float) (b : LmiBuffers) (e : ℕ) (o
   feasible z = rw (← h) (hit _ _ _ _ (eq-eqb e 0 z) refl)
 
   pub cut : (wit grad : List Float) (d : Float) → (e ≡ 0 → ⊥) → wit ≡ witnessOf m (posOf e) out (b .wit) → grad ≡ lmi-gradient m n (posOf e) wit mat-f
-      → d ≡ at m out (e - 1) (e - 1) → (Cut (posOf e) (neg d), record { storage = out; wit = wit; grad = grad }) ≡ lmi-assessOf m n mat-b mat-f xc b
+      → d ≡ at m out (e - 1) (e - 1) → (Cut (posOf e) (Single (neg d)), record { storage = out; wit = wit; grad = grad }) ≡ lmi-assessOf m n mat-b mat-f xc b
   unfolding lmi-assessOf
   cut wit grad d z w g f = rw (← h) (skip _ _ _ _ (ne-eqb e 0 z) (rw (g, w, f)))
 

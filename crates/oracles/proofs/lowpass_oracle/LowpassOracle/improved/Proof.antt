@@ -43,20 +43,20 @@ returns : tie.Need-returns
 returns c =
     let s = c .before in
     let a = s .before .before .before .before .args in
-    refused (a .self) (a .gamma) (a .omega) (a .n) (a .table .now) (a .grad .now) (record { sfits = s .struct-told .given .1 .1 .1 .1 .1 .1 .1 .1 .1 .1 .0 .1 }) (c .if1 .taken)
+    refused (a .self) (a .gamma) (a .after) (a .n) (a .table .now) (a .grad .now) (record { sfits = s .struct-told .given .1 .1 .1 .1 .1 .1 .1 .1 .1 .1 .0 .1 }) (c .if1 .taken)
 
 cast-gradient-into : tie.Need-cast-gradient-into
 cast-gradient-into c =
     let e = c .before .before in
-    let f : SFits w32 (e .before .before .before .before .before .args .omega .kmax) = record { sfits = c .struct-told2 .given .1 .1 .1 .1 .1 .1 .1 .1 .1 .1 .0 .1 } in
-    cast-fits _ (not-below (e .before .before .before .before .before .args .omega .kmax) (rw (toZ-ofZ f) at (e .if1 .left))) f
+    let f : SFits w32 (e .before .before .before .before .before .args .after .kmax) = record { sfits = c .struct-told2 .given .1 .1 .1 .1 .1 .1 .1 .1 .1 .1 .0 .1 } in
+    cast-fits _ (not-below (e .before .before .before .before .before .args .after .kmax) (rw (toZ-ofZ f) at (e .if1 .left))) f
 
 gradient-into-requires : tie.Need-gradient-into-requires
 gradient-into-requires c κs =
     let t = c .before in
     let e = t .before .before in
     let st = e .before .before .before .before .before in
-    let f : SFits w32 (st .args .omega .kmax) = record { sfits = t .struct-told2 .given .1 .1 .1 .1 .1 .1 .1 .1 .1 .1 .0 .1 } in
+    let f : SFits w32 (st .args .after .kmax) = record { sfits = t .struct-told2 .given .1 .1 .1 .1 .1 .1 .1 .1 .1 .1 .0 .1 } in
     (st .pre .0, st .pre .1, rw (toZ-ofZ f) (st .pre .2 (rw (toZ-ofZ f) at (e .if1 .left))), st .pre .3)
 
 same-length : tie.Need-same-length
@@ -68,7 +68,7 @@ returns-2 c =
     let t = g .before .before in
     let e = t .before .before in
     let a = e .before .before .before .before .before .args in
-    improved (a .self) (a .gamma) (a .omega) (a .n) (a .table .now) (a .grad .now) (record { sfits = t .struct-told2 .given .1 .1 .1 .1 .1 .1 .1 .1 .1 .1 .0 .1 }) (e .if1 .left) _ (g .gradient-into .ensures)
+    improved (a .self) (a .gamma) (a .after) (a .n) (a .table .now) (a .grad .now) (record { sfits = t .struct-told2 .given .1 .1 .1 .1 .1 .1 .1 .1 .1 .1 .0 .1 }) (e .if1 .left) _ (g .gradient-into .ensures)
 
 pub improved-spec : {M : Type 1} → statement M
 improved-spec = tie.close (tie.spec returns cast-gradient-into gradient-into-requires same-length returns-2)
