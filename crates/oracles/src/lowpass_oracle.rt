@@ -284,12 +284,13 @@ impl LowpassOracle {
         requires { ⌜ (0 < length (now x)) × (0 < length (now grad)) ⌝ }
         ensures { λ r. ⌜ (r, now (grad .exit)) ≡ assess-sign self (now (x .entry)) (now (grad .entry)) ⌝ }
     {
-        if x[0] < 0.0 {
+        let x0 = x[0];
+        if x0 < 0.0 {
             fill_zero(grad);
             grad[0] = -1.0;
             return Assessed {
                 oracle: self,
-                verdict: Verdict::Cut(Group::Sign, CutChoice::Single(-x[0])),
+                verdict: Verdict::Cut(Group::Sign, CutChoice::Single(-x0)),
             };
         }
         Assessed {

@@ -27,8 +27,8 @@ module _ (o : LowpassOracle) (x grad : List Float) where
   unfolding assess-sign
   kept h = skip _ _ _ _ h refl
 
-shared-slice-read-if1 : tie.Need-shared-slice-read-if1
-shared-slice-read-if1 c = search needs
+shared-slice-read-x0 : tie.Need-shared-slice-read-x0
+shared-slice-read-x0 c = search needs
 
 fill-zero-requires : tie.Need-fill-zero-requires
 fill-zero-requires c κs = search needs
@@ -36,21 +36,18 @@ fill-zero-requires c κs = search needs
 slice-write-grad : tie.Need-slice-write-grad
 slice-write-grad c = search needs
 
-shared-slice-read-t10 : tie.Need-shared-slice-read-t10
-shared-slice-read-t10 c = search needs
-
 same-length : tie.Need-same-length
 same-length c = search needs
 
 returns : tie.Need-returns
 unfolding Ieee.neg Ieee.ofBits
 returns c =
-    let f = c .before .before .before in
-    let a = c .before .before .before .before .before .before .before .before .before .args in
+    let f = c .before .before in
+    let a = c .before .before .before .before .before .before .before .before .args in
     broken (a .self) (a .x .now) (a .grad .now) (f .before .before .if1 .taken) _ (f .fill-zero .ensures)
 
 returns-2 : tie.Need-returns-2
 returns-2 c = let a = c .before .before .before .before .args in kept (a .self) (a .x .now) (a .grad .now) (c .if1 .left)
 
 pub assess-sign-spec : {M : Type 1} → statement M
-assess-sign-spec = tie.close (tie.spec shared-slice-read-if1 fill-zero-requires slice-write-grad shared-slice-read-t10 same-length returns returns-2)
+assess-sign-spec = tie.close (tie.spec shared-slice-read-x0 fill-zero-requires slice-write-grad same-length returns returns-2)
