@@ -16,6 +16,7 @@ pub mod ScanLaws
 pub mod AssessLaws
 pub mod CursorRule
 pub mod Known
+pub mod Smallest
 pub mod MatrixLaws
 pub mod LoopLaws
 pub mod LdltLaws
