@@ -18,6 +18,7 @@ use Rattle.oracles.specs.RoundRobin.{isAt, moved, Legal}
 use Rattle.oracles.specs.RoundRobinLaws.{and-parts, eqZ-true, legal-of}
 use Rattle.oracles.specs.Scan.{−∞, none, isRows, table-fits, scanOf, violated, band-beta, band-gradient}
 use Rattle.oracles.specs.LowpassOracle.{−1ᶠ, isOf, bands-fit, cursors-fit, after-pass, after-stop, after-middle, assess-sign, assess-middle, assess-stop, assessOf, assess-feas-answer}
+use Rattle.oracles.specs.LoopLaws.{by-test}
 use Rattle.oracles.specs.Verdict.{is-accepted}
 use Rattle.oracles.specs.declared.round_robin.RoundRobin.{RoundRobin}
 use Rattle.oracles.specs.declared.scan.Upper.the-variants.{Absent, At}
@@ -121,11 +122,6 @@ by-violation : {X : Type 0} (P : X → Type 0) (w : Violation) (kept : X) (broke
     → (w ≡ Nothing → P kept) → ((row : ℕ) (v : Float) (over : Bool) → w ≡ Broken row v over → P (broken row v over)) → P (violated w kept broken)
 by-violation P Nothing kept broken f g = f refl
 by-violation P (Broken row v over) kept broken f g = g row v over refl
-
-pub by-test : {X : Type 0} (P : X → Type 0) (t : Bool) (a b : X) → (t ≡ true → P a) → (t ≡ false → P b) → P (pick t a b)
-unfolding pick
-by-test P true a b f g = f refl
-by-test P false a b f g = g refl
 
 module _ (o : LowpassOracle) (n : ℕ) (table x : List Float) where
   -- the three scans

@@ -20,11 +20,12 @@ use Rattle.numbers.specs.ArrLaws.{row-in}
 use Rattle.numbers.specs.declared.cut.CutChoice.the-variants.{Single}
 use Rattle.oracles.specs.RoundRobin.{isAt}
 use Rattle.oracles.specs.RoundRobinLaws.{eqZ-yes, legal-at}
+use Rattle.oracles.specs.LoopLaws.{by-test}
 use Rattle.oracles.specs.FloatOrder.{nlt-eq, only-nan}
 use Rattle.oracles.specs.Scan.{−∞, none, valueOf, table-fits, scanOf, band-beta, band-gradient}
 use Rattle.oracles.specs.ScanLaws.{some-row-false, none-some-row, some-row-holds, row-breaks, Found, Passed, found-in, top-in, last-legal, passed-in, nothing-none, broken-some}
 use Rattle.oracles.specs.LowpassOracle.{−1ᶠ, bands-fit, cursors-fit, offered, assessOf, improvedOf, optim-of, assess-feas-answer, assess-optim-answer}
-use Rattle.oracles.specs.AssessLaws.{Spans, Fit, fit, by-test, pass-scan, stop-scan, middle-scan, pass-left, stop-left, middle-left, assess-cases, accepted-of, accepted-is}
+use Rattle.oracles.specs.AssessLaws.{Spans, Fit, fit, pass-scan, stop-scan, middle-scan, pass-left, stop-left, middle-left, assess-cases, accepted-of, accepted-is}
 use Rattle.oracles.specs.Verdict.{feasible, pass, stop, middle, sign, refused, Question, valueIn, pass-breaks, stop-breaks, middle-breaks, sign-breaks, some-row, judge, Unbroken, no-stop-value, asked, limits, is-accepted, judgement, side-breaks, cut-breaks, cut-stands, Has, Peak, FeasRule, as-feas, is-six, is-feasible, OptimRule}
 use Rattle.oracles.specs.declared.round_robin.RoundRobin.{RoundRobin}
 use Rattle.oracles.specs.declared.scan.Upper.{Upper}

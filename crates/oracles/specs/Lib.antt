@@ -19,5 +19,8 @@ pub mod Known
 pub mod MatrixLaws
 pub mod LoopLaws
 pub mod LdltLaws
+pub mod EllCommonLaws
 pub mod EllLaws
+pub mod EllCalls
 pub mod EllStableLaws
+pub mod EllStableCalls

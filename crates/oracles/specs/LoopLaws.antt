@@ -48,6 +48,12 @@ module _ {ℓ} {X : Type ℓ} where
       (λ e. is-hit (ltb k j) a b (lt-ltb k j (⊎-elim (λ (q : k ≡ j). absurd (h q)) (λ (l : k < j). l) (eq-or-lt-of-le (omega (arith, ltb-true k (j + 1) e))))))
       (λ e. is-skip (ltb k j) a b (le-ltb k j (omega (arith, ltb-false k (j + 1) e))))
 
+-- what holds of both holds of the one that is taken
+pub by-test {ℓ} : {X : Type 0} (P : X → Type ℓ) (t : Bool) (a b : X) → (t ≡ true → P a) → (t ≡ false → P b) → P (pick t a b)
+unfolding pick
+by-test P true a b f g = f refl
+by-test P false a b f g = g refl
+
 -- what a function makes of a choice
 pub pick-map {ℓ ℓ′} : {X : Type ℓ} {Y : Type ℓ′} (f : X → Y) (t : Bool) (a b : X) → f (pick t a b) ≡ pick t (f a) (f b)
 pick-map f t a b = both-ways t (λ e. ap f (is-hit t a b e)) (λ e. ap f (is-skip t a b e))
