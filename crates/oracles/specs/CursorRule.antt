@@ -15,17 +15,19 @@ use lib.Signed.{ltZ}
 use lib.Ieee.{Float, nan, lt, eq, neg, isNan}
 use Rattle.numbers.specs.F64.{0ᶠ}
 use Rattle.numbers.specs.Pick.{pick}
-use Rattle.numbers.specs.Arr.{isDimension, rowOf, tested}
+use Rattle.numbers.specs.Arr.{rowOf}
 use Rattle.numbers.specs.ArrLaws.{row-in}
+use Rattle.numbers.specs.Refusal.{refusalNumber}
+use Rattle.numbers.specs.declared.refusal.Refusal.{Refusal}
 use Rattle.numbers.specs.declared.cut.CutChoice.the-variants.{Single}
 use Rattle.oracles.specs.RoundRobin.{isAt}
 use Rattle.oracles.specs.RoundRobinLaws.{eqZ-yes, legal-at}
 use Rattle.oracles.specs.LoopLaws.{by-test}
 use Rattle.oracles.specs.FloatOrder.{nlt-eq, only-nan}
-use Rattle.oracles.specs.Scan.{−∞, none, valueOf, table-fits, scanOf, band-beta, band-gradient}
+use Rattle.oracles.specs.Scan.{−∞, none, valueOf, scanOf, band-beta, band-gradient}
 use Rattle.oracles.specs.ScanLaws.{some-row-false, none-some-row, some-row-holds, row-breaks, Found, Passed, found-in, top-in, last-legal, passed-in, nothing-none, broken-some}
-use Rattle.oracles.specs.LowpassOracle.{−1ᶠ, bands-fit, cursors-fit, offered, assessOf, improvedOf, optim-of, assess-feas-answer, assess-optim-answer}
-use Rattle.oracles.specs.AssessLaws.{Spans, Fit, fit, pass-scan, stop-scan, middle-scan, pass-left, stop-left, middle-left, assess-cases, accepted-of, accepted-is}
+use Rattle.oracles.specs.LowpassOracle.{−1ᶠ, bands-fit, offered, assessOf, improvedOf, optim-of, assess-feas-answer, assess-optim-answer}
+use Rattle.oracles.specs.AssessLaws.{Spans, Fit, fit, pass-scan, stop-scan, middle-scan, pass-left, stop-left, middle-left, assess-cases, accepted-of, accepted-is, by-refusals}
 use Rattle.oracles.specs.Verdict.{feasible, pass, stop, middle, sign, refused, Question, valueIn, pass-breaks, stop-breaks, middle-breaks, sign-breaks, some-row, judge, Unbroken, no-stop-value, asked, limits, is-accepted, judgement, side-breaks, cut-breaks, cut-stands, Has, Peak, FeasRule, as-feas, is-six, is-feasible, OptimRule}
 use Rattle.oracles.specs.declared.round_robin.RoundRobin.{RoundRobin}
 use Rattle.oracles.specs.declared.scan.Upper.{Upper}
@@ -241,10 +243,10 @@ unfolding improvedOf pick
 optim-of-rule q o gamma n table o′ Feasible grad r = elim (r .peak (sym (r .verdict-is))) [
   | inl h ↦
       let t : ltZ (o′ .kmax) (pos 0) ≡ false = rw (h .row-is) (le-ltb (h .row) 0 (omega arith)) in
-      rw t (record { verdict-is = r .verdict-is; cut-is = refl; cut-at = refl; six-is = rw (← r .verdict-is) (sym (has-value q (o′ .fmax) (o′ .kmax) h)); peak = λ e j. h })
+      rw t (record { verdict-is = r .verdict-is; cut-is = refl; cut-at = refl; six-is = rw (← r .verdict-is) (sym (has-value q (o′ .fmax) (o′ .kmax) h)); peak = λ e j. h; offer = λ e j. refl })
   | inr h ↦
       let t : ltZ (o′ .kmax) (pos 0) ≡ true = rw (h .kmax-is) in
-      rw t (record { verdict-is = r .verdict-is; cut-is = refl; cut-at = refl; six-is = rw (← r .verdict-is) (sym (h .nothing)); peak = λ e j. absurd (true≢false e) })
+      rw t (record { verdict-is = r .verdict-is; cut-is = refl; cut-at = refl; six-is = rw (← r .verdict-is) (sym (h .nothing)); peak = λ e j. absurd (true≢false e); offer = λ e j. absurd (true≢false e) })
 ]
 optim-of-rule q o gamma n table o′ (Cut group beta) grad r =
     record {
@@ -253,6 +255,7 @@ optim-of-rule q o gamma n table o′ (Cut group beta) grad r =
       cut-at = r .cut-at;
       six-is = rw (← r .verdict-is) (sym (ap (λ t. t && no-stop-value q) (cut-judgement group)));
       peak = λ e j. absurd (true≢false (sym (ap is-feasible (r .verdict-is ∙ j)) ∙ cut-judgement group));
+      offer = λ e j. absurd (true≢false (sym (ap is-feasible (r .verdict-is ∙ j)) ∙ cut-judgement group));
     }
   where
     cut-judgement : (g : Group) → is-feasible (judgement (Cut g beta)) ≡ false
@@ -266,6 +269,43 @@ pub optim-rule : (o : LowpassOracle) (gamma : Float) (n rows : ℕ) (table x gra
     → OptimRule (asked o gamma n rows table x) (assess-optim-answer o gamma n rows table x grad .0)
 optim-rule o gamma n rows table x grad h =
     optim-of-rule (asked o gamma n rows table x) o gamma n table _ _ _ (feas-rule (offered o gamma) n rows table x grad h)
+
+-- ---- what is not accepted is refused, by 1 to 4
+
+pub refused-unless : (o : LowpassOracle) (n rows : ℕ) (table x grad : List Float) → is-accepted o n rows table x grad ≡ false → judgement (assess-feas-answer o n rows table x grad .0 .verdict) ≡ refused
+refused-unless o n rows table x grad =
+    by-refusals o n rows table x grad (λ r. is-accepted o n rows table x grad ≡ false → judgement (r .0 .verdict) ≡ refused)
+    (λ h. refl) (λ h. refl) (λ h. refl) (λ h. refl) (λ e h. absurd (true≢false (sym e ∙ h)))
+
+pub optim-refused-unless : (o : LowpassOracle) (gamma : Float) (n rows : ℕ) (table x grad : List Float) → is-accepted o n rows table x grad ≡ false
+    → judgement (as-feas (assess-optim-answer o gamma n rows table x grad .0 .verdict)) ≡ refused
+unfolding pick
+optim-refused-unless o gamma n rows table x grad =
+    by-refusals (offered o gamma) n rows table x grad
+    (λ r. is-accepted o n rows table x grad ≡ false → judgement (as-feas (optim-of o gamma n table (r .0 .oracle) (r .0 .verdict) (r .1) .0 .verdict)) ≡ refused)
+    (λ h. refl) (λ h. refl) (λ h. refl) (λ h. refl) (λ e h. absurd (true≢false (sym e ∙ h)))
+
+-- so 6 comes exactly from an accepted call, on a feasible point, where no stop value compares
+pub six-exactly : (o : LowpassOracle) (gamma : Float) (n rows : ℕ) (table x grad : List Float)
+    → is-six (assess-optim-answer o gamma n rows table x grad .0 .verdict)
+    ≡ (is-accepted o n rows table x grad && is-feasible (judge (asked o gamma n rows table x)) && no-stop-value (asked o gamma n rows table x))
+unfolding pick
+six-exactly o gamma n rows table x grad = go (is-accepted o n rows table x grad) refl
+  where
+    tested-six : (t : Bool) (why : Refusal) → judgement (pick t Feasible (Refused why)) ≡ refused → t ≡ false
+    tested-six true why e = absurd (let z : _≡_ {A = ℕ} 0 1 = cc in omega arith)
+    tested-six false why e = refl
+
+    no-six : (v : OptimVerdict) → judgement (as-feas v) ≡ refused → is-six v ≡ false
+    no-six (Improved beta) e = refl
+    no-six (CutOptim group beta) e = refl
+    no-six (RefusedOptim why) e = tested-six (eqb (refusalNumber why) 6) why e
+
+    go : (t : Bool) → is-accepted o n rows table x grad ≡ t
+        → is-six (assess-optim-answer o gamma n rows table x grad .0 .verdict)
+        ≡ (is-accepted o n rows table x grad && is-feasible (judge (asked o gamma n rows table x)) && no-stop-value (asked o gamma n rows table x))
+    go true e = rw e (optim-rule o gamma n rows table x grad e .six-is)
+    go false e = rw e (no-six (assess-optim-answer o gamma n rows table x grad .0 .verdict) (optim-refused-unless o gamma n rows table x grad e))
 
 -- ---- wherever the cursors stand, and whatever idx, fmax, kmax and more_alt hold
 
@@ -318,28 +358,28 @@ module _ (o o′ : LowpassOracle) (n rows : ℕ) (table x grad grad′ : List Fl
       let q = asked-same (offered o gamma) (offered o′ gamma) n rows table x e in
       (r .verdict-is ∙ ap judge q ∙ sym (r′ .verdict-is), r .six-is ∙ ap (λ p. is-feasible (judge p) && no-stop-value p) q ∙ sym (r′ .six-is))
 
+  -- and one largest value, which is the caller's number too
   pub same-optim-peak : (gamma : Float) → limits (offered o gamma) ≡ limits (offered o′ gamma) → is-accepted o n rows table x grad ≡ true → is-accepted o′ n rows table x grad′ ≡ true
       → judgement (as-feas (assess-optim-answer o gamma n rows table x grad .0 .verdict)) ≡ feasible → is-six (assess-optim-answer o gamma n rows table x grad .0 .verdict) ≡ false
-      → eq (assess-optim-answer o gamma n rows table x grad .0 .oracle .fmax) (assess-optim-answer o′ gamma n rows table x grad′ .0 .oracle .fmax) ≡ true
+      → (eq (assess-optim-answer o gamma n rows table x grad .0 .oracle .fmax) (assess-optim-answer o′ gamma n rows table x grad′ .0 .oracle .fmax) ≡ true)
+      × (eq (assess-optim-answer o gamma n rows table x grad .0 .gamma) (assess-optim-answer o′ gamma n rows table x grad′ .0 .gamma) ≡ true)
   same-optim-peak gamma e a a′ h s =
       let r = optim-rule o gamma n rows table x grad a in
       let r′ = optim-rule o′ gamma n rows table x grad′ a′ in
       let q = asked-same (offered o gamma) (offered o′ gamma) n rows table x e in
       let j : judge (asked o gamma n rows table x) ≡ feasible = sym (r .verdict-is) ∙ h in
+      let j′ : judge (asked o′ gamma n rows table x) ≡ feasible = rw q at j in
       let s′ = sym (same-optim gamma e a a′ .1) ∙ s in
-      peak-same (asked o′ gamma n rows table x) _ _ _ _ (inl (rw q at (r .peak s j))) (inl (r′ .peak s′ (rw q at j)))
+      let p = peak-same (asked o′ gamma n rows table x) _ _ _ _ (inl (rw q at (r .peak s j))) (inl (r′ .peak s′ j′)) in
+      (p, rw (r .offer s j, r′ .offer s′ j′) p)
 
 -- ---- the oracle after a call
 
 -- its bands and limits stay, also where the call is refused
 pub kept : (o : LowpassOracle) (n rows : ℕ) (table x grad : List Float) → limits (assess-feas-answer o n rows table x grad .0 .oracle) ≡ limits o
-unfolding assess-feas-answer tested
 kept o n rows table x grad =
-    by-test P (not (isDimension n)) _ _ (λ t. refl)
-    (λ t. by-test P (not (table-fits n rows table x && eqb (length grad) n)) _ _ (λ t. refl)
-    (λ t. by-test P (not (bands-fit o rows)) _ _ (λ t. refl)
-    (λ t. by-test P (not (cursors-fit o)) _ _ (λ t. refl)
-    (λ t. assess-cases o n table x grad P (λ row v over e. refl) (λ e₁ row v over e. refl) (λ e₁ e₂ row v over e. refl) (λ e₁ e₂ e₃ e. refl) (λ e₁ e₂ e₃ e. refl)))))
+    by-refusals o n rows table x grad P refl refl refl refl
+    (λ h. assess-cases o n table x grad P (λ row v over e. refl) (λ e₁ row v over e. refl) (λ e₁ e₂ row v over e. refl) (λ e₁ e₂ e₃ e. refl) (λ e₁ e₂ e₃ e. refl))
   where
     P : Assessed × List Float → Type 0
     P r = limits (r .0 .oracle) ≡ limits o

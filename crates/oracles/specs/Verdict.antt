@@ -189,3 +189,4 @@ pub record OptimRule (q : Question) (r : AssessedOptim) : Type 0 where
   pub cut-at : cut-stands (r .oracle) (as-feas (r .verdict)) ≡ true
   pub six-is : is-six (r .verdict) ≡ (is-feasible (judge q) && no-stop-value q)
   pub peak : is-six (r .verdict) ≡ false → judge q ≡ feasible → Has q (r .oracle .fmax) (r .oracle .kmax)
+  pub offer : is-six (r .verdict) ≡ false → judge q ≡ feasible → r .gamma ≡ r .oracle .fmax
