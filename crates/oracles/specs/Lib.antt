@@ -14,7 +14,10 @@ pub mod RoundRobinLaws
 pub mod FloatOrder
 pub mod ScanLaws
 pub mod AssessLaws
+pub mod JudgeLaws
 pub mod CursorRule
+pub mod TwoOracles
+pub mod OracleAfter
 pub mod Known
 pub mod MatrixLaws
 pub mod LoopLaws

@@ -1,4 +1,4 @@
--- Demand 3 in document 01's words ("Verdict"): what a point breaks, said without a cursor, and what an assessment owes to it. Definitions only.
+-- Demand 3 in document 01's words ("Verdict"): what a point breaks, said without a cursor, and what an assessment has to answer. Definitions only.
 use Prim.Native.Nat.{ℕ, zero, suc, _≤_, _<_, _+_, _-_}
 use mathlib.Core.Path.{_≡_}
 use mathlib.Core.Bool.{Bool, true, false, not, _&&_, _||_}
@@ -33,7 +33,7 @@ pub data Judgement : Type 0 where
   sign : Judgement
   refused : Judgement
 
--- a point before a table: n, the rows, the bands and the limits, with no cursor in it
+-- what is asked about a point: n, the table with its rows, bands and limits, and the point, with no cursor in it
 pub record Question : Type 0 where
   pub n : ℕ
   pub rows : ℕ
@@ -49,16 +49,19 @@ pub record Question : Type 0 where
 abbrev pub valueIn : Question → ℕ → Float
 valueIn q i = valueOf (q .n) (q .table) (q .x) i
 
--- above its limit, or below it; a test on NaN is false
+-- a pass row breaks its group above up_sq or below lp_sq; a test on NaN is false
 abbrev pub pass-breaks : Question → ℕ → Bool
 pass-breaks q i = lt (q .up-sq) (valueIn q i) || lt (valueIn q i) (q .lp-sq)
 
+-- a stop row above sp_sq or below zero
 abbrev pub stop-breaks : Question → ℕ → Bool
 stop-breaks q i = lt (q .sp-sq) (valueIn q i) || lt (valueIn q i) 0ᶠ
 
+-- a middle row below zero
 abbrev pub middle-breaks : Question → ℕ → Bool
 middle-breaks q i = lt (valueIn q i) 0ᶠ
 
+-- the point's first number below zero
 abbrev pub sign-breaks : Question → Bool
 sign-breaks q = lt (getD (q .x) 0 nan) 0ᶠ
 
@@ -101,6 +104,7 @@ pub record Limits : Type 0 where
   pub up-sq : Float
   pub sp-sq : Float
 
+-- those of this oracle
 abbrev pub limits : LowpassOracle → Limits
 limits o = record { nwpass = o .nwpass; nwstop = o .nwstop; lp-sq = o .«lp_sq»; up-sq = o .«up_sq»; sp-sq = o .«sp_sq» }
 
@@ -108,6 +112,7 @@ limits o = record { nwpass = o .nwpass; nwstop = o .nwstop; lp-sq = o .«lp_sq»
 abbrev pub is-accepted : LowpassOracle → ℕ → ℕ → List Float → List Float → List Float → Bool
 is-accepted o n rows table x grad = isDimension n && (table-fits n rows table x && eqb (length grad) n) && bands-fit o rows && cursors-fit o
 
+-- the verdict of an answer, without row and betas
 abbrev pub judgement : Verdict → Judgement
 judgement Feasible = feasible
 judgement (Cut (Pass row over) beta) = pass
@@ -116,10 +121,11 @@ judgement (Cut (Middle row) beta) = middle
 judgement (Cut Sign beta) = sign
 judgement (Refused why) = refused
 
--- whether a cut's row is one of its group's and breaks it on the side that is reported
+-- whether v breaks a limit on the side that is reported: the upper one where `over` is true, else the lower one
 abbrev pub side-breaks : Bool → Float → Float → Float → Bool
 side-breaks over upper lower v = pick over (lt upper v) (lt v lower)
 
+-- whether a cut's row is one of its group's and breaks it on the side that is reported
 abbrev pub cut-breaks : Question → Verdict → Bool
 cut-breaks q Feasible = true
 cut-breaks q (Cut (Pass row over) beta) = ltb row (q .nwpass) && side-breaks over (q .up-sq) (q .lp-sq) (valueIn q row)
@@ -153,27 +159,30 @@ pub record HasNone (q : Question) (fmax : Float) (kmax : ℤ) : Type 0 where
   pub fmax-is : fmax ≡ −∞
   pub kmax-is : kmax ≡ none
 
+-- one or the other: what fmax and kmax are after an accepted call on a feasible point
 abbrev pub Peak : Question → Float → ℤ → Type 0
 Peak q fmax kmax = Has q fmax kmax ⊎ HasNone q fmax kmax
 
--- what `assess_feas` owes to an accepted call
+-- what `assess_feas` answers to an accepted call
 pub record FeasRule (q : Question) (r : Assessed) : Type 0 where
   pub verdict-is : judgement (r .verdict) ≡ judge q
   pub cut-is : cut-breaks q (r .verdict) ≡ true
   pub cut-at : cut-stands (r .oracle) (r .verdict) ≡ true
   pub peak : judge q ≡ feasible → Peak q (r .oracle .fmax) (r .oracle .kmax)
 
--- `assess_optim`: refusal 6 counts as feasible
+-- an answer of `assess_optim` as one of `assess_feas`: refusal 6 counts as feasible
 abbrev pub as-feas : OptimVerdict → Verdict
 as-feas (Improved beta) = Feasible
 as-feas (CutOptim group beta) = Cut group beta
 as-feas (RefusedOptim why) = pick (eqb (refusalNumber why) 6) Feasible (Refused why)
 
+-- whether it is refusal 6
 abbrev pub is-six : OptimVerdict → Bool
 is-six (Improved beta) = false
 is-six (CutOptim group beta) = false
 is-six (RefusedOptim why) = eqb (refusalNumber why) 6
 
+-- whether a judgement is feasible
 abbrev pub is-feasible : Judgement → Bool
 is-feasible feasible = true
 is-feasible pass = false
@@ -182,7 +191,8 @@ is-feasible middle = false
 is-feasible sign = false
 is-feasible refused = false
 
--- what `assess_optim` owes to a call that 1 to 4 do not refuse: 6 exactly where the point is feasible and no stop value compares
+-- what `assess_optim` answers to a call that 1 to 4 do not refuse: 6 exactly where the point is feasible and no stop value compares;
+-- on any other feasible point the caller's number, gamma, becomes fmax
 pub record OptimRule (q : Question) (r : AssessedOptim) : Type 0 where
   pub verdict-is : judgement (as-feas (r .verdict)) ≡ judge q
   pub cut-is : cut-breaks q (as-feas (r .verdict)) ≡ true

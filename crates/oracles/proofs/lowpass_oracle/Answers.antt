@@ -23,7 +23,8 @@ use Rattle.oracles.specs.Scan.{isRows, table-fits, Scannable}
 use Rattle.oracles.specs.LowpassOracle.{bands-fit, cursors-fit, refusedOf, assessOf, assess-feas-answer, optim-of, assess-optim-answer, offered}
 use Rattle.oracles.specs.Verdict.{feasible, refused, asked, is-accepted, is-feasible, judgement, Peak, FeasRule, OptimRule}
 use Rattle.oracles.specs.AssessLaws.{Spans, fit, Accepted, accepted-of}
-use Rattle.oracles.specs.CursorRule.{feas-rule, optim-rule, refused-unless, gradient-length}
+use Rattle.oracles.specs.CursorRule.{feas-rule, optim-rule, refused-unless}
+use Rattle.oracles.specs.OracleAfter.{gradient-length}
 use Rattle.oracles.specs.declared.round_robin.RoundRobin.{RoundRobin}
 use Rattle.oracles.specs.declared.lowpass_oracle.LowpassOracle.{LowpassOracle}
 use Rattle.oracles.specs.declared.lowpass_oracle.Verdict.{Verdict}
