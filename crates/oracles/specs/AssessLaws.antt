@@ -58,8 +58,8 @@ pub record Fit (o : LowpassOracle) (rows : ℕ) : Type 0 where
   pub pass-high : natAbs (o .nwpass) ≤ rows
   pub middle-high : natAbs (o .nwstop) ≤ rows
 
-pub fit : (o : LowpassOracle) (rows : ℕ) → bands-fit o rows ≡ true → cursors-fit o ≡ true → Fit o rows
-fit o rows b a =
+pub fit-of : (o : LowpassOracle) (rows : ℕ) → bands-fit o rows ≡ true → cursors-fit o ≡ true → Fit o rows
+fit-of o rows b a =
     let b₃ = and-parts _ (isOf (o .rr3) (o .nwstop) (pos rows)) b in
     let b₂ = and-parts _ (isOf (o .rr2) (o .nwpass) (o .nwstop)) (b₃ .0) in
     let b₁ = and-parts _ (isOf (o .rr1) (pos 0) (o .nwpass)) (b₂ .0) in

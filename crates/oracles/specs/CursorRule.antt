@@ -22,7 +22,7 @@ use Rattle.oracles.specs.FloatOrder.{only-nan}
 use Rattle.oracles.specs.Scan.{−∞, none, valueOf, scanOf, band-beta}
 use Rattle.oracles.specs.ScanLaws.{none-some-row, some-row-holds, row-breaks, Found, Passed, found-in, top-in, passed-in, nothing-none, broken-some}
 use Rattle.oracles.specs.LowpassOracle.{offered, assessOf, improvedOf, optim-of, assess-feas-answer, assess-optim-answer}
-use Rattle.oracles.specs.AssessLaws.{Spans, Fit, fit, pass-scan, stop-scan, middle-scan, pass-left, stop-left, middle-left, assess-cases, accepted-of, accepted-is, by-refusals}
+use Rattle.oracles.specs.AssessLaws.{Spans, Fit, fit-of, pass-scan, stop-scan, middle-scan, pass-left, stop-left, middle-left, assess-cases, accepted-of, accepted-is, by-refusals}
 use Rattle.oracles.specs.Verdict.{refused, Question, valueIn, sign-breaks, some-row, judge, no-stop-value, asked, is-accepted, judgement, side-breaks, cut-breaks, cut-stands, Has, Peak, FeasRule, as-feas, is-six, is-feasible, OptimRule}
 use Rattle.oracles.specs.JudgeLaws.{pass-broken, stop-broken, middle-broken, judge-pass, judge-stop, judge-middle, judge-sign, judge-answers}
 use Rattle.oracles.specs.declared.round_robin.RoundRobin.{RoundRobin}
@@ -158,7 +158,7 @@ pub feas-rule : (o : LowpassOracle) (n rows : ℕ) (table x grad : List Float) �
     → FeasRule (asked o (o .«sp_sq») n rows table x) (assess-feas-answer o n rows table x grad .0)
 feas-rule o n rows table x grad h =
     let a = accepted-of o n rows table x grad h in
-    rw (accepted-is o n rows table x grad h) (assess-rule o n rows table x (fit o rows (a .bands) (a .cursors)) grad)
+    rw (accepted-is o n rows table x grad h) (assess-rule o n rows table x (fit-of o rows (a .bands) (a .cursors)) grad)
 
 -- a row that has the largest value has one that compares
 pub has-value : (q : Question) (fmax : Float) (kmax : ℤ) → Has q fmax kmax → no-stop-value q ≡ false

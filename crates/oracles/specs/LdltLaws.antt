@@ -300,8 +300,8 @@ rows-stopped A m storage pos out o f = go (eqb (stopOf A m) 0) refl
           within = omega (arith, stop-most A m);
         }
 
-pub stopped : (m : ℕ) (mat storage : List Float) (pos : Pos) (out : List Float) → factor-answer m mat storage ≡ (Stopped pos, out) → StoppedAt m pos out
-stopped m mat storage pos out h = go (isOrder m) (eqb (length mat) (m * m) && eqb (length storage) (m * m)) refl refl
+pub factor-stopped : (m : ℕ) (mat storage : List Float) (pos : Pos) (out : List Float) → factor-answer m mat storage ≡ (Stopped pos, out) → StoppedAt m pos out
+factor-stopped m mat storage pos out h = go (isOrder m) (eqb (length mat) (m * m) && eqb (length storage) (m * m)) refl refl
   where
     go : (s t : Bool) → isOrder m ≡ s → (eqb (length mat) (m * m) && eqb (length storage) (m * m)) ≡ t → StoppedAt m pos out
     go false t x y = absurd (refused-no Dimension pos (ap said (wrong-order m false (sym x) _ _ _ _ refl ∙ h)))

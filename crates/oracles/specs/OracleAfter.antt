@@ -22,7 +22,7 @@ use Rattle.oracles.specs.LoopLaws.{by-test}
 use Rattle.oracles.specs.Scan.{−∞, none, band-gradient}
 use Rattle.oracles.specs.ScanLaws.{last-legal}
 use Rattle.oracles.specs.LowpassOracle.{−1ᶠ, bands-fit, offered, assessOf, improvedOf, optim-of, assess-feas-answer, assess-optim-answer}
-use Rattle.oracles.specs.AssessLaws.{fit, pass-left, stop-left, middle-left, assess-cases, accepted-of, accepted-is, by-refusals}
+use Rattle.oracles.specs.AssessLaws.{fit-of, pass-left, stop-left, middle-left, assess-cases, accepted-of, accepted-is, by-refusals}
 use Rattle.oracles.specs.Verdict.{asked, limits, is-accepted, FeasRule}
 use Rattle.oracles.specs.CursorRule.{band-found, feas-rule}
 use Rattle.oracles.specs.declared.scan.Upper.the-variants.{Absent, At}
@@ -37,8 +37,8 @@ use Rattle.oracles.specs.declared.lowpass_oracle.AssessedOptim.{Assessed
 -- ---- the oracle
 
 -- its bands and limits stay, also where the call is refused
-pub kept : (o : LowpassOracle) (n rows : ℕ) (table x grad : List Float) → limits (assess-feas-answer o n rows table x grad .0 .oracle) ≡ limits o
-kept o n rows table x grad =
+pub assess-kept : (o : LowpassOracle) (n rows : ℕ) (table x grad : List Float) → limits (assess-feas-answer o n rows table x grad .0 .oracle) ≡ limits o
+assess-kept o n rows table x grad =
     by-refusals o n rows table x grad P refl refl refl refl
     (λ h. assess-cases o n table x grad P (λ row v over e. refl) (λ e₁ row v over e. refl) (λ e₁ e₂ row v over e. refl) (λ e₁ e₂ e₃ e. refl) (λ e₁ e₂ e₃ e. refl))
   where
@@ -72,7 +72,7 @@ optim-left o gamma n rows table x grad = let a = assess-feas-answer (offered o g
 -- so the offered number is stored unless the call is refused
 pub optim-kept : (o : LowpassOracle) (gamma : Float) (n rows : ℕ) (table x grad : List Float) → is-refusal (assess-optim-answer o gamma n rows table x grad .0 .verdict) ≡ false
     → limits (assess-optim-answer o gamma n rows table x grad .0 .oracle) ≡ limits (offered o gamma)
-optim-kept o gamma n rows table x grad e = ap limits (optim-left o gamma n rows table x grad .assessed e) ∙ kept (offered o gamma) n rows table x grad
+optim-kept o gamma n rows table x grad e = ap limits (optim-left o gamma n rows table x grad .assessed e) ∙ assess-kept (offered o gamma) n rows table x grad
 
 -- after an accepted call it is accepted again, with any point and gradient of n numbers
 module _ (o : LowpassOracle) (n rows : ℕ) (table x grad : List Float) (h : is-accepted o n rows table x grad ≡ true) (x′ grad′ : List Float) (hx : length x′ ≡ n) (hg : length grad′ ≡ n) where
@@ -84,13 +84,13 @@ module _ (o : LowpassOracle) (n rows : ℕ) (table x grad : List Float) (h : is-
   as-it-came-again : is-accepted o n rows table x′ grad′ ≡ true
   as-it-came-again =
       let a = accepted-of o n rows table x grad h in
-      let F = fit o rows (a .bands) (a .cursors) in
+      let F = fit-of o rows (a .bands) (a .cursors) in
       fits-again o (a .bands) (legal-at (o .rr1) (F .pass-rows .legal)) (legal-at (o .rr2) (F .middle-rows .legal)) (legal-at (o .rr3) (F .stop-rows .legal))
 
-  assess-again : is-accepted (assessOf o n table x grad .0 .oracle) n rows table x′ grad′ ≡ true
-  assess-again =
+  assessed-again : is-accepted (assessOf o n table x grad .0 .oracle) n rows table x′ grad′ ≡ true
+  assessed-again =
       let a = accepted-of o n rows table x grad h in
-      let F = fit o rows (a .bands) (a .cursors) in
+      let F = fit-of o rows (a .bands) (a .cursors) in
       let p = last-legal n table x (o .rr1) (o .«lp_sq») (At (o .«up_sq»)) (F .pass-rows .legal) .at in
       let s = last-legal n table x (o .rr3) 0ᶠ (At (o .«sp_sq»)) (F .stop-rows .legal) .at in
       let m = last-legal n table x (o .rr2) 0ᶠ Absent (F .middle-rows .legal) .at in
@@ -103,8 +103,8 @@ module _ (o : LowpassOracle) (n rows : ℕ) (table x grad : List Float) (h : is-
       (λ e₁ e₂ e₃ e. fits-again (middle-left o n table x false) (a .bands) p m s)
       (λ e₁ e₂ e₃ e. fits-again (middle-left o n table x false) (a .bands) p m s)
 
-  pub again : is-accepted (assess-feas-answer o n rows table x grad .0 .oracle) n rows table x′ grad′ ≡ true
-  again = rw (accepted-is o n rows table x grad h) assess-again
+  pub assess-again : is-accepted (assess-feas-answer o n rows table x grad .0 .oracle) n rows table x′ grad′ ≡ true
+  assess-again = rw (accepted-is o n rows table x grad h) assessed-again
 
 -- the same after `assess_optim`, a refusal by 6 too
 pub optim-again : (o : LowpassOracle) (gamma : Float) (n rows : ℕ) (table x grad : List Float) → is-accepted o n rows table x grad ≡ true
@@ -114,7 +114,7 @@ optim-again o gamma n rows table x grad h x′ grad′ hx hg = go (is-refusal (a
     go : (t : Bool) → is-refusal (assess-optim-answer o gamma n rows table x grad .0 .verdict) ≡ t
         → is-accepted (assess-optim-answer o gamma n rows table x grad .0 .oracle) n rows table x′ grad′ ≡ true
     go true e = rw (optim-left o gamma n rows table x grad .as-it-came e) (as-it-came-again o n rows table x grad h x′ grad′ hx hg)
-    go false e = rw (optim-left o gamma n rows table x grad .assessed e) (again (offered o gamma) n rows table x grad h x′ grad′ hx hg)
+    go false e = rw (optim-left o gamma n rows table x grad .assessed e) (assess-again (offered o gamma) n rows table x grad h x′ grad′ hx hg)
 
 -- ---- the gradient after an accepted call has n numbers
 
@@ -130,7 +130,7 @@ module _ (o : LowpassOracle) (n rows : ℕ) (table x grad : List Float) (h : is-
   pub gradient-length : length (assess-feas-answer o n rows table x grad .1) ≡ n
   gradient-length =
       let a = accepted-of o n rows table x grad h in
-      let F = fit o rows (a .bands) (a .cursors) in
+      let F = fit-of o rows (a .bands) (a .cursors) in
       rw (accepted-is o n rows table x grad h)
       (assess-cases o n table x grad (λ r. length (r .1) ≡ n)
       (λ row v over e. cut row over (band-found n table x (o .rr1) (o .«lp_sq») (At (o .«up_sq»)) 0 (natAbs (o .nwpass)) (F .pass-rows) row v over e .high) (F .pass-high))

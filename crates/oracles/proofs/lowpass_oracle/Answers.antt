@@ -22,7 +22,7 @@ use Rattle.oracles.specs.RoundRobinLaws.{and-parts, legal-band, legal-at
 use Rattle.oracles.specs.Scan.{isRows, table-fits, Scannable}
 use Rattle.oracles.specs.LowpassOracle.{bands-fit, cursors-fit, refusedOf, assessOf, assess-feas-answer, optim-of, assess-optim-answer, offered}
 use Rattle.oracles.specs.Verdict.{feasible, refused, asked, is-accepted, is-feasible, judgement, Peak, FeasRule, OptimRule}
-use Rattle.oracles.specs.AssessLaws.{Spans, fit, Accepted, accepted-of}
+use Rattle.oracles.specs.AssessLaws.{Spans, fit-of, Accepted, accepted-of}
 use Rattle.oracles.specs.CursorRule.{feas-rule, optim-rule, refused-unless}
 use Rattle.oracles.specs.OracleAfter.{gradient-length}
 use Rattle.oracles.specs.declared.round_robin.RoundRobin.{RoundRobin}
@@ -95,7 +95,7 @@ module _ (o : LowpassOracle) (n rows : ℕ) (table x grad : List Float) where
 
       pub all-scannable : Scannable n rows table x (o .rr1) × Scannable n rows table x (o .rr3) × Scannable n rows table x (o .rr2) × (length grad ≡ n)
       all-scannable =
-          let F = fit o rows b c in (
+          let F = fit-of o rows b c in (
             spanned (o .rr1) _ _ (F .pass-rows) (F .pass-high),
             spanned (o .rr3) _ _ (F .stop-rows) (omega arith),
             spanned (o .rr2) _ _ (F .middle-rows) (F .middle-high),
