@@ -23,7 +23,7 @@ use Rattle.oracles.specs.Scan.{−∞, none, valueOf, scanOf, band-beta}
 use Rattle.oracles.specs.ScanLaws.{none-some-row, some-row-holds, row-breaks, Found, Passed, found-in, top-in, passed-in, nothing-none, broken-some}
 use Rattle.oracles.specs.LowpassOracle.{offered, assessOf, improvedOf, optim-of, assess-feas-answer, assess-optim-answer}
 use Rattle.oracles.specs.AssessLaws.{Spans, Fit, fit-of, pass-scan, stop-scan, middle-scan, pass-left, stop-left, middle-left, assess-cases, accepted-of, accepted-is, by-refusals}
-use Rattle.oracles.specs.Verdict.{refused, Question, valueIn, sign-breaks, some-row, judge, no-stop-value, asked, is-accepted, judgement, side-breaks, cut-breaks, cut-stands, Has, Peak, FeasRule, as-feas, is-six, is-feasible, OptimRule}
+use Rattle.oracles.specs.Verdict.{refused, Question, stop-start, valueIn, sign-breaks, some-row, judge, no-stop-value, asked, is-accepted, judgement, side-breaks, cut-breaks, cut-stands, Has, Peak, FeasRule, as-feas, is-six, is-feasible, OptimRule}
 use Rattle.oracles.specs.JudgeLaws.{pass-broken, stop-broken, middle-broken, judge-pass, judge-stop, judge-middle, judge-sign, judge-answers}
 use Rattle.oracles.specs.declared.round_robin.RoundRobin.{RoundRobin}
 use Rattle.oracles.specs.declared.scan.Upper.{Upper}
@@ -70,11 +70,11 @@ cut-rule : (q : Question) (r : Assessed) → is-feasible (judgement (r .verdict)
 cut-rule q r h j c a = record { verdict-is = sym j; cut-is = c; cut-at = a; peak = λ e. absurd (true≢false (sym (ap is-feasible e) ∙ ap is-feasible j ∙ h)) }
 
 -- the largest value of a stop scan that finds nothing
-peak-of : (q : Question) (c : RoundRobin) → Spans c (q .nwstop) (q .rows) → scanOf (q .n) (q .table) (q .x) c 0ᶠ (At (q .sp-sq)) .viol ≡ Nothing
-    → Peak q (scanOf (q .n) (q .table) (q .x) c 0ᶠ (At (q .sp-sq)) .fmax) (scanOf (q .n) (q .table) (q .x) c 0ᶠ (At (q .sp-sq)) .kmax)
+peak-of : (q : Question) (c : RoundRobin) → Spans c (stop-start q) (q .rows) → scanOf (q .n) (q .table) (q .x) c 0ᶠ (At (q .limits .sp-sq)) .viol ≡ Nothing
+    → Peak q (scanOf (q .n) (q .table) (q .x) c 0ᶠ (At (q .limits .sp-sq)) .fmax) (scanOf (q .n) (q .table) (q .x) c 0ᶠ (At (q .limits .sp-sq)) .kmax)
 unfolding no-stop-value
-peak-of q c S e = elim (top-in (q .n) (q .table) (q .x) c 0ᶠ (At (q .sp-sq)) (S .legal)) [
-  | inl t ↦ inr (record { nothing = rw (none-some-row (λ i. not (isNan (valueIn q i))) (q .nwstop) (q .rows - q .nwstop) (all-nan (t .0))); fmax-is = t .0; kmax-is = t .1 })
+peak-of q c S e = elim (top-in (q .n) (q .table) (q .x) c 0ᶠ (At (q .limits .sp-sq)) (S .legal)) [
+  | inl t ↦ inr (record { nothing = rw (none-some-row (λ i. not (isNan (valueIn q i))) (stop-start q) (q .rows - stop-start q) (all-nan (t .0))); fmax-is = t .0; kmax-is = t .1 })
   | inr b ↦ inl (record {
     row = b .row;
     row-is = b .row-is;
@@ -86,10 +86,10 @@ peak-of q c S e = elim (top-in (q .n) (q .table) (q .x) c 0ᶠ (At (q .sp-sq)) (
   })
 ]
   where
-    row-passed : (i : ℕ) → q .nwstop ≤ i → i < q .rows → Passed (q .n) (q .table) (q .x) 0ᶠ (At (q .sp-sq)) (scanOf (q .n) (q .table) (q .x) c 0ᶠ (At (q .sp-sq)) .fmax) i
-    row-passed i l h = passed-in (q .n) (q .table) (q .x) c 0ᶠ (At (q .sp-sq)) (S .legal) e i (rw (S .from-is) l) (rw (S .past-is) h)
+    row-passed : (i : ℕ) → stop-start q ≤ i → i < q .rows → Passed (q .n) (q .table) (q .x) 0ᶠ (At (q .limits .sp-sq)) (scanOf (q .n) (q .table) (q .x) c 0ᶠ (At (q .limits .sp-sq)) .fmax) i
+    row-passed i l h = passed-in (q .n) (q .table) (q .x) c 0ᶠ (At (q .limits .sp-sq)) (S .legal) e i (rw (S .from-is) l) (rw (S .past-is) h)
 
-    all-nan : scanOf (q .n) (q .table) (q .x) c 0ᶠ (At (q .sp-sq)) .fmax ≡ −∞ → (i : ℕ) → q .nwstop ≤ i → i < q .nwstop + (q .rows - q .nwstop) → not (isNan (valueIn q i)) ≡ false
+    all-nan : scanOf (q .n) (q .table) (q .x) c 0ᶠ (At (q .limits .sp-sq)) .fmax ≡ −∞ → (i : ℕ) → stop-start q ≤ i → i < stop-start q + (q .rows - stop-start q) → not (isNan (valueIn q i)) ≡ false
     all-nan f i l h =
         let p = row-passed i l (omega arith) in
         rw (only-nan (valueIn q i) (rw f at (p .not-above)) (p .not-under))
@@ -164,7 +164,7 @@ feas-rule o n rows table x grad h =
 pub has-value : (q : Question) (fmax : Float) (kmax : ℤ) → Has q fmax kmax → no-stop-value q ≡ false
 unfolding no-stop-value
 has-value q fmax kmax h =
-    rw (some-row-holds (λ i. not (isNan (valueIn q i))) (q .nwstop) (q .rows - q .nwstop) (h .row) (h .low) (omega arith) (rw (h .value-is, h .compares)))
+    rw (some-row-holds (λ i. not (isNan (valueIn q i))) (stop-start q) (q .rows - stop-start q) (h .row) (h .low) (omega arith) (rw (h .value-is, h .compares)))
 
 -- what an answer of `assess_feas` to an accepted call becomes
 optim-of-rule : (q : Question) (o : LowpassOracle) (gamma : Float) (n : ℕ) (table : List Float) (o′ : LowpassOracle) (v : Verdict) (grad : List Float)

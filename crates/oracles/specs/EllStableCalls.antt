@@ -126,7 +126,7 @@ pub record StableKept (e : EllStable) (b : StableBuffers) (r : EllStableUpdate �
   pub xc-is : r .1 .xc ≡ b .xc
   pub mq-at : (i j : ℕ) → i ≤ j → j < e .ndim → at (e .ndim) (r .1 .mq) i j ≡ at (e .ndim) (b .mq) i j
 
--- a success, with the calculator's answer a: D on the diagonal, L above it, the scratch below it, and the centre's entries
+-- a success, with the calculator's answer a: the factors' entries on the diagonal, above it and below it, and the centre's
 pub record StableMoved (e : EllStable) (grad : List Float) (b : StableBuffers) (a : Answer) (r : EllStableUpdate × StableBuffers) : Type 0 where
   pub kappa-is : r .0 .ell .kappa ≡ e .kappa ⊗ a .params .delta
   pub diagonal-at : (j : ℕ) → j < e .ndim

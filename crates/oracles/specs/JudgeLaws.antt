@@ -5,18 +5,18 @@ use Prim.Native.Nat.{ℕ, _-_}
 use native.Mathlib.Omega.{arith}
 use Rattle.numbers.specs.Pick.{pick}
 use Rattle.oracles.specs.ScanLaws.{some-row-false, none-some-row}
-use Rattle.oracles.specs.Verdict.{feasible, pass, stop, middle, sign, refused, Question, pass-breaks, stop-breaks, middle-breaks, sign-breaks, some-row, judge, Unbroken, is-feasible}
+use Rattle.oracles.specs.Verdict.{feasible, pass, stop, middle, sign, refused, Question, pass-end, stop-start, pass-breaks, stop-breaks, middle-breaks, sign-breaks, some-row, judge, Unbroken, is-feasible}
 
 module _ (q : Question) where
   -- the first three tests: a group has a row that breaks it
   abbrev pub pass-broken : Bool
-  pass-broken = some-row (pass-breaks q) 0 (q .nwpass)
+  pass-broken = some-row (pass-breaks q) 0 (pass-end q)
 
   abbrev pub stop-broken : Bool
-  stop-broken = some-row (stop-breaks q) (q .nwstop) (q .rows - q .nwstop)
+  stop-broken = some-row (stop-breaks q) (stop-start q) (q .rows - stop-start q)
 
   abbrev pub middle-broken : Bool
-  middle-broken = some-row (middle-breaks q) (q .nwpass) (q .nwstop - q .nwpass)
+  middle-broken = some-row (middle-breaks q) (pass-end q) (stop-start q - pass-end q)
 
   -- the first that holds decides
   pub judge-pass : pass-broken ≡ true → judge q ≡ pass
@@ -58,9 +58,9 @@ module _ (q : Question) where
       go false false true d e₁ e₂ e₃ e₄ e = absurd (true≢false (sym (ap is-feasible e)))
       go false false false true e₁ e₂ e₃ e₄ e = absurd (true≢false (sym (ap is-feasible e)))
       go false false false false e₁ e₂ e₃ e₄ e = record {
-        pass-rows = λ i h. some-row-false (pass-breaks q) 0 (q .nwpass) e₁ i (omega arith) (omega arith);
-        stop-rows = λ i l h. some-row-false (stop-breaks q) (q .nwstop) (q .rows - q .nwstop) e₂ i l (omega arith);
-        middle-rows = λ i l h. some-row-false (middle-breaks q) (q .nwpass) (q .nwstop - q .nwpass) e₃ i l (omega arith);
+        pass-rows = λ i h. some-row-false (pass-breaks q) 0 (pass-end q) e₁ i (omega arith) (omega arith);
+        stop-rows = λ i l h. some-row-false (stop-breaks q) (stop-start q) (q .rows - stop-start q) e₂ i l (omega arith);
+        middle-rows = λ i l h. some-row-false (middle-breaks q) (pass-end q) (stop-start q - pass-end q) e₃ i l (omega arith);
         sign-holds = e₄;
       }
 
@@ -68,7 +68,7 @@ module _ (q : Question) where
   unfolding pick
   unbroken-feasible u =
       judge-sign false
-      (none-some-row (pass-breaks q) 0 (q .nwpass) (λ i l h. u .pass-rows i (omega arith)))
-      (none-some-row (stop-breaks q) (q .nwstop) (q .rows - q .nwstop) (λ i l h. u .stop-rows i l (omega arith)))
-      (none-some-row (middle-breaks q) (q .nwpass) (q .nwstop - q .nwpass) (λ i l h. u .middle-rows i l (omega arith)))
+      (none-some-row (pass-breaks q) 0 (pass-end q) (λ i l h. u .pass-rows i (omega arith)))
+      (none-some-row (stop-breaks q) (stop-start q) (q .rows - stop-start q) (λ i l h. u .stop-rows i l (omega arith)))
+      (none-some-row (middle-breaks q) (pass-end q) (stop-start q - pass-end q) (λ i l h. u .middle-rows i l (omega arith)))
       (u .sign-holds)

@@ -207,7 +207,7 @@ pub rows-most : (A : ℕ → ℕ → Float) (m : ℕ) (storage : List Float) (e 
 unfolding rowsOf
 rows-most A m storage e out h = rw (ap (λ (x : ℕ × List Float). x .0) h) (stop-most A m)
 
--- ---- the factorization reads the entries (i, j) with j ≤ i alone: two matrices that agree on these have the same
+-- ---- the factorization reads the entries (i, j) with j ≤ i alone
 
 module _ (A B : ℕ → ℕ → Float) (m : ℕ) (agree : (i j : ℕ) → i < m → j ≤ i → A i j ≡ B i j) where
   less-cong : (i j : ℕ) (s t : Float) → i < m → j ≤ i → s ≡ t → less A i j s ≡ less B i j t
@@ -255,10 +255,11 @@ module _ (A B : ℕ → ℕ → Float) (m : ℕ) (agree : (i j : ℕ) → i < m 
   unfolding rowsOf stopOf
   rows-cong storage = rw (stop-cong m 0 (omega arith), filled-cong storage (pick (eqb (stop-from B m 0) 0) m (stop-from B m 0)))
 
-pub reads-lower : (m : ℕ) (mat mat′ storage : List Float) → length mat ≡ length mat′ → ((i j : ℕ) → i < m → j ≤ i → at m mat i j ≡ at m mat′ i j)
+-- so `factor` answers the same, storage too, of two matrices that agree on these
+pub factor-lower : (m : ℕ) (mat mat′ storage : List Float) → length mat ≡ length mat′ → ((i j : ℕ) → i < m → j ≤ i → at m mat i j ≡ at m mat′ i j)
     → factor-answer m mat storage ≡ factor-answer m mat′ storage
 unfolding factorOf
-reads-lower m mat mat′ storage l agree =
+factor-lower m mat mat′ storage l agree =
     let q = rows-cong (get-elem m mat [] []) (get-elem m mat′ [] []) m (λ i j b h. entry-plain m mat i j ∙ agree i j b h ∙ sym (entry-plain m mat′ i j)) storage in
     rw (l, q)
 

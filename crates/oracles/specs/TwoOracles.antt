@@ -4,27 +4,17 @@ use mathlib.Core.Bool.{true, false, _&&_, true≢false}
 use mathlib.Core.Logic.{inl, inr}
 use mathlib.Core.List.{List}
 use Prim.Native.Nat.{ℕ}
-use lib.IntN.{ℤ, natAbs}
+use lib.IntN.{ℤ}
 use lib.Ieee.{Float, eq}
 use Rattle.oracles.specs.FloatOrder.{nlt-eq}
 use Rattle.oracles.specs.LowpassOracle.{offered, assess-feas-answer, assess-optim-answer}
-use Rattle.oracles.specs.Verdict.{feasible, Question, judge, no-stop-value, asked, limits, is-accepted, judgement, Peak, as-feas, is-six, is-feasible}
+use Rattle.oracles.specs.Verdict.{feasible, Limits, Question, judge, no-stop-value, asked, limits, is-accepted, judgement, Peak, as-feas, is-six, is-feasible}
 use Rattle.oracles.specs.CursorRule.{has-value, feas-rule, optim-rule}
 use Rattle.oracles.specs.declared.lowpass_oracle.LowpassOracle.{LowpassOracle}
 
 -- equal limits ask the same
 asked-same : (o o′ : LowpassOracle) (n rows : ℕ) (table x : List Float) → limits o ≡ limits o′ → asked o (o .«sp_sq») n rows table x ≡ asked o′ (o′ .«sp_sq») n rows table x
-asked-same o o′ n rows table x e = λ i. record {
-  n = n;
-  rows = rows;
-  nwpass = natAbs (e i .nwpass);
-  nwstop = natAbs (e i .nwstop);
-  lp-sq = e i .lp-sq;
-  up-sq = e i .up-sq;
-  sp-sq = e i .sp-sq;
-  table = table;
-  x = x;
-}
+asked-same o o′ n rows table x e = ap (λ (l : Limits). record { n = n; rows = rows; limits = l; table = table; x = x }) e
 
 -- two largest values of one point
 peak-same : (q : Question) (f : Float) (k : ℤ) (f′ : Float) (k′ : ℤ) → Peak q f k → Peak q f′ k′ → eq f f′ ≡ true

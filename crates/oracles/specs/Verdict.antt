@@ -14,7 +14,7 @@ use Rattle.numbers.specs.Arr.{isDimension}
 use Rattle.numbers.specs.Refusal.{refusalNumber}
 use Rattle.oracles.specs.RoundRobin.{eqZ}
 use Rattle.oracles.specs.Scan.{−∞, none, valueOf, table-fits}
-use Rattle.oracles.specs.LowpassOracle.{bands-fit, cursors-fit}
+use Rattle.oracles.specs.LowpassOracle.{bands-fit, cursors-fit, offered}
 use Rattle.oracles.specs.declared.lowpass_oracle.LowpassOracle.{LowpassOracle}
 use Rattle.oracles.specs.declared.lowpass_oracle.Group.the-variants.{Pass, Stop, Middle, Sign}
 use Rattle.oracles.specs.declared.lowpass_oracle.Verdict.{Verdict}
@@ -33,17 +33,32 @@ pub data Judgement : Type 0 where
   sign : Judgement
   refused : Judgement
 
+-- bands and limits: all of an oracle that a verdict may depend on
+pub record Limits : Type 0 where
+  pub nwpass : ℤ
+  pub nwstop : ℤ
+  pub lp-sq : Float
+  pub up-sq : Float
+  pub sp-sq : Float
+
+-- those of this oracle
+abbrev pub limits : LowpassOracle → Limits
+limits o = record { nwpass = o .nwpass; nwstop = o .nwstop; lp-sq = o .«lp_sq»; up-sq = o .«up_sq»; sp-sq = o .«sp_sq» }
+
 -- what is asked about a point: n, the table with its rows, bands and limits, and the point, with no cursor in it
 pub record Question : Type 0 where
   pub n : ℕ
   pub rows : ℕ
-  pub nwpass : ℕ
-  pub nwstop : ℕ
-  pub lp-sq : Float
-  pub up-sq : Float
-  pub sp-sq : Float
+  pub limits : Limits
   pub table : List Float
   pub x : List Float
+
+-- pass rows end here, and stop rows begin here; the middle rows lie between
+abbrev pub pass-end : Question → ℕ
+pass-end q = natAbs (q .limits .nwpass)
+
+abbrev pub stop-start : Question → ℕ
+stop-start q = natAbs (q .limits .nwstop)
 
 -- a row's value is its `dot` with the point
 abbrev pub valueIn : Question → ℕ → Float
@@ -51,11 +66,11 @@ valueIn q i = valueOf (q .n) (q .table) (q .x) i
 
 -- a pass row breaks its group above up_sq or below lp_sq; a test on NaN is false
 abbrev pub pass-breaks : Question → ℕ → Bool
-pass-breaks q i = lt (q .up-sq) (valueIn q i) || lt (valueIn q i) (q .lp-sq)
+pass-breaks q i = lt (q .limits .up-sq) (valueIn q i) || lt (valueIn q i) (q .limits .lp-sq)
 
 -- a stop row above sp_sq or below zero
 abbrev pub stop-breaks : Question → ℕ → Bool
-stop-breaks q i = lt (q .sp-sq) (valueIn q i) || lt (valueIn q i) 0ᶠ
+stop-breaks q i = lt (q .limits .sp-sq) (valueIn q i) || lt (valueIn q i) 0ᶠ
 
 -- a middle row below zero
 abbrev pub middle-breaks : Question → ℕ → Bool
@@ -73,40 +88,27 @@ some-row f lo (suc count) = some-row f lo count || f (lo + count)
 -- the first broken of pass, stop, middle and sign
 unfoldable pub judge : Question → Judgement
 judge q =
-    pick (some-row (pass-breaks q) 0 (q .nwpass)) pass
-    (pick (some-row (stop-breaks q) (q .nwstop) (q .rows - q .nwstop)) stop
-    (pick (some-row (middle-breaks q) (q .nwpass) (q .nwstop - q .nwpass)) middle
+    pick (some-row (pass-breaks q) 0 (pass-end q)) pass
+    (pick (some-row (stop-breaks q) (stop-start q) (q .rows - stop-start q)) stop
+    (pick (some-row (middle-breaks q) (pass-end q) (stop-start q - pass-end q)) middle
     (pick (sign-breaks q) sign feasible)))
 
 -- no row breaks and the sign holds: what feasible means, said of each row
 pub record Unbroken (q : Question) : Type 0 where
-  pub pass-rows : (i : ℕ) → i < q .nwpass → pass-breaks q i ≡ false
-  pub stop-rows : (i : ℕ) → q .nwstop ≤ i → i < q .rows → stop-breaks q i ≡ false
-  pub middle-rows : (i : ℕ) → q .nwpass ≤ i → i < q .nwstop → middle-breaks q i ≡ false
+  pub pass-rows : (i : ℕ) → i < pass-end q → pass-breaks q i ≡ false
+  pub stop-rows : (i : ℕ) → stop-start q ≤ i → i < q .rows → stop-breaks q i ≡ false
+  pub middle-rows : (i : ℕ) → pass-end q ≤ i → i < stop-start q → middle-breaks q i ≡ false
   pub sign-holds : sign-breaks q ≡ false
 
 -- no stop value compares: the stop band is empty or all its values are NaN
 unfoldable pub no-stop-value : Question → Bool
-no-stop-value q = not (some-row (λ i. not (isNan (valueIn q i))) (q .nwstop) (q .rows - q .nwstop))
+no-stop-value q = not (some-row (λ i. not (isNan (valueIn q i))) (stop-start q) (q .rows - stop-start q))
 
 -- ---- what an assessment says
 
 -- what is asked of an oracle with this sp_sq: nothing of its cursors, idx, fmax, kmax and more_alt
 abbrev pub asked : LowpassOracle → Float → ℕ → ℕ → List Float → List Float → Question
-asked o sp n rows table x =
-    record { n = n; rows = rows; nwpass = natAbs (o .nwpass); nwstop = natAbs (o .nwstop); lp-sq = o .«lp_sq»; up-sq = o .«up_sq»; sp-sq = sp; table = table; x = x }
-
--- an oracle's bands and limits: all of it that a verdict may depend on
-pub record Limits : Type 0 where
-  pub nwpass : ℤ
-  pub nwstop : ℤ
-  pub lp-sq : Float
-  pub up-sq : Float
-  pub sp-sq : Float
-
--- those of this oracle
-abbrev pub limits : LowpassOracle → Limits
-limits o = record { nwpass = o .nwpass; nwstop = o .nwstop; lp-sq = o .«lp_sq»; up-sq = o .«up_sq»; sp-sq = o .«sp_sq» }
+asked o sp n rows table x = record { n = n; rows = rows; limits = limits (offered o sp); table = table; x = x }
 
 -- nothing is refused by 1 to 4
 abbrev pub is-accepted : LowpassOracle → ℕ → ℕ → List Float → List Float → List Float → Bool
@@ -128,9 +130,9 @@ side-breaks over upper lower v = pick over (lt upper v) (lt v lower)
 -- whether a cut's row is one of its group's and breaks it on the side that is reported
 abbrev pub cut-breaks : Question → Verdict → Bool
 cut-breaks q Feasible = true
-cut-breaks q (Cut (Pass row over) beta) = ltb row (q .nwpass) && side-breaks over (q .up-sq) (q .lp-sq) (valueIn q row)
-cut-breaks q (Cut (Stop row over) beta) = leb (q .nwstop) row && ltb row (q .rows) && side-breaks over (q .sp-sq) 0ᶠ (valueIn q row)
-cut-breaks q (Cut (Middle row) beta) = leb (q .nwpass) row && ltb row (q .nwstop) && lt (valueIn q row) 0ᶠ
+cut-breaks q (Cut (Pass row over) beta) = ltb row (pass-end q) && side-breaks over (q .limits .up-sq) (q .limits .lp-sq) (valueIn q row)
+cut-breaks q (Cut (Stop row over) beta) = leb (stop-start q) row && ltb row (q .rows) && side-breaks over (q .limits .sp-sq) 0ᶠ (valueIn q row)
+cut-breaks q (Cut (Middle row) beta) = leb (pass-end q) row && ltb row (stop-start q) && lt (valueIn q row) 0ᶠ
 cut-breaks q (Cut Sign beta) = sign-breaks q
 cut-breaks q (Refused why) = true
 
@@ -147,11 +149,11 @@ cut-stands o (Refused why) = true
 pub record Has (q : Question) (fmax : Float) (kmax : ℤ) : Type 0 where
   pub row : ℕ
   pub row-is : kmax ≡ pos row
-  pub low : q .nwstop ≤ row
+  pub low : stop-start q ≤ row
   pub high : row < q .rows
   pub value-is : valueIn q row ≡ fmax
   pub compares : isNan fmax ≡ false
-  pub largest : (i : ℕ) → q .nwstop ≤ i → i < q .rows → lt fmax (valueIn q i) ≡ false
+  pub largest : (i : ℕ) → stop-start q ≤ i → i < q .rows → lt fmax (valueIn q i) ≡ false
 
 -- no stop value compares: minus infinity and −1
 pub record HasNone (q : Question) (fmax : Float) (kmax : ℤ) : Type 0 where
