@@ -64,7 +64,7 @@ found-under : (n : ℕ) (table x : List Float) (from past : ℕ) (lower : Float)
 found-under n table x from past lower row v true last f = absurd (true≢false (sym (f .above refl)))
 found-under n table x from past lower row v false last f = rw (← f .value-is) (f .below refl .1)
 
--- a cut says nothing of the largest value
+-- the rule of a cut, which asks nothing of the largest value
 cut-rule : (q : Question) (r : Assessed) → is-feasible (judgement (r .verdict)) ≡ false → judge q ≡ judgement (r .verdict)
     → cut-breaks q (r .verdict) ≡ true → cut-stands (r .oracle) (r .verdict) ≡ true → FeasRule q r
 cut-rule q r h j c a = record { verdict-is = sym j; cut-is = c; cut-at = a; peak = λ e. absurd (true≢false (sym (ap is-feasible e) ∙ ap is-feasible j ∙ h)) }
