@@ -1,10 +1,10 @@
 -- Laws of an assessment: what its tests say, and the ways it can go. Assumes nothing.
 use mathlib.Core.Path.{_≡_, refl, sym}
-use mathlib.Core.Bool.{Bool, true, false, _&&_, true≢false}
+use mathlib.Core.Bool.{Bool, true, false, not, _&&_, true≢false}
 use mathlib.Core.List.{List}
 use Prim.Native.Nat.{ℕ, _*_, _≤_}
 use native.Mathlib.Omega.{arith}
-use borrow.Author.Tests.{leb-true, le-leb, eqb-true}
+use borrow.Author.Tests.{leb-true, le-leb, eqb-true, not-false}
 use lib.Dec.{leb, eqb}
 use lib.ListN.{length, getD, set, replicate}
 use lib.IntN.{ℤ, pos, negsuc, natAbs}
@@ -13,11 +13,13 @@ use lib.Ieee.{Float, nan, lt, neg}
 use Rattle.numbers.specs.F64.{0ᶠ}
 use Rattle.numbers.specs.Pick.{pick}
 use Rattle.numbers.specs.Arr.{isDimension, tested}
+use Rattle.numbers.specs.declared.refusal.Refusal.the-variants.{Dimension, Length, Band, Cursor}
 use Rattle.numbers.specs.declared.cut.CutChoice.the-variants.{Single}
 use Rattle.oracles.specs.RoundRobin.{isAt, moved, Legal}
 use Rattle.oracles.specs.RoundRobinLaws.{and-parts, eqZ-true, legal-of}
 use Rattle.oracles.specs.Scan.{−∞, none, isRows, table-fits, scanOf, violated, band-beta, band-gradient}
-use Rattle.oracles.specs.LowpassOracle.{−1ᶠ, isOf, bands-fit, cursors-fit, after-pass, after-stop, after-middle, assess-sign, assess-middle, assess-stop, assessOf, assess-feas-answer}
+use Rattle.oracles.specs.LowpassOracle.{−1ᶠ, isOf, bands-fit, cursors-fit, after-pass, after-stop, after-middle, assess-sign, assess-middle, assess-stop, assessOf, refusedOf, assess-feas-answer}
+use Rattle.oracles.specs.LoopLaws.{by-test}
 use Rattle.oracles.specs.Verdict.{is-accepted}
 use Rattle.oracles.specs.declared.round_robin.RoundRobin.{RoundRobin}
 use Rattle.oracles.specs.declared.scan.Upper.the-variants.{Absent, At}
@@ -56,8 +58,8 @@ pub record Fit (o : LowpassOracle) (rows : ℕ) : Type 0 where
   pub pass-high : natAbs (o .nwpass) ≤ rows
   pub middle-high : natAbs (o .nwstop) ≤ rows
 
-pub fit : (o : LowpassOracle) (rows : ℕ) → bands-fit o rows ≡ true → cursors-fit o ≡ true → Fit o rows
-fit o rows b a =
+pub fit-of : (o : LowpassOracle) (rows : ℕ) → bands-fit o rows ≡ true → cursors-fit o ≡ true → Fit o rows
+fit-of o rows b a =
     let b₃ = and-parts _ (isOf (o .rr3) (o .nwstop) (pos rows)) b in
     let b₂ = and-parts _ (isOf (o .rr2) (o .nwpass) (o .nwstop)) (b₃ .0) in
     let b₁ = and-parts _ (isOf (o .rr1) (pos 0) (o .nwpass)) (b₂ .0) in
@@ -87,6 +89,7 @@ pub record Accepted (o : LowpassOracle) (n rows : ℕ) (table x grad : List Floa
   pub dimension : isDimension n ≡ true
   pub long : (table-fits n rows table x && eqb (length grad) n) ≡ true
   pub table-long : length table ≡ rows * n
+  pub x-long : length x ≡ n
   pub grad-long : length grad ≡ n
   pub bands : bands-fit o rows ≡ true
   pub cursors : cursors-fit o ≡ true
@@ -102,6 +105,7 @@ accepted-of o n rows table x grad h =
       dimension = p₂ .0;
       long = p₂ .1;
       table-long = eqb-true (length table) (rows * n) (p₀ .0);
+      x-long = eqb-true (length x) n (p₀ .1);
       grad-long = eqb-true (length grad) n (p₁ .1);
       bands = p₃ .1;
       cursors = p₄ .1;
@@ -114,6 +118,18 @@ accepted-is o n rows table x grad h =
     let a = accepted-of o n rows table x grad h in
     rw (a .dimension, a .long, a .bands, a .cursors)
 
+-- what holds of the four refusals, and of the assessment of an accepted call, holds of the answer
+pub by-refusals : (o : LowpassOracle) (n rows : ℕ) (table x grad : List Float) (P : Assessed × List Float → Type 0)
+    → P (refusedOf o Dimension, grad) → P (refusedOf o Length, grad) → P (refusedOf o Band, grad) → P (refusedOf o Cursor, grad)
+    → (is-accepted o n rows table x grad ≡ true → P (assessOf o n table x grad)) → P (assess-feas-answer o n rows table x grad)
+unfolding assess-feas-answer tested
+by-refusals o n rows table x grad P p₁ p₂ p₃ p₄ f =
+    by-test P (not (isDimension n)) _ _ (λ t. p₁)
+    (λ t₁. by-test P (not (table-fits n rows table x && eqb (length grad) n)) _ _ (λ t. p₂)
+    (λ t₂. by-test P (not (bands-fit o rows)) _ _ (λ t. p₃)
+    (λ t₃. by-test P (not (cursors-fit o)) _ _ (λ t. p₄)
+    (λ t₄. f (rw (not-false (isDimension n) t₁, not-false (table-fits n rows table x && eqb (length grad) n) t₂, not-false (bands-fit o rows) t₃, not-false (cursors-fit o) t₄))))))
+
 -- ---- the ways of an assessment
 
 -- what holds of both answers holds of the one that is taken
@@ -121,11 +137,6 @@ by-violation : {X : Type 0} (P : X → Type 0) (w : Violation) (kept : X) (broke
     → (w ≡ Nothing → P kept) → ((row : ℕ) (v : Float) (over : Bool) → w ≡ Broken row v over → P (broken row v over)) → P (violated w kept broken)
 by-violation P Nothing kept broken f g = f refl
 by-violation P (Broken row v over) kept broken f g = g row v over refl
-
-pub by-test : {X : Type 0} (P : X → Type 0) (t : Bool) (a b : X) → (t ≡ true → P a) → (t ≡ false → P b) → P (pick t a b)
-unfolding pick
-by-test P true a b f g = f refl
-by-test P false a b f g = g refl
 
 module _ (o : LowpassOracle) (n : ℕ) (table x : List Float) where
   -- the three scans

@@ -6,7 +6,7 @@ use mathlib.Core.List.{List, []}
 use Prim.Native.Nat.{ℕ, zero, suc, _≤_, _<_, _+_, _-_, _*_}
 use native.Mathlib.Nat.{zero-mul, eq-or-lt-of-le}
 use native.Mathlib.Omega.{arith}
-use borrow.Author.Tests.{not-true, not-false, leb-true, ltb-true, ltb-false, lt-ltb, le-ltb, le-leb, eq-eqb, eqb-false}
+use borrow.Author.Tests.{leb-true, ltb-true, ltb-false, lt-ltb, le-ltb, le-leb, eq-eqb, eqb-false}
 use lib.Dec.{leb, ltb, eqb}
 use lib.ListN.{length}
 use lib.Ieee.{Float, neg}
@@ -16,38 +16,33 @@ use Rattle.numbers.specs.declared.refusal.Refusal.{Refusal}
 use Rattle.numbers.specs.declared.refusal.Refusal.the-variants.{Dimension, Length}
 use Rattle.numbers.specs.declared.arr.Number.the-variants.{Value}
 use Rattle.oracles.specs.Matrix.{at, total}
+use Rattle.oracles.specs.MatrixLaws.{length-grid, grid-at, grid-ext}
+use Rattle.oracles.specs.LoopLaws.{says-no, says-yes}
 use Rattle.oracles.specs.LdltMgr.{isOrder, get-elem, less, taken, reduced, stored, stops, stop-from, stopOf, filled, posOf, rowsOf, factorOf, factor-answer, order-tested, witnessOf, witness-answer}
 use Rattle.oracles.specs.declared.ldlt_mgr.Pos.{Pos}
 use Rattle.oracles.specs.declared.ldlt_mgr.Factored.{Factored}
 use Rattle.oracles.specs.declared.ldlt_mgr.Factored.the-variants.{Definite, Stopped, Refused}
-use Rattle.oracles.specs.MatrixLaws.{length-grid, grid-at, grid-ext}
 
 -- ---- the tests of a call
 
 -- `r` is what is_order answered
 module _ (m : ℕ) (r : Bool) (e : r ≡ isOrder m) where
-  pub no-order : not r ≡ true → isOrder m ≡ false
-  no-order t = sym e ∙ not-true r t
-
-  pub an-order : not r ≡ false → isOrder m ≡ true
-  an-order t = sym e ∙ not-false r t
-
   pub order-most : not r ≡ false → m ≤ 32
-  order-most t = leb-true m 32 (and-eq-true-iff (leb 1 m) (leb m 32) .0 (an-order t) .1)
+  order-most t = leb-true m 32 (and-eq-true-iff (leb 1 m) (leb m 32) .0 (says-yes r (isOrder m) e t) .1)
 
   -- the answers of a call that tests the order, and then its lengths
   module _ {ℓ} {X : Type ℓ} (fit : Bool) (one two done : X) where
     pub wrong-order : not r ≡ true → one ≡ order-tested m fit one two done
     unfolding order-tested
-    wrong-order t = hit _ _ _ _ (ap not (no-order t)) refl
+    wrong-order t = hit _ _ _ _ (ap not (says-no r (isOrder m) e t)) refl
 
     pub wrong-length : not r ≡ false → fit ≡ false → two ≡ order-tested m fit one two done
     unfolding order-tested
-    wrong-length t f = skip _ _ _ _ (ap not (an-order t)) (hit _ _ _ _ (ap not f) refl)
+    wrong-length t f = skip _ _ _ _ (ap not (says-yes r (isOrder m) e t)) (hit _ _ _ _ (ap not f) refl)
 
     pub accepted : not r ≡ false → fit ≡ true → done ≡ order-tested m fit one two done
     unfolding order-tested
-    accepted t f = skip _ _ _ _ (ap not (an-order t)) (skip _ _ _ _ (ap not f) refl)
+    accepted t f = skip _ _ _ _ (ap not (says-yes r (isOrder m) e t)) (skip _ _ _ _ (ap not f) refl)
 
 -- ---- the entry
 
@@ -212,53 +207,61 @@ pub rows-most : (A : ℕ → ℕ → Float) (m : ℕ) (storage : List Float) (e 
 unfolding rowsOf
 rows-most A m storage e out h = rw (ap (λ (x : ℕ × List Float). x .0) h) (stop-most A m)
 
--- ---- the factorization reads the entries (i, j) with j ≤ i alone: two matrices that agree on these have the same
+-- ---- the factorization reads the entries (i, j) with j ≤ i alone
 
-module _ (A B : ℕ → ℕ → Float) (agree : (i j : ℕ) → j ≤ i → A i j ≡ B i j) where
-  less-cong : (i j : ℕ) (s t : Float) → j ≤ i → s ≡ t → less A i j s ≡ less B i j t
-  less-cong i zero s t l e = agree i 0 l
-  less-cong i (suc j) s t l e = rw (agree i (suc j) l, e)
+module _ (A B : ℕ → ℕ → Float) (m : ℕ) (agree : (i j : ℕ) → i < m → j ≤ i → A i j ≡ B i j) where
+  less-cong : (i j : ℕ) (s t : Float) → i < m → j ≤ i → s ≡ t → less A i j s ≡ less B i j t
+  less-cong i zero s t b l e = agree i 0 b l
+  less-cong i (suc j) s t b l e = rw (agree i (suc j) b l, e)
 
-  taken-cong : (i c n : ℕ) → n ≤ i → n ≤ c → taken A i c n ≡ taken B i c n
+  taken-cong : (i c n : ℕ) → i < m → c < m → n ≤ i → n ≤ c → taken A i c n ≡ taken B i c n
   unfolding taken
-  taken-cong i c zero l h = refl
-  taken-cong i c (suc k) l h =
+  taken-cong i c zero a b l h = refl
+  taken-cong i c (suc k) a b l h =
       rw (
-        taken-cong i c k (omega arith) (omega arith),
-        less-cong i k _ _ (omega arith) (taken-cong i k k (omega arith) (omega arith)),
-        less-cong k k _ _ (omega arith) (taken-cong k k k (omega arith) (omega arith)),
-        less-cong c k _ _ (omega arith) (taken-cong c k k (omega arith) (omega arith)),
+        taken-cong i c k a b (omega arith) (omega arith),
+        less-cong i k _ _ a (omega arith) (taken-cong i k k a (omega arith) (omega arith) (omega arith)),
+        less-cong k k _ _ (omega arith) (omega arith) (taken-cong k k k (omega arith) (omega arith) (omega arith) (omega arith)),
+        less-cong c k _ _ b (omega arith) (taken-cong c k k b (omega arith) (omega arith) (omega arith)),
       )
 
-  reduced-cong : (i j : ℕ) → j ≤ i → reduced A i j ≡ reduced B i j
+  reduced-cong : (i j : ℕ) → i < m → j ≤ i → reduced A i j ≡ reduced B i j
   unfolding reduced
-  reduced-cong i j l = less-cong i j _ _ l (taken-cong i j j l (omega arith))
+  reduced-cong i j b l = less-cong i j _ _ b l (taken-cong i j j b (omega arith) l (omega arith))
 
-  stored-cong : (r c : ℕ) → stored A r c ≡ stored B r c
-  stored-cong r c = go (ltb c r) refl
+  stored-cong : (r c : ℕ) → r < m → c < m → stored A r c ≡ stored B r c
+  stored-cong r c a b = go (ltb c r) refl
     where
       go : (t : Bool) → ltb c r ≡ t → stored A r c ≡ stored B r c
       go true x =
           let l : c < r = ltb-true c r x in
-          stored-low A r c l ∙ rw (reduced-cong r c (omega arith), reduced-cong c c (omega arith)) (sym (stored-low B r c l))
+          stored-low A r c l ∙ rw (reduced-cong r c a (omega arith), reduced-cong c c b (omega arith)) (sym (stored-low B r c l))
       go false x =
           let l : r ≤ c = ltb-false c r x in
-          stored-high A r c l ∙ reduced-cong c r l ∙ sym (stored-high B r c l)
+          stored-high A r c l ∙ reduced-cong c r b l ∙ sym (stored-high B r c l)
 
-  stop-cong : (left i : ℕ) → stop-from A left i ≡ stop-from B left i
+  stop-cong : (left i : ℕ) → i + left ≤ m → stop-from A left i ≡ stop-from B left i
   unfolding stop-from
-  stop-cong zero i = refl
-  stop-cong (suc left) i = rw (reduced-cong i i (omega arith), stop-cong left (suc i))
+  stop-cong zero i h = refl
+  stop-cong (suc left) i h = rw (reduced-cong i i (omega arith) (omega arith), stop-cong left (suc i) (omega arith))
 
-  filled-cong : (m : ℕ) (storage : List Float) (k : ℕ) → filled A m storage k ≡ filled B m storage k
-  filled-cong m storage k =
+  filled-cong : (storage : List Float) (k : ℕ) → filled A m storage k ≡ filled B m storage k
+  filled-cong storage k =
       filled-ext B m storage k (filled A m storage k) (length-filled A m storage k)
-      (λ r c a b x y. filled-in A m storage k r c a b x y ∙ stored-cong r c)
+      (λ r c a b x y. filled-in A m storage k r c a b x y ∙ stored-cong r c a b)
       (filled-out A m storage k)
 
-  pub reads-lower : (m : ℕ) (storage : List Float) → rowsOf A m storage ≡ rowsOf B m storage
+  rows-cong : (storage : List Float) → rowsOf A m storage ≡ rowsOf B m storage
   unfolding rowsOf stopOf
-  reads-lower m storage = rw (stop-cong m 0, filled-cong m storage (pick (eqb (stop-from B m 0) 0) m (stop-from B m 0)))
+  rows-cong storage = rw (stop-cong m 0 (omega arith), filled-cong storage (pick (eqb (stop-from B m 0) 0) m (stop-from B m 0)))
+
+-- so `factor` answers the same, storage too, of two matrices that agree on these
+pub factor-lower : (m : ℕ) (mat mat′ storage : List Float) → length mat ≡ length mat′ → ((i j : ℕ) → i < m → j ≤ i → at m mat i j ≡ at m mat′ i j)
+    → factor-answer m mat storage ≡ factor-answer m mat′ storage
+unfolding factorOf
+factor-lower m mat mat′ storage l agree =
+    let q = rows-cong (get-elem m mat [] []) (get-elem m mat′ [] []) m (λ i j b h. entry-plain m mat i j ∙ agree i j b h ∙ sym (entry-plain m mat′ i j)) storage in
+    rw (l, q)
 
 -- ---- the witness right after a stopped `factor` is never refused
 
@@ -300,8 +303,8 @@ rows-stopped A m storage pos out o f = go (eqb (stopOf A m) 0) refl
           within = omega (arith, stop-most A m);
         }
 
-pub stopped : (m : ℕ) (mat storage : List Float) (pos : Pos) (out : List Float) → factor-answer m mat storage ≡ (Stopped pos, out) → StoppedAt m pos out
-stopped m mat storage pos out h = go (isOrder m) (eqb (length mat) (m * m) && eqb (length storage) (m * m)) refl refl
+pub factor-stopped : (m : ℕ) (mat storage : List Float) (pos : Pos) (out : List Float) → factor-answer m mat storage ≡ (Stopped pos, out) → StoppedAt m pos out
+factor-stopped m mat storage pos out h = go (isOrder m) (eqb (length mat) (m * m) && eqb (length storage) (m * m)) refl refl
   where
     go : (s t : Bool) → isOrder m ≡ s → (eqb (length mat) (m * m) && eqb (length storage) (m * m)) ≡ t → StoppedAt m pos out
     go false t x y = absurd (refused-no Dimension pos (ap said (wrong-order m false (sym x) _ _ _ _ refl ∙ h)))

@@ -14,11 +14,17 @@ pub mod RoundRobinLaws
 pub mod FloatOrder
 pub mod ScanLaws
 pub mod AssessLaws
+pub mod JudgeLaws
 pub mod CursorRule
+pub mod TwoOracles
+pub mod OracleAfter
 pub mod Known
 pub mod Smallest
 pub mod MatrixLaws
 pub mod LoopLaws
 pub mod LdltLaws
+pub mod EllCommonLaws
 pub mod EllLaws
+pub mod EllCalls
 pub mod EllStableLaws
+pub mod EllStableCalls

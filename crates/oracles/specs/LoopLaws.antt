@@ -1,13 +1,12 @@
--- Laws of loops that write vectors and matrices entry by entry, and of parts that were lent. Assumes nothing.
+-- Laws of tests and choices, of loops that write vectors and matrices entry by entry, and of parts that were lent. Assumes nothing.
 use mathlib.Core.Path.{_≡_, refl, sym, ap, _∙_}
-use mathlib.Core.Bool.{Bool, true, false}
+use mathlib.Core.Bool.{Bool, true, false, not}
 use mathlib.Core.List.{List, _++_}
 use mathlib.Core.Logic.{⊎-elim}
 use Prim.Native.Nat.{ℕ, _≤_, _<_, _+_, _*_, _-_}
-use native.Mathlib.Nat.{eq-or-lt-of-le, mul-le-mul}
-use native.Mathlib.Numerals.{add-one}
+use native.Mathlib.Nat.{eq-or-lt-of-le}
 use native.Mathlib.Omega.{arith}
-use borrow.Author.Tests.{ltb-true, ltb-false, eqb-true, eqb-false, lt-ltb, le-ltb}
+use borrow.Author.Tests.{ltb-true, ltb-false, eqb-true, eqb-false, lt-ltb, le-ltb, not-true, not-false}
 use borrow.Rule.Slice.PartMut.{putMid, same-len-mid}
 use lib.Dec.{ltb, eqb}
 use lib.Ieee.{Float, nan}
@@ -16,8 +15,17 @@ use lib.Seq.{getD-append-add, getD-set-same, getD-set-other, getD-take, getD-dro
 use Rattle.numbers.specs.Pick.{pick, hit, skip}
 use Rattle.numbers.specs.Arr.{tab}
 use Rattle.numbers.specs.ArrLaws.{row-in, row-unique}
-use Rattle.oracles.specs.Matrix.{entry, at, grid, total}
+use Rattle.oracles.specs.Matrix.{entry, at, grid}
 use Rattle.oracles.specs.MatrixLaws.{tab-ext, place-in, grid-ext, at-set-same, at-set-other}
+
+-- ---- a test of the code: r is what it answered, and the code goes by `!r`
+
+module _ (r t : Bool) (e : r ≡ t) where
+  pub says-no : not r ≡ true → t ≡ false
+  says-no h = sym e ∙ not-true r h
+
+  pub says-yes : not r ≡ false → t ≡ true
+  says-yes h = sym e ∙ not-false r h
 
 -- ---- a choice by a test, entry by entry
 
@@ -47,6 +55,12 @@ module _ {ℓ} {X : Type ℓ} where
       both-ways (ltb k (j + 1))
       (λ e. is-hit (ltb k j) a b (lt-ltb k j (⊎-elim (λ (q : k ≡ j). absurd (h q)) (λ (l : k < j). l) (eq-or-lt-of-le (omega (arith, ltb-true k (j + 1) e))))))
       (λ e. is-skip (ltb k j) a b (le-ltb k j (omega (arith, ltb-false k (j + 1) e))))
+
+-- what holds of both holds of the one that is taken
+pub by-test {ℓ} : {X : Type 0} (P : X → Type ℓ) (t : Bool) (a b : X) → (t ≡ true → P a) → (t ≡ false → P b) → P (pick t a b)
+unfolding pick
+by-test P true a b f g = f refl
+by-test P false a b f g = g refl
 
 -- what a function makes of a choice
 pub pick-map {ℓ ℓ′} : {X : Type ℓ} {Y : Type ℓ′} (f : X → Y) (t : Bool) (a b : X) → f (pick t a b) ≡ pick t (f a) (f b)
@@ -253,17 +267,3 @@ module _ (n : ℕ) (f g : ℕ → ℕ → Float) (i : ℕ) (mat : List Float) (h
           is-skip (ltb r i) (f r c) (g r c) (le-ltb r i (omega arith)) ∙ rw y (o c (ltb-true c a w))
           ∙ sym (is-hit (ltb r (i + 1)) (f r c) (g r c) (lt-ltb r (i + 1) (omega arith)))
       go r c z true t false w = absurd (z (eqb-true r i t) (ltb-false c a w))
-
--- ---- places and sums in a loop
-
--- place (i, j) is a small number
-pub place-small : (n i j : ℕ) → n ≤ 32 → i < n → j < n → i * n + j < 1024
-place-small n i j h k l = omega (arith, place-in n n i j k l, mul-le-mul h h)
-
--- a sum with one term more, and one whose count is known by an equation
-pub total-turn : (op : Float → Float → Float) (s : Float) (f : ℕ → Float) (k : ℕ) (t v : Float) → t ≡ total op s f k → v ≡ f k → op t v ≡ total op s f (k + 1)
-unfolding total
-total-turn op s f k t v e h = rw (e, h, add-one)
-
-pub total-at : (op : Float → Float → Float) (s : Float) (f : ℕ → Float) (k m : ℕ) (t : Float) → t ≡ total op s f k → k ≡ m → t ≡ total op s f m
-total-at op s f k m t e h = e ∙ ap (total op s f) h

@@ -96,35 +96,26 @@ unfolding total
 total-cong op s f g zero h = refl
 total-cong op s f g (suc k) h = rw (total-cong op s f g k (λ j l. h j (omega arith)), h k (omega arith))
 
--- ---- a loop that takes f 0, f 1, .. f (n − 1) into a sum: `s` when i are taken
+-- a sum with one term more, as a loop takes it, and one whose count is known by an equation
+pub total-turn : (op : Float → Float → Float) (s : Float) (f : ℕ → Float) (k : ℕ) (t v : Float) → t ≡ total op s f k → v ≡ f k → op t v ≡ total op s f (k + 1)
+unfolding total
+total-turn op s f k t v e h = rw (e, h, add-one)
 
-pub record SummedTo (op : Float → Float → Float) (s₀ : Float) (f : ℕ → Float) (n : ℕ) (s : Float) (i : ℕ) : Type 0 where
-  pub within : i ≤ n
-  pub is : s ≡ total op s₀ f i
+pub total-at : (op : Float → Float → Float) (s : Float) (f : ℕ → Float) (k m : ℕ) (t : Float) → t ≡ total op s f k → k ≡ m → t ≡ total op s f m
+total-at op s f k m t e h = e ∙ ap (total op s f) h
 
-module _ (op : Float → Float → Float) (s₀ : Float) (f : ℕ → Float) (n : ℕ) where
-  pub summed-start : SummedTo op s₀ f n s₀ 0
-  unfolding total
-  summed-start = record { within = omega arith; is = refl }
-
-  pub summed-turn : (s : Float) (i : ℕ) (v : Float) → SummedTo op s₀ f n s i → i < n → v ≡ f i → SummedTo op s₀ f n (op s v) (i + 1)
-  unfolding total
-  summed-turn s i v h l e = record { within = omega arith; is = rw (add-one, h .is, e) }
-
-  pub summed-done : (s : Float) (i : ℕ) → SummedTo op s₀ f n s i → n ≤ i → s ≡ total op s₀ f n
-  summed-done s i h l = let q : i ≡ n = omega (arith, h .within) in h .is ∙ rw q
-
--- the same where the counter k runs from `from` to `end`
+-- a loop whose counter k runs from `from` to `end`: `s` when the terms before k are taken
 pub record SummedFrom (op : Float → Float → Float) (s₀ : Float) (f : ℕ → Float) (from end : ℕ) (s : Float) (k : ℕ) : Type 0 where
   pub begun : from ≤ k
   pub within : k ≤ end
-  pub sum : SummedTo op s₀ (λ j. f (from + j)) (end - from) s (k - from)
+  pub is : s ≡ total op s₀ (λ j. f (from + j)) (k - from)
 
 module _ (op : Float → Float → Float) (s₀ : Float) (f : ℕ → Float) (from end : ℕ) where
   pub from-start : from ≤ end → SummedFrom op s₀ f from end s₀ from
+  unfolding total
   from-start h =
       let q : from - from ≡ 0 = omega arith in
-      record { begun = omega arith; within = h; sum = rw q (summed-start op s₀ (λ j. f (from + j)) (end - from)) }
+      record { begun = omega arith; within = h; is = rw q }
 
   pub from-turn : (s : Float) (k : ℕ) (v : Float) → SummedFrom op s₀ f from end s k → k < end → v ≡ f k → SummedFrom op s₀ f from end (op s v) (k + 1)
   from-turn s k v h l e =
@@ -134,14 +125,15 @@ module _ (op : Float → Float → Float) (s₀ : Float) (f : ℕ → Float) (fr
       record {
         begun = omega arith;
         within = omega arith;
-        sum = rw q (summed-turn op s₀ (λ j. f (from + j)) (end - from) s (k - from) v (h .sum) (omega arith) (rw p e));
+        is = rw q (total-turn op s₀ (λ j. f (from + j)) (k - from) s v (h .is) (rw p e));
       }
 
   pub from-done : (s : Float) (k : ℕ) → SummedFrom op s₀ f from end s k → end ≤ k → s ≡ total op s₀ (λ j. f (from + j)) (end - from)
-  from-done s k h l = summed-done op s₀ (λ j. f (from + j)) (end - from) s (k - from) (h .sum) (omega arith)
+  from-done s k h l = total-at op s₀ (λ j. f (from + j)) (k - from) (end - from) s (h .is) (omega arith)
 
--- ---- places of a matrix of order 32 at most, which fit a usize
+-- ---- places of a matrix of order 32 at most fit a usize
 
+-- row i ends at a small number
 pub row-small : (m i : ℕ) → m ≤ 32 → i < m → i * m + m ≤ 1024
 row-small m i h k = omega (arith, row-in m i m k, mul-le-mul h h)
 

@@ -8,7 +8,6 @@ use native.Mathlib.Nat.{eq-or-lt-of-le}
 use native.Mathlib.Decide.{decLt}
 use native.Mathlib.Omega.{arith}
 use lib.IntN.{ℤ, pos, predℤ, natAbs, _-ℤ_}
-use lib.Signed.{ltZ}
 use lib.Ieee.{Float, lt, isNan}
 use Rattle.numbers.specs.Pick.{pick}
 use Rattle.oracles.specs.RoundRobin.{isBand, isAt, moved, advanced, Legal}
@@ -18,7 +17,6 @@ use Rattle.oracles.specs.Scan.{−∞, none, valueOf, isOver, scanFrom, 
 use Rattle.oracles.specs.Verdict.{some-row}
 use Rattle.oracles.specs.declared.round_robin.RoundRobin.{RoundRobin}
 use Rattle.oracles.specs.declared.scan.Upper.{Upper}
-use Rattle.oracles.specs.declared.scan.Violation.{Violation}
 use Rattle.oracles.specs.declared.scan.Violation.the-variants.{Nothing, Broken}
 use Rattle.oracles.specs.declared.scan.Scan.{Scan}
 
@@ -39,21 +37,6 @@ none-some-row f lo zero h = refl
 none-some-row f lo (suc count) h = rw (none-some-row f lo count (λ i a b. h i a (omega arith))) (h (lo + count) (omega arith) (omega arith))
 
 -- one that has it
-pub record Row (f : ℕ → Bool) (lo count : ℕ) : Type 0 where
-  pub row : ℕ
-  pub low : lo ≤ row
-  pub high : row < lo + count
-  pub holds : f row ≡ true
-
-pub some-row-true : (f : ℕ → Bool) (lo count : ℕ) → some-row f lo count ≡ true → Row f lo count
-unfolding some-row
-some-row-true f lo zero e = absurd (true≢false (sym e))
-some-row-true f lo (suc count) e = go (some-row f lo count) (some-row-true f lo count) e
-  where
-    go : (t : Bool) → (t ≡ true → Row f lo count) → (t || f (lo + count)) ≡ true → Row f lo (suc count)
-    go true r e = let w = r refl in record { row = w .row; low = w .low; high = omega arith; holds = w .holds }
-    go false r e = record { row = lo + count; low = omega arith; high = omega arith; holds = e }
-
 pub some-row-holds : (f : ℕ → Bool) (lo count i : ℕ) → lo ≤ i → i < lo + count → f i ≡ true → some-row f lo count ≡ true
 some-row-holds f lo count i a b h = go (some-row f lo count) refl
   where
@@ -68,19 +51,20 @@ pub band-count : (c : RoundRobin) (L : Legal c) → natAbs (c .hi -ℤ c .lo) �
 band-count c L = ap natAbs (band-is c L)
 
 -- row i is one of the next `left` rows from k on: before the band's end, or past it and so from the band's start on
-abbrev Seen : ℕ → ℕ → ℕ → ℕ → ℕ → Type 0
+abbrev pub Seen : ℕ → ℕ → ℕ → ℕ → ℕ → Type 0
 Seen from past k left i = ((k ≤ i) × (i < k + left)) ⊎ ((i < k) × (i + (past - from) < k + left))
 
--- an advance leads to row k, and where k is the band's end to its start
-record Onto (from past k : ℕ) : Type 0 where
-  row : ℕ
-  low : from ≤ row
-  high : row < past
-  goes : advanced (canon from past k) ≡ canon from past (suc row)
-  rest : (left i : ℕ) → from ≤ i → i < past → Seen from past k (suc left) i → (row ≡ i) ⊎ Seen from past (suc row) left i
+-- where an advance of the cursor whose next row is k leads: to row k, and where k is the band's end to its start;
+-- a row that is still to be seen is this one, or is seen after it
+pub record NextRow (from past k : ℕ) : Type 0 where
+  pub row : ℕ
+  pub low : from ≤ row
+  pub high : row < past
+  pub goes : advanced (canon from past k) ≡ canon from past (suc row)
+  pub rest : (left i : ℕ) → from ≤ i → i < past → Seen from past k (suc left) i → (row ≡ i) ⊎ Seen from past (suc row) left i
 
-onto : (from past k : ℕ) → from ≤ k → k ≤ past → from < past → Onto from past k
-onto from past k a b some = elim (eq-or-lt-of-le b) [
+pub next-row : (from past k : ℕ) → from ≤ k → k ≤ past → from < past → NextRow from past k
+next-row from past k a b some = elim (eq-or-lt-of-le b) [
   | inl e ↦ record { row = from; low = omega arith; high = some; goes = rw e (adv-wrap from past); rest = λ left i u w h. from-start left i u w e h }
   | inr l ↦ record { row = k; low = a; high = l; goes = adv-next from past k (λ e. omega arith); rest = λ left i u w h. from-k left i h }
 ]
@@ -116,7 +100,7 @@ module _ (n : ℕ) (table x : List Float) (lower : Float) (upper : Upper) where
   val i = valueOf n table x i
 
   -- what holds of each way through a row holds of the scan
-  turn : (P : Scan → Type 0) (left from past k : ℕ) (fmax : Float) (kmax : ℤ) (o : Onto from past k)
+  turn : (P : Scan → Type 0) (left from past k : ℕ) (fmax : Float) (kmax : ℤ) (o : NextRow from past k)
       → (isOver upper (val (o .row)) ≡ true → P (ended (o .row) (val (o .row)) true fmax kmax))
       → (isOver upper (val (o .row)) ≡ false → lt (val (o .row)) lower ≡ true → P (ended (o .row) (val (o .row)) false fmax kmax))
       → (isOver upper (val (o .row)) ≡ false → lt (val (o .row)) lower ≡ false
@@ -195,7 +179,7 @@ module _ (n : ℕ) (table x : List Float) (from past : ℕ) where
     unfolding scanFrom
     sound zero k fmax kmax a b m t = record { broken = λ i v over e. absurd (nothing-broken i v over e); top = t; next = k; last-is = refl; above = a; below = b }
     sound (suc left) k fmax kmax a b m t =
-        let o = onto from past k a b (omega arith) in
+        let o = next-row from past k a b (omega arith) in
         turn n table x lower upper (Sound lower upper) left from past k fmax kmax o
         (λ s. sound-end (o .row) true fmax kmax (o .low) (o .high) t (λ e. s) (λ e. absurd (true≢false e)))
         (λ s u. sound-end (o .row) false fmax kmax (o .low) (o .high) t (λ e. absurd (true≢false (sym e))) (λ e. (s, u)))
@@ -241,7 +225,7 @@ module _ (n : ℕ) (table x : List Float) (lower : Float) (upper : Upper) where
         unseen i u (inl s) = omega arith
         unseen i u (inr s) = omega arith
     clear (suc left) k fmax kmax a b m h =
-        let o = onto from past k a b (omega arith) in
+        let o = next-row from past k a b (omega arith) in
         let v = valueOf n table x (o .row) in
         let g = larger fmax v h in
         turn n table x lower upper (λ s. s .viol ≡ Nothing → Clear k (suc left) fmax (s .fmax)) left from past k fmax kmax o
@@ -249,7 +233,7 @@ module _ (n : ℕ) (table x : List Float) (lower : Float) (upper : Upper) where
         (λ s u e. absurd (nothing-broken (o .row) v false (sym e)))
         (λ s u e. on o s u g (clear left (suc (o .row)) (best fmax v) (best-row fmax kmax (o .row) v) (omega arith) (omega arith) (omega arith) (g .compares) e))
       where
-        on : {fmax′ : Float} (o : Onto from past k) → isOver upper (valueOf n table x (o .row)) ≡ false → lt (valueOf n table x (o .row)) lower ≡ false
+        on : {fmax′ : Float} (o : NextRow from past k) → isOver upper (valueOf n table x (o .row)) ≡ false → lt (valueOf n table x (o .row)) lower ≡ false
             → Larger fmax (valueOf n table x (o .row)) (best fmax (valueOf n table x (o .row)))
             → Clear (suc (o .row)) left (best fmax (valueOf n table x (o .row))) fmax′ → Clear k (suc left) fmax fmax′
         on {fmax′} o s u g r =
@@ -295,13 +279,6 @@ module _ (n : ℕ) (table x : List Float) (c : RoundRobin) (lower : Float) (uppe
   pub top-in : Top n table x (L .from) (L .past) (scanOf n table x c lower upper .fmax) (scanOf n table x c lower upper .kmax)
   top-in = scan-sound .top
 
-  pub kmax-in : ltZ (scanOf n table x c lower upper .kmax) (pos 0) ≡ false
-      → (L .from ≤ natAbs (scanOf n table x c lower upper .kmax)) × (natAbs (scanOf n table x c lower upper .kmax) < L .past)
-  kmax-in h = elim top-in [
-    | inl t ↦ absurd (true≢false (rw (t .1) at h))
-    | inr b ↦ rw (b .row-is) (b .low, b .high)
-  ]
-
   -- where the cursor is left, another scan may begin
   pub last-legal : LeftAt c L (scanOf n table x c lower upper .last)
   last-legal = record { legal = l; from-is = refl; past-is = refl; at = legal-at (moved c (scanOf n table x c lower upper .last)) l; band = legal-band c L }
@@ -329,10 +306,11 @@ module _ (n : ℕ) (table x : List Float) (c : RoundRobin) (lower : Float) (uppe
       whole : (i : ℕ) → L .from ≤ i → i < L .past → Seen (L .from) (L .past) (L .next) (L .past - L .from) i
       whole i a b = elim (decLt i (L .next)) [ yes l ↦ inr (omega arith) | no g ↦ inl (omega arith) ]
 
-  -- it finds nothing exactly where no row of the band breaks a limit
+  -- so it finds nothing exactly where no row of the band breaks a limit: one way
   pub nothing-none : scanOf n table x c lower upper .viol ≡ Nothing → some-row (row-breaks n table x lower upper) (L .from) (L .past - L .from) ≡ false
   nothing-none e = none-some-row (row-breaks n table x lower upper) (L .from) (L .past - L .from) (λ i a b. let p = passed-in e i a (omega arith) in rw (p .not-over) (p .not-under))
 
+  -- and the other
   pub broken-some : (row : ℕ) (v : Float) (over : Bool) → scanOf n table x c lower upper .viol ≡ Broken row v over
       → some-row (row-breaks n table x lower upper) (L .from) (L .past - L .from) ≡ true
   broken-some row v over e =
@@ -342,10 +320,3 @@ module _ (n : ℕ) (table x : List Float) (c : RoundRobin) (lower : Float) (uppe
       go : (o : Bool) → (o ≡ true → isOver upper v ≡ true) → (o ≡ false → (isOver upper v ≡ false) × (lt v lower ≡ true)) → (isOver upper v || lt v lower) ≡ true
       go true above below = rw (above refl)
       go false above below = rw (below refl .0) (below refl .1)
-
-  pub none-nothing : some-row (row-breaks n table x lower upper) (L .from) (L .past - L .from) ≡ false → scanOf n table x c lower upper .viol ≡ Nothing
-  none-nothing h = go (scanOf n table x c lower upper .viol) refl
-    where
-      go : (w : Violation) → scanOf n table x c lower upper .viol ≡ w → scanOf n table x c lower upper .viol ≡ Nothing
-      go Nothing e = e
-      go (Broken row v over) e = absurd (true≢false (sym (broken-some row v over e) ∙ h))

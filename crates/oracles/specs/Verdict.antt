@@ -1,4 +1,4 @@
--- Demand 3 in document 01's words ("Verdict"): what a point breaks, said without a cursor, and what an assessment owes to it. Definitions only.
+-- Demand 3 in document 01's words ("Verdict"): what a point breaks, said without a cursor, and what an assessment has to answer. Definitions only.
 use Prim.Native.Nat.{ℕ, zero, suc, _≤_, _<_, _+_, _-_}
 use mathlib.Core.Path.{_≡_}
 use mathlib.Core.Bool.{Bool, true, false, not, _&&_, _||_}
@@ -14,7 +14,7 @@ use Rattle.numbers.specs.Arr.{isDimension}
 use Rattle.numbers.specs.Refusal.{refusalNumber}
 use Rattle.oracles.specs.RoundRobin.{eqZ}
 use Rattle.oracles.specs.Scan.{−∞, none, valueOf, table-fits}
-use Rattle.oracles.specs.LowpassOracle.{bands-fit, cursors-fit}
+use Rattle.oracles.specs.LowpassOracle.{bands-fit, cursors-fit, offered}
 use Rattle.oracles.specs.declared.lowpass_oracle.LowpassOracle.{LowpassOracle}
 use Rattle.oracles.specs.declared.lowpass_oracle.Group.the-variants.{Pass, Stop, Middle, Sign}
 use Rattle.oracles.specs.declared.lowpass_oracle.Verdict.{Verdict}
@@ -33,32 +33,50 @@ pub data Judgement : Type 0 where
   sign : Judgement
   refused : Judgement
 
--- a point before a table: n, the rows, the bands and the limits, with no cursor in it
-pub record Question : Type 0 where
-  pub n : ℕ
-  pub rows : ℕ
-  pub nwpass : ℕ
-  pub nwstop : ℕ
+-- bands and limits: all of an oracle that a verdict may depend on
+pub record Limits : Type 0 where
+  pub nwpass : ℤ
+  pub nwstop : ℤ
   pub lp-sq : Float
   pub up-sq : Float
   pub sp-sq : Float
+
+-- those of this oracle
+abbrev pub limits : LowpassOracle → Limits
+limits o = record { nwpass = o .nwpass; nwstop = o .nwstop; lp-sq = o .«lp_sq»; up-sq = o .«up_sq»; sp-sq = o .«sp_sq» }
+
+-- what is asked about a point: n, the table with its rows, bands and limits, and the point, with no cursor in it
+pub record Question : Type 0 where
+  pub n : ℕ
+  pub rows : ℕ
+  pub limits : Limits
   pub table : List Float
   pub x : List Float
+
+-- pass rows end here, and stop rows begin here; the middle rows lie between
+abbrev pub pass-end : Question → ℕ
+pass-end q = natAbs (q .limits .nwpass)
+
+abbrev pub stop-start : Question → ℕ
+stop-start q = natAbs (q .limits .nwstop)
 
 -- a row's value is its `dot` with the point
 abbrev pub valueIn : Question → ℕ → Float
 valueIn q i = valueOf (q .n) (q .table) (q .x) i
 
--- above its limit, or below it; a test on NaN is false
+-- a pass row breaks its group above up_sq or below lp_sq; a test on NaN is false
 abbrev pub pass-breaks : Question → ℕ → Bool
-pass-breaks q i = lt (q .up-sq) (valueIn q i) || lt (valueIn q i) (q .lp-sq)
+pass-breaks q i = lt (q .limits .up-sq) (valueIn q i) || lt (valueIn q i) (q .limits .lp-sq)
 
+-- a stop row above sp_sq or below zero
 abbrev pub stop-breaks : Question → ℕ → Bool
-stop-breaks q i = lt (q .sp-sq) (valueIn q i) || lt (valueIn q i) 0ᶠ
+stop-breaks q i = lt (q .limits .sp-sq) (valueIn q i) || lt (valueIn q i) 0ᶠ
 
+-- a middle row below zero
 abbrev pub middle-breaks : Question → ℕ → Bool
 middle-breaks q i = lt (valueIn q i) 0ᶠ
 
+-- the point's first number below zero
 abbrev pub sign-breaks : Question → Bool
 sign-breaks q = lt (getD (q .x) 0 nan) 0ᶠ
 
@@ -70,44 +88,33 @@ some-row f lo (suc count) = some-row f lo count || f (lo + count)
 -- the first broken of pass, stop, middle and sign
 unfoldable pub judge : Question → Judgement
 judge q =
-    pick (some-row (pass-breaks q) 0 (q .nwpass)) pass
-    (pick (some-row (stop-breaks q) (q .nwstop) (q .rows - q .nwstop)) stop
-    (pick (some-row (middle-breaks q) (q .nwpass) (q .nwstop - q .nwpass)) middle
+    pick (some-row (pass-breaks q) 0 (pass-end q)) pass
+    (pick (some-row (stop-breaks q) (stop-start q) (q .rows - stop-start q)) stop
+    (pick (some-row (middle-breaks q) (pass-end q) (stop-start q - pass-end q)) middle
     (pick (sign-breaks q) sign feasible)))
 
 -- no row breaks and the sign holds: what feasible means, said of each row
 pub record Unbroken (q : Question) : Type 0 where
-  pub pass-rows : (i : ℕ) → i < q .nwpass → pass-breaks q i ≡ false
-  pub stop-rows : (i : ℕ) → q .nwstop ≤ i → i < q .rows → stop-breaks q i ≡ false
-  pub middle-rows : (i : ℕ) → q .nwpass ≤ i → i < q .nwstop → middle-breaks q i ≡ false
+  pub pass-rows : (i : ℕ) → i < pass-end q → pass-breaks q i ≡ false
+  pub stop-rows : (i : ℕ) → stop-start q ≤ i → i < q .rows → stop-breaks q i ≡ false
+  pub middle-rows : (i : ℕ) → pass-end q ≤ i → i < stop-start q → middle-breaks q i ≡ false
   pub sign-holds : sign-breaks q ≡ false
 
 -- no stop value compares: the stop band is empty or all its values are NaN
 unfoldable pub no-stop-value : Question → Bool
-no-stop-value q = not (some-row (λ i. not (isNan (valueIn q i))) (q .nwstop) (q .rows - q .nwstop))
+no-stop-value q = not (some-row (λ i. not (isNan (valueIn q i))) (stop-start q) (q .rows - stop-start q))
 
 -- ---- what an assessment says
 
 -- what is asked of an oracle with this sp_sq: nothing of its cursors, idx, fmax, kmax and more_alt
 abbrev pub asked : LowpassOracle → Float → ℕ → ℕ → List Float → List Float → Question
-asked o sp n rows table x =
-    record { n = n; rows = rows; nwpass = natAbs (o .nwpass); nwstop = natAbs (o .nwstop); lp-sq = o .«lp_sq»; up-sq = o .«up_sq»; sp-sq = sp; table = table; x = x }
-
--- an oracle's bands and limits: all of it that a verdict may depend on
-pub record Limits : Type 0 where
-  pub nwpass : ℤ
-  pub nwstop : ℤ
-  pub lp-sq : Float
-  pub up-sq : Float
-  pub sp-sq : Float
-
-abbrev pub limits : LowpassOracle → Limits
-limits o = record { nwpass = o .nwpass; nwstop = o .nwstop; lp-sq = o .«lp_sq»; up-sq = o .«up_sq»; sp-sq = o .«sp_sq» }
+asked o sp n rows table x = record { n = n; rows = rows; limits = limits (offered o sp); table = table; x = x }
 
 -- nothing is refused by 1 to 4
 abbrev pub is-accepted : LowpassOracle → ℕ → ℕ → List Float → List Float → List Float → Bool
 is-accepted o n rows table x grad = isDimension n && (table-fits n rows table x && eqb (length grad) n) && bands-fit o rows && cursors-fit o
 
+-- the verdict of an answer, without row and betas
 abbrev pub judgement : Verdict → Judgement
 judgement Feasible = feasible
 judgement (Cut (Pass row over) beta) = pass
@@ -116,15 +123,16 @@ judgement (Cut (Middle row) beta) = middle
 judgement (Cut Sign beta) = sign
 judgement (Refused why) = refused
 
--- whether a cut's row is one of its group's and breaks it on the side that is reported
+-- whether v breaks a limit on the side that is reported: the upper one where `over` is true, else the lower one
 abbrev pub side-breaks : Bool → Float → Float → Float → Bool
 side-breaks over upper lower v = pick over (lt upper v) (lt v lower)
 
+-- whether a cut's row is one of its group's and breaks it on the side that is reported
 abbrev pub cut-breaks : Question → Verdict → Bool
 cut-breaks q Feasible = true
-cut-breaks q (Cut (Pass row over) beta) = ltb row (q .nwpass) && side-breaks over (q .up-sq) (q .lp-sq) (valueIn q row)
-cut-breaks q (Cut (Stop row over) beta) = leb (q .nwstop) row && ltb row (q .rows) && side-breaks over (q .sp-sq) 0ᶠ (valueIn q row)
-cut-breaks q (Cut (Middle row) beta) = leb (q .nwpass) row && ltb row (q .nwstop) && lt (valueIn q row) 0ᶠ
+cut-breaks q (Cut (Pass row over) beta) = ltb row (pass-end q) && side-breaks over (q .limits .up-sq) (q .limits .lp-sq) (valueIn q row)
+cut-breaks q (Cut (Stop row over) beta) = leb (stop-start q) row && ltb row (q .rows) && side-breaks over (q .limits .sp-sq) 0ᶠ (valueIn q row)
+cut-breaks q (Cut (Middle row) beta) = leb (pass-end q) row && ltb row (stop-start q) && lt (valueIn q row) 0ᶠ
 cut-breaks q (Cut Sign beta) = sign-breaks q
 cut-breaks q (Refused why) = true
 
@@ -141,11 +149,11 @@ cut-stands o (Refused why) = true
 pub record Has (q : Question) (fmax : Float) (kmax : ℤ) : Type 0 where
   pub row : ℕ
   pub row-is : kmax ≡ pos row
-  pub low : q .nwstop ≤ row
+  pub low : stop-start q ≤ row
   pub high : row < q .rows
   pub value-is : valueIn q row ≡ fmax
   pub compares : isNan fmax ≡ false
-  pub largest : (i : ℕ) → q .nwstop ≤ i → i < q .rows → lt fmax (valueIn q i) ≡ false
+  pub largest : (i : ℕ) → stop-start q ≤ i → i < q .rows → lt fmax (valueIn q i) ≡ false
 
 -- no stop value compares: minus infinity and −1
 pub record HasNone (q : Question) (fmax : Float) (kmax : ℤ) : Type 0 where
@@ -153,27 +161,30 @@ pub record HasNone (q : Question) (fmax : Float) (kmax : ℤ) : Type 0 where
   pub fmax-is : fmax ≡ −∞
   pub kmax-is : kmax ≡ none
 
+-- one or the other: what fmax and kmax are after an accepted call on a feasible point
 abbrev pub Peak : Question → Float → ℤ → Type 0
 Peak q fmax kmax = Has q fmax kmax ⊎ HasNone q fmax kmax
 
--- what `assess_feas` owes to an accepted call
+-- what `assess_feas` answers to an accepted call
 pub record FeasRule (q : Question) (r : Assessed) : Type 0 where
   pub verdict-is : judgement (r .verdict) ≡ judge q
   pub cut-is : cut-breaks q (r .verdict) ≡ true
   pub cut-at : cut-stands (r .oracle) (r .verdict) ≡ true
   pub peak : judge q ≡ feasible → Peak q (r .oracle .fmax) (r .oracle .kmax)
 
--- `assess_optim`: refusal 6 counts as feasible
+-- an answer of `assess_optim` as one of `assess_feas`: refusal 6 counts as feasible
 abbrev pub as-feas : OptimVerdict → Verdict
 as-feas (Improved beta) = Feasible
 as-feas (CutOptim group beta) = Cut group beta
 as-feas (RefusedOptim why) = pick (eqb (refusalNumber why) 6) Feasible (Refused why)
 
+-- whether it is refusal 6
 abbrev pub is-six : OptimVerdict → Bool
 is-six (Improved beta) = false
 is-six (CutOptim group beta) = false
 is-six (RefusedOptim why) = eqb (refusalNumber why) 6
 
+-- whether a judgement is feasible
 abbrev pub is-feasible : Judgement → Bool
 is-feasible feasible = true
 is-feasible pass = false
@@ -182,10 +193,12 @@ is-feasible middle = false
 is-feasible sign = false
 is-feasible refused = false
 
--- what `assess_optim` owes to a call that 1 to 4 do not refuse: 6 exactly where the point is feasible and no stop value compares
+-- what `assess_optim` answers to a call that 1 to 4 do not refuse: 6 exactly where the point is feasible and no stop value compares;
+-- on any other feasible point the caller's number, gamma, becomes fmax
 pub record OptimRule (q : Question) (r : AssessedOptim) : Type 0 where
   pub verdict-is : judgement (as-feas (r .verdict)) ≡ judge q
   pub cut-is : cut-breaks q (as-feas (r .verdict)) ≡ true
   pub cut-at : cut-stands (r .oracle) (as-feas (r .verdict)) ≡ true
   pub six-is : is-six (r .verdict) ≡ (is-feasible (judge q) && no-stop-value q)
   pub peak : is-six (r .verdict) ≡ false → judge q ≡ feasible → Has q (r .oracle .fmax) (r .oracle .kmax)
+  pub offer : is-six (r .verdict) ≡ false → judge q ≡ feasible → r .gamma ≡ r .oracle .fmax

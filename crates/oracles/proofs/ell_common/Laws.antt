@@ -1,10 +1,10 @@
 -- Laws that the proofs of both ellipsoids use. Assumes nothing.
 use mathlib.Core.Path.{_≡_, sym, ap, _∙_}
-use mathlib.Core.Bool.{Bool, true, false, not, _&&_, and-eq-true-iff}
+use mathlib.Core.Bool.{Bool, true, false, _&&_, and-eq-true-iff}
 use mathlib.Core.List.{List}
 use Prim.Native.Nat.{ℕ, _≤_, _*_}
 use native.Mathlib.Omega.{arith}
-use borrow.Author.Tests.{leb-true, eqb-true, eq-eqb, not-true, not-false}
+use borrow.Author.Tests.{leb-true, eqb-true, eq-eqb}
 use lib.Dec.{leb, eqb}
 use lib.ListN.{length}
 use lib.Ieee.{Float}
@@ -26,14 +26,7 @@ copied n dst src p e d h k = filled n _ src dst p e d (rw (eq-eqb (length dst) n
 pub dimension-least : (n : ℕ) → isDimension n ≡ true → 1 ≤ n
 dimension-least n h = omega (arith, leb-true 2 n (and-eq-true-iff (leb 2 n) (leb n 32) .0 h .0))
 
--- tests of the code: r is what the test answered, and the code goes by `!r`
-module _ (r t : Bool) (e : r ≡ t) where
-  pub says-no : not r ≡ true → t ≡ false
-  says-no h = sym e ∙ not-true r h
-
-  pub says-yes : not r ≡ false → t ≡ true
-  says-yes h = sym e ∙ not-false r h
-
+-- two tests as one
 pub no-left : (s t : Bool) → s ≡ false → (s && t) ≡ false
 no-left s t h = rw h
 

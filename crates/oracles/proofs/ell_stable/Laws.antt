@@ -25,8 +25,8 @@ use Rattle.numbers.specs.declared.ell_calc.NewEllCalc.{NewEllCalc}
 use Rattle.numbers.specs.declared.ell_calc.NewEllCalc.the-variants.{Made as MadeCalc, Refused as NoCalc}
 use Rattle.numbers.specs.ArrLaws.{length-tab}
 use Rattle.oracles.specs.Matrix.{entry, at, grid, total}
-use Rattle.oracles.specs.MatrixLaws.{tab-entry, tab-ext, tab-cong, length-grid, grid-at, total-cong}
-use Rattle.oracles.specs.LoopLaws.{total-turn, is-hit, is-skip, both-ways, pick-cong, pick-grow, pick-map, VectorOf, MatrixOf, matrix-set, matrix-grid, swept, sweep-start, sweep-left, sweep-past, sweep-turn, swept-by, by-start, by-left, by-past, by-turn, by-done, part-long, part-entry, part-turn}
+use Rattle.oracles.specs.MatrixLaws.{total-turn, tab-entry, tab-ext, tab-cong, length-grid, grid-at, total-cong}
+use Rattle.oracles.specs.LoopLaws.{is-hit, is-skip, both-ways, pick-cong, pick-grow, pick-map, VectorOf, MatrixOf, matrix-set, matrix-grid, swept, sweep-start, sweep-left, sweep-past, sweep-turn, swept-by, by-start, by-left, by-past, by-turn, by-done, part-long, part-entry, part-turn}
 use Rattle.oracles.specs.EllCommon.{calcOf, is-tiny, is-success, centreOf}
 use Rattle.oracles.specs.declared.ell_common.CutStrategy.{CutStrategy}
 use Rattle.oracles.specs.declared.ell_stable.EllStable.{EllStable}

@@ -5,7 +5,7 @@ use mathlib.Core.List.{List}
 use Prim.Native.Nat.{ℕ, _≤_, _<_, _+_, _-_, _*_}
 use native.Mathlib.Nat.{mul-le-mul}
 use native.Mathlib.Omega.{arith}
-use borrow.Author.Tests.{not-true, not-false, eqb-true, eq-eqb, ne-eqb}
+use borrow.Author.Tests.{not-false, eqb-true, eq-eqb, ne-eqb}
 use lib.Dec.{eqb}
 use lib.ListN.{length, take, drop, length-drop}
 use lib.Seq.{length-take-le}
@@ -18,7 +18,8 @@ use Rattle.numbers.specs.ArrLaws.{row-in, dimension-most}
 use Rattle.numbers.specs.Pick.{hit, skip}
 use Rattle.oracles.specs.Matrix.{at}
 use Rattle.oracles.specs.LdltMgr.{isOrder, get-elem, posOf, rowsOf, witnessOf, quadOf}
-use Rattle.oracles.specs.LdltLaws.{no-order, an-order, LmiReads}
+use Rattle.oracles.specs.LoopLaws.{says-no, says-yes}
+use Rattle.oracles.specs.LdltLaws.{LmiReads}
 use Rattle.oracles.specs.LmiOracle.{LmiBuffers, matOf, lmi-gradient, lmi-assessOf, lmi-fits, lmi-answer}
 use Rattle.oracles.specs.declared.lmi_oracle.LmiVerdict.{LmiVerdict}
 use Rattle.oracles.specs.declared.lmi_oracle.LmiVerdict.the-variants.{Feasible, Cut, Refused}
@@ -29,7 +30,7 @@ pub all-small : (m n : ℕ) → m ≤ 32 → n ≤ 32 → n * (m * m) ≤ 32768
 all-small m n h k = mul-le-mul k (mul-le-mul h h)
 
 pub dimension-small : (n : ℕ) (s : Bool) → s ≡ isDimension n → not s ≡ false → n ≤ 32
-dimension-small n s f t = dimension-most n (sym f ∙ not-false s t)
+dimension-small n s f t = dimension-most n (says-yes s (isDimension n) f t)
 
 -- ---- the gradient's loop
 
@@ -74,16 +75,16 @@ module _ (m n : ℕ) (mat-b mat-f xc : List Float) (b : LmiBuffers) (e : ℕ) (o
 module _ (m n : ℕ) (mat-b mat-f xc : List Float) (b : LmiBuffers) {r : Bool} (e : r ≡ isOrder m) where
   pub wrong-order : not r ≡ true → (Refused Dimension, b) ≡ lmi-answer m n mat-b mat-f xc b
   unfolding lmi-answer
-  wrong-order h = hit _ _ _ _ (rw (no-order m r e h)) refl
+  wrong-order h = hit _ _ _ _ (rw (says-no r (isOrder m) e h)) refl
 
   module _ {s : Bool} (f : s ≡ isDimension n) (h : not r ≡ false) where
     pub wrong-dimension : not s ≡ true → (Refused Dimension, b) ≡ lmi-answer m n mat-b mat-f xc b
     unfolding lmi-answer
-    wrong-dimension k = hit _ _ _ _ (rw (an-order m r e h, ← f, not-true s k)) refl
+    wrong-dimension k = hit _ _ _ _ (rw (says-yes r (isOrder m) e h, says-no s (isDimension n) f k)) refl
 
     module _ {u : Bool} (g : u ≡ lmi-fits m n mat-b mat-f xc b) (k : not s ≡ false) where
       right : not (isOrder m && isDimension n) ≡ false
-      right = rw (an-order m r e h, ← f, not-false s k)
+      right = rw (says-yes r (isOrder m) e h, says-yes s (isDimension n) f k)
 
       pub wrong-length : not u ≡ true → (Refused Length, b) ≡ lmi-answer m n mat-b mat-f xc b
       unfolding lmi-answer

@@ -2,30 +2,29 @@
 use mathlib.Core.Path.{_≡_, refl, sym, ap, _∙_, subst}
 use mathlib.Core.Bool.{Bool, true, false, not, _&&_, true≢false}
 use mathlib.Core.List.{List, [], _∷_}
-use mathlib.Core.Logic.{_⊎_, inl, inr}
-use Prim.Native.Nat.{ℕ, _≤_, _<_, _+_, _*_}
+use mathlib.Core.Logic.{inl, inr}
+use Prim.Native.Nat.{ℕ, _≤_, _+_, _*_}
 use native.Mathlib.Nat.{suc-mul, mul-le-mul-right}
 use native.Mathlib.Omega.{arith}
 use borrow.Author.Tests.{le-leb, eqb-true}
 use types.Run.{OneOf}
 use denote.Enum.Declared.{tagOf}
 use lib.Dec.{eqb}
-use lib.IntN.{ℤ, pos, natAbs}
+use lib.IntN.{pos, natAbs}
 use lib.Signed.{leZ, ltZ}
 use lib.ListN.{length}
 use lib.Ieee.{Float}
-use Rattle.numbers.specs.Pick.{pick, hit, skip}
-use Rattle.numbers.specs.Arr.{isDimension, tested}
+use Rattle.numbers.specs.Pick.{hit, skip}
+use Rattle.numbers.specs.Arr.{isDimension}
 use Rattle.numbers.specs.ArrLaws.{wrong-dimension, wrong-length, accepted, dimension-most}
-use Rattle.numbers.specs.declared.refusal.Refusal.{Refusal}
 use Rattle.numbers.specs.declared.refusal.Refusal.the-variants.{Dimension, Length, Band, Cursor}
-use Rattle.oracles.specs.RoundRobin.{isBand, isAt}
 use Rattle.oracles.specs.RoundRobinLaws.{and-parts, legal-band, legal-at}
-use Rattle.oracles.specs.Scan.{isRows, table-fits, band-fits, Scannable}
+use Rattle.oracles.specs.Scan.{isRows, table-fits, Scannable}
 use Rattle.oracles.specs.LowpassOracle.{bands-fit, cursors-fit, refusedOf, assessOf, assess-feas-answer, optim-of, assess-optim-answer, offered}
-use Rattle.oracles.specs.Verdict.{asked, is-accepted, judgement, Peak, FeasRule, OptimRule}
-use Rattle.oracles.specs.AssessLaws.{Spans, Fit, fit, Accepted, accepted-of}
-use Rattle.oracles.specs.CursorRule.{feas-rule, optim-rule, gradient-length}
+use Rattle.oracles.specs.Verdict.{feasible, refused, asked, is-accepted, is-feasible, judgement, Peak, FeasRule, OptimRule}
+use Rattle.oracles.specs.AssessLaws.{Spans, fit-of, Accepted, accepted-of}
+use Rattle.oracles.specs.CursorRule.{feas-rule, optim-rule, refused-unless}
+use Rattle.oracles.specs.OracleAfter.{gradient-length}
 use Rattle.oracles.specs.declared.round_robin.RoundRobin.{RoundRobin}
 use Rattle.oracles.specs.declared.lowpass_oracle.LowpassOracle.{LowpassOracle}
 use Rattle.oracles.specs.declared.lowpass_oracle.Verdict.{Verdict}
@@ -34,12 +33,6 @@ use Rattle.oracles.specs.declared.lowpass_oracle.Assessed.{Assessed}
 use Rattle.oracles.specs.declared.lowpass_oracle.AssessedOptim.{AssessedOptim}
 use Rattle.oracles.proofs.lowpass_oracle.Verdict as Y
 use Rattle.oracles.proofs.scan.Tests.{dimension-least}
-
--- whether a verdict is a refusal
-abbrev said : Verdict → ℕ
-said Feasible = 0
-said (Cut g beta) = 0
-said (Refused why) = 1
 
 module _ (o : LowpassOracle) (n rows : ℕ) (table x grad : List Float) where
   abbrev Answer : Type 0
@@ -102,7 +95,7 @@ module _ (o : LowpassOracle) (n rows : ℕ) (table x grad : List Float) where
 
       pub all-scannable : Scannable n rows table x (o .rr1) × Scannable n rows table x (o .rr3) × Scannable n rows table x (o .rr2) × (length grad ≡ n)
       all-scannable =
-          let F = fit o rows b c in (
+          let F = fit-of o rows b c in (
             spanned (o .rr1) _ _ (F .pass-rows) (F .pass-high),
             spanned (o .rr3) _ _ (F .stop-rows) (omega arith),
             spanned (o .rr2) _ _ (F .middle-rows) (F .middle-high),
@@ -111,17 +104,11 @@ module _ (o : LowpassOracle) (n rows : ℕ) (table x grad : List Float) where
 
   -- a feasible point was accepted
   feasible-accepted : assess-feas-answer o n rows table x grad .0 .verdict ≡ Feasible → is-accepted o n rows table x grad ≡ true
-  feasible-accepted h = go (isDimension n) fits (bands-fit o rows) (cursors-fit o) refl refl refl refl
+  feasible-accepted h = go (is-accepted o n rows table x grad) refl
     where
-      never : {why : Refusal} (g : List Float) → _≡_ {A = Answer} (refusedOf o why, g) (assess-feas-answer o n rows table x grad) → ⊥
-      never g e = let z : _≡_ {A = ℕ} 1 0 = ap (λ (p : Answer). said (p .0 .verdict)) e ∙ ap said h in omega arith
-
-      go : (d f b c : Bool) → isDimension n ≡ d → fits ≡ f → bands-fit o rows ≡ b → cursors-fit o ≡ c → is-accepted o n rows table x grad ≡ true
-      go false f b c ed ef eb ec = absurd (never grad (no-dimension ed))
-      go true false b c ed ef eb ec = absurd (never grad (no-length ed ef))
-      go true true false c ed ef eb ec = absurd (never grad (no-bands ed ef eb))
-      go true true true false ed ef eb ec = absurd (never grad (no-cursors ed ef eb ec))
-      go true true true true ed ef eb ec = rw (ed, ef, eb, ec)
+      go : (t : Bool) → is-accepted o n rows table x grad ≡ t → is-accepted o n rows table x grad ≡ true
+      go true e = e
+      go false e = let z : feasible ≡ refused = sym (ap judgement h) ∙ refused-unless o n rows table x grad e in absurd (true≢false (ap is-feasible z))
 
   -- and what it leaves can be used for an improving cut
   pub feasible-leaves : (r : Assessed) (grad′ : List Float) → _≡_ {A = Answer} (r, grad′) (assess-feas-answer o n rows table x grad) → r .verdict ≡ Feasible

@@ -5,7 +5,8 @@ use native.Mathlib.Omega.{arith}
 use borrow.Author.Needs.{needs}
 use lib.ListN.{length, take, drop}
 use Rattle.numbers.specs.ArrLaws.{row-in}
-use Rattle.oracles.specs.LoopLaws.{MatrixOf, place-small}
+use Rattle.oracles.specs.MatrixLaws.{row-small}
+use Rattle.oracles.specs.LoopLaws.{MatrixOf}
 use Rattle.oracles.proofs.ell.Laws.{lowered-to, rows-start, row-long, rows-turn, rows-done}
 use Rattle.oracles.proofs.ell.lower_rows.Statement.{statement}
 use Rattle.oracles.proofs.ell.lower_rows.Tie as tie
@@ -25,19 +26,19 @@ mul-at : tie.Need-mul-at Inv-loop μ-loop
 mul-at c =
     let a = c .before .before .before .before .args in
     let i = c .before .loop .i in
-    omega (arith, place-small (a .n) i (a .n - 1) (search needs) (search needs) (search needs))
+    omega (arith, row-small (a .n) i (search needs) (search needs))
 
 add-end : tie.Need-add-end Inv-loop μ-loop
 add-end c =
     let a = c .before .before .before .before .args in
     let i = c .before .loop .i in
-    omega (arith, place-small (a .n) i (a .n - 1) (search needs) (search needs) (search needs))
+    omega (arith, row-small (a .n) i (search needs) (search needs))
 
 mul-lower-row : tie.Need-mul-lower-row Inv-loop μ-loop
 mul-lower-row c =
     let a = c .before .before .before .before .args in
     let i = c .before .loop .i in
-    omega (arith, place-small (a .n) i (a .n - 1) (search needs) (search needs) (search needs))
+    omega (arith, row-small (a .n) i (search needs) (search needs))
 
 sub-lower-row : tie.Need-sub-lower-row Inv-loop μ-loop
 sub-lower-row c = search needs

@@ -2,8 +2,8 @@
 use Prim.Native.Nat.{_-_, _≤_}
 use native.Mathlib.Omega.{arith}
 use borrow.Author.Needs.{needs}
-use Rattle.oracles.specs.MatrixLaws.{place-in}
-use Rattle.oracles.specs.LoopLaws.{MatrixOf, place-small}
+use Rattle.oracles.specs.MatrixLaws.{row-small, place-in}
+use Rattle.oracles.specs.LoopLaws.{MatrixOf}
 use Rattle.oracles.specs.EllLaws.{mirrored-to}
 use Rattle.oracles.proofs.ell.Laws.{mirror-start, mirror-turn, mirror-done}
 use Rattle.oracles.proofs.ell.mirror_row.Statement.{statement}
@@ -22,19 +22,19 @@ mul-mq : tie.Need-mul-mq Inv-loop μ-loop
 mul-mq c =
     let l = c .before .loop in
     let a = c .before .before .args in
-    omega (arith, place-small (a .n) (a .i) (l .j) (search needs) (search needs) (search needs))
+    omega (arith, row-small (a .n) (a .i) (search needs) (search needs))
 
 add-mq : tie.Need-add-mq Inv-loop μ-loop
 add-mq c =
     let l = c .before .loop in
     let a = c .before .before .args in
-    omega (arith, place-small (a .n) (a .i) (l .j) (search needs) (search needs) (search needs))
+    omega (arith, row-small (a .n) (a .i) (search needs) (search needs))
 
 mul-mq-2 : tie.Need-mul-mq-2 Inv-loop μ-loop
 mul-mq-2 c =
     let l = c .before .loop in
     let a = c .before .before .args in
-    omega (arith, place-small (a .n) (a .i) (l .j) (search needs) (search needs) (search needs))
+    omega (arith, row-small (a .n) (a .i) (search needs) (search needs))
 
 slice-read-mq : tie.Need-slice-read-mq Inv-loop μ-loop
 slice-read-mq c =
@@ -46,19 +46,19 @@ mul-mq-3 : tie.Need-mul-mq-3 Inv-loop μ-loop
 mul-mq-3 c =
     let l = c .before .before .loop in
     let a = c .before .before .before .args in
-    omega (arith, place-small (a .n) (l .j) (a .i) (search needs) (search needs) (search needs))
+    omega (arith, row-small (a .n) (l .j) (search needs) (search needs))
 
 add-mq-2 : tie.Need-add-mq-2 Inv-loop μ-loop
 add-mq-2 c =
     let l = c .before .before .loop in
     let a = c .before .before .before .args in
-    omega (arith, place-small (a .n) (l .j) (a .i) (search needs) (search needs) (search needs))
+    omega (arith, row-small (a .n) (l .j) (search needs) (search needs))
 
 mul-mq-4 : tie.Need-mul-mq-4 Inv-loop μ-loop
 mul-mq-4 c =
     let l = c .before .before .loop in
     let a = c .before .before .before .args in
-    omega (arith, place-small (a .n) (l .j) (a .i) (search needs) (search needs) (search needs))
+    omega (arith, row-small (a .n) (l .j) (search needs) (search needs))
 
 slice-write-mq : tie.Need-slice-write-mq Inv-loop μ-loop
 slice-write-mq c =

@@ -4,8 +4,7 @@ use Prim.Native.Nat.{_-_, _+_, _<_, _≤_}
 use native.Mathlib.Omega.{arith}
 use borrow.Author.Needs.{needs}
 use lib.ListN.{length}
-use Rattle.oracles.specs.MatrixLaws.{place-in}
-use Rattle.oracles.specs.LoopLaws.{place-small}
+use Rattle.oracles.specs.MatrixLaws.{row-small, place-in}
 use Rattle.oracles.specs.EllStableLaws.{solved-back}
 use Rattle.oracles.proofs.ell_stable.Laws.{back-start, back-turn, back-done}
 use Rattle.oracles.proofs.ell_stable.backward_row.Statement.{statement}
@@ -35,19 +34,19 @@ mul-q-2 : tie.Need-mul-q-2 Inv-loop μ-loop
 mul-q-2 c =
     let l = c .before .before .loop in
     let a = c .before .before .before .args in
-    omega (arith, place-small (a .n) (a .i) (l .j) (search needs) (search needs) (search needs))
+    omega (arith, row-small (a .n) (a .i) (search needs) (search needs))
 
 add-q : tie.Need-add-q Inv-loop μ-loop
 add-q c =
     let l = c .before .before .loop in
     let a = c .before .before .before .args in
-    omega (arith, place-small (a .n) (a .i) (l .j) (search needs) (search needs) (search needs))
+    omega (arith, row-small (a .n) (a .i) (search needs) (search needs))
 
 mul-q-3 : tie.Need-mul-q-3 Inv-loop μ-loop
 mul-q-3 c =
     let l = c .before .before .loop in
     let a = c .before .before .before .args in
-    omega (arith, place-small (a .n) (a .i) (l .j) (search needs) (search needs) (search needs))
+    omega (arith, row-small (a .n) (a .i) (search needs) (search needs))
 
 shared-slice-read-q : tie.Need-shared-slice-read-q Inv-loop μ-loop
 shared-slice-read-q c =

@@ -6,8 +6,8 @@ use borrow.Author.Needs.{needs}
 use lib.ListN.{length}
 use Rattle.numbers.specs.F64.{_⊗_}
 use Rattle.oracles.specs.Matrix.{entry, at}
-use Rattle.oracles.specs.MatrixLaws.{place-in}
-use Rattle.oracles.specs.LoopLaws.{place-small, MatrixOf}
+use Rattle.oracles.specs.MatrixLaws.{row-small, place-in}
+use Rattle.oracles.specs.LoopLaws.{MatrixOf}
 use Rattle.oracles.specs.EllStableLaws.{stored-to, solved-to}
 use Rattle.oracles.proofs.ell_stable.Laws.{taken-start, taken-turn, taken-other, stored-start, stored-reads, stored-turn, stored-done, solved-done}
 use Rattle.oracles.proofs.ell_stable.forward_row.Statement.{statement}
@@ -28,19 +28,19 @@ mul-val : tie.Need-mul-val Inv-loop μ-loop
 mul-val c =
     let l = c .before .loop in
     let a = c .before .before .args in
-    omega (arith, place-small (a .n) (l .j) (a .i) (search needs) (search needs) (search needs))
+    omega (arith, row-small (a .n) (l .j) (search needs) (search needs))
 
 add-val : tie.Need-add-val Inv-loop μ-loop
 add-val c =
     let l = c .before .loop in
     let a = c .before .before .args in
-    omega (arith, place-small (a .n) (l .j) (a .i) (search needs) (search needs) (search needs))
+    omega (arith, row-small (a .n) (l .j) (search needs) (search needs))
 
 mul-val-2 : tie.Need-mul-val-2 Inv-loop μ-loop
 mul-val-2 c =
     let l = c .before .loop in
     let a = c .before .before .args in
-    omega (arith, place-small (a .n) (l .j) (a .i) (search needs) (search needs) (search needs))
+    omega (arith, row-small (a .n) (l .j) (search needs) (search needs))
 
 slice-read-val : tie.Need-slice-read-val Inv-loop μ-loop
 slice-read-val c =
@@ -58,19 +58,19 @@ mul-mq : tie.Need-mul-mq Inv-loop μ-loop
 mul-mq c =
     let l = c .before .before .before .loop in
     let a = c .before .before .before .before .args in
-    omega (arith, place-small (a .n) (a .i) (l .j) (search needs) (search needs) (search needs))
+    omega (arith, row-small (a .n) (a .i) (search needs) (search needs))
 
 add-mq : tie.Need-add-mq Inv-loop μ-loop
 add-mq c =
     let l = c .before .before .before .loop in
     let a = c .before .before .before .before .args in
-    omega (arith, place-small (a .n) (a .i) (l .j) (search needs) (search needs) (search needs))
+    omega (arith, row-small (a .n) (a .i) (search needs) (search needs))
 
 mul-mq-2 : tie.Need-mul-mq-2 Inv-loop μ-loop
 mul-mq-2 c =
     let l = c .before .before .before .loop in
     let a = c .before .before .before .before .args in
-    omega (arith, place-small (a .n) (a .i) (l .j) (search needs) (search needs) (search needs))
+    omega (arith, row-small (a .n) (a .i) (search needs) (search needs))
 
 slice-write-mq : tie.Need-slice-write-mq Inv-loop μ-loop
 slice-write-mq c =

@@ -6,7 +6,8 @@ use native.Mathlib.Omega.{arith}
 use borrow.Author.Needs.{needs}
 use Rattle.numbers.specs.ArrLaws.{row-in}
 use Rattle.oracles.specs.Matrix.{total}
-use Rattle.oracles.specs.LoopLaws.{VectorOf, MatrixOf, by-zero, place-small}
+use Rattle.oracles.specs.MatrixLaws.{row-small}
+use Rattle.oracles.specs.LoopLaws.{VectorOf, MatrixOf, by-zero}
 use Rattle.oracles.specs.EllStableLaws.{t-after}
 use Rattle.oracles.proofs.ell_stable.Laws.{factored-to, columns-to, columns-start, columns-turn, parts-fit, t-turn, factored-turn, factored-done, columns-done}
 use Rattle.oracles.proofs.ell_stable.rank_one.Statement.{statement}
@@ -43,31 +44,31 @@ mul-at : tie.Need-mul-at Inv-loop μ-loop
 mul-at c =
     let l = c .before .before .before .before .before .before .before .before .loop in
     let a = c .before .before .before .before .before .before .before .before .before .before .before .before .args in
-    omega (arith, place-small (a .n) (l .j) (l .j) (search needs) (search needs) (search needs))
+    omega (arith, row-small (a .n) (l .j) (search needs) (search needs))
 
 add-at : tie.Need-add-at Inv-loop μ-loop
 add-at c =
     let l = c .before .before .before .before .before .before .before .before .loop in
     let a = c .before .before .before .before .before .before .before .before .before .before .before .before .args in
-    omega (arith, place-small (a .n) (l .j) (l .j) (search needs) (search needs) (search needs))
+    omega (arith, row-small (a .n) (l .j) (search needs) (search needs))
 
 mul-end : tie.Need-mul-end Inv-loop μ-loop
 mul-end c =
     let l = c .before .before .before .before .before .before .before .before .loop in
     let a = c .before .before .before .before .before .before .before .before .before .before .before .before .args in
-    omega (arith, place-small (a .n) (l .j) (l .j) (search needs) (search needs) (search needs))
+    omega (arith, row-small (a .n) (l .j) (search needs) (search needs))
 
 add-end : tie.Need-add-end Inv-loop μ-loop
 add-end c =
     let l = c .before .before .before .before .before .before .before .before .loop in
     let a = c .before .before .before .before .before .before .before .before .before .before .before .before .args in
-    omega (arith, place-small (a .n) (l .j) (a .n - 1) (search needs) (search needs) (search needs))
+    omega (arith, row-small (a .n) (l .j) (search needs) (search needs))
 
 mul-update-row : tie.Need-mul-update-row Inv-loop μ-loop
 mul-update-row c =
     let l = c .before .before .before .before .before .before .before .before .loop in
     let a = c .before .before .before .before .before .before .before .before .before .before .before .before .args in
-    omega (arith, place-small (a .n) (l .j) (l .j) (search needs) (search needs) (search needs))
+    omega (arith, row-small (a .n) (l .j) (search needs) (search needs))
 
 sub-update-row : tie.Need-sub-update-row Inv-loop μ-loop
 sub-update-row c = search needs

@@ -5,8 +5,8 @@ use native.Mathlib.Omega.{arith}
 use borrow.Author.Needs.{needs}
 use Rattle.numbers.specs.F64.{_⊗_}
 use Rattle.oracles.specs.Matrix.{entry, at}
-use Rattle.oracles.specs.MatrixLaws.{place-in}
-use Rattle.oracles.specs.LoopLaws.{place-small, VectorOf, swept, sweep-zero, sweep-turn, sweep-done}
+use Rattle.oracles.specs.MatrixLaws.{row-small, place-in}
+use Rattle.oracles.specs.LoopLaws.{VectorOf, swept, sweep-zero, sweep-turn, sweep-done}
 use Rattle.oracles.proofs.ell_stable.scale_into.Statement.{statement}
 use Rattle.oracles.proofs.ell_stable.scale_into.Tie as tie
 
@@ -29,19 +29,19 @@ mul-z-2 : tie.Need-mul-z-2 Inv-loop μ-loop
 mul-z-2 c =
     let l = c .before .before .loop in
     let a = c .before .before .before .args in
-    omega (arith, place-small (a .n) (l .i) (l .i) (search needs) (search needs) (search needs))
+    omega (arith, row-small (a .n) (l .i) (search needs) (search needs))
 
 add-z : tie.Need-add-z Inv-loop μ-loop
 add-z c =
     let l = c .before .before .loop in
     let a = c .before .before .before .args in
-    omega (arith, place-small (a .n) (l .i) (l .i) (search needs) (search needs) (search needs))
+    omega (arith, row-small (a .n) (l .i) (search needs) (search needs))
 
 mul-z-3 : tie.Need-mul-z-3 Inv-loop μ-loop
 mul-z-3 c =
     let l = c .before .before .loop in
     let a = c .before .before .before .args in
-    omega (arith, place-small (a .n) (l .i) (l .i) (search needs) (search needs) (search needs))
+    omega (arith, row-small (a .n) (l .i) (search needs) (search needs))
 
 shared-slice-read-z-2 : tie.Need-shared-slice-read-z-2 Inv-loop μ-loop
 shared-slice-read-z-2 c =

@@ -8,8 +8,8 @@ use lib.Dec.{ltb}
 use Rattle.numbers.specs.F64.{_⊖_}
 use Rattle.numbers.specs.Pick.{pick, hit, skip}
 use Rattle.oracles.specs.Matrix.{entry, at}
-use Rattle.oracles.specs.MatrixLaws.{place-in}
-use Rattle.oracles.specs.LoopLaws.{place-small, VectorOf, swept, sweep-start, sweep-left, sweep-turn, sweep-done}
+use Rattle.oracles.specs.MatrixLaws.{row-small, place-in}
+use Rattle.oracles.specs.LoopLaws.{VectorOf, swept, sweep-start, sweep-left, sweep-turn, sweep-done}
 use Rattle.oracles.specs.EllStableLaws.{column-taken}
 use Rattle.oracles.proofs.ell_stable.take_column.Statement.{statement}
 use Rattle.oracles.proofs.ell_stable.take_column.Tie as tie
@@ -36,19 +36,19 @@ mul-v-2 : tie.Need-mul-v-2 Inv-loop μ-loop
 mul-v-2 c =
     let l = c .before .before .loop in
     let a = c .before .before .before .args in
-    omega (arith, place-small (a .n) (l .l) (a .j) (search needs) (search needs) (search needs))
+    omega (arith, row-small (a .n) (l .l) (search needs) (search needs))
 
 add-v : tie.Need-add-v Inv-loop μ-loop
 add-v c =
     let l = c .before .before .loop in
     let a = c .before .before .before .args in
-    omega (arith, place-small (a .n) (l .l) (a .j) (search needs) (search needs) (search needs))
+    omega (arith, row-small (a .n) (l .l) (search needs) (search needs))
 
 mul-v-3 : tie.Need-mul-v-3 Inv-loop μ-loop
 mul-v-3 c =
     let l = c .before .before .loop in
     let a = c .before .before .before .args in
-    omega (arith, place-small (a .n) (l .l) (a .j) (search needs) (search needs) (search needs))
+    omega (arith, row-small (a .n) (l .l) (search needs) (search needs))
 
 shared-slice-read-v : tie.Need-shared-slice-read-v Inv-loop μ-loop
 shared-slice-read-v c =

@@ -1,19 +1,19 @@
 -- `oracles::ldlt_mgr::get_elem` meets its contract. The invariant: the matrices below k are subtracted. Assumes nothing.
-use mathlib.Core.Path.{refl}
-use Prim.Native.Nat.{_+_, _-_, _*_}
+use mathlib.Core.Path.{_≡_, refl}
+use Prim.Native.Nat.{_+_, _-_, _*_, _≤_}
 use native.Mathlib.Omega.{arith}
 use borrow.Author.Needs.{needs}
 use lib.ListN.{length}
 use Rattle.numbers.specs.F64.{_⊖_, _⊗_}
-use Rattle.oracles.specs.Matrix.{entry, at}
+use Rattle.oracles.specs.Matrix.{entry, at, total}
 use Rattle.oracles.specs.LdltMgr.{get-elem}
-use Rattle.oracles.specs.MatrixLaws.{SummedTo, summed-start, summed-turn, summed-done}
+use Rattle.oracles.specs.MatrixLaws.{total-turn, total-at}
 use Rattle.oracles.proofs.ldlt_mgr.Laws.{small-f, place-f}
 use Rattle.oracles.proofs.ldlt_mgr.get_elem.Statement.{statement}
 use Rattle.oracles.proofs.ldlt_mgr.get_elem.Tie as tie
 
 abbrev Inv-loop : tie.InvT-loop
-Inv-loop m mat-b mat-f xc i j s₀ k₀ s k = SummedTo _⊖_ (at m mat-b i j) (λ k. entry mat-f (k * (m * m) + (i * m + j)) ⊗ entry xc k) (length xc) s k
+Inv-loop m mat-b mat-f xc i j s₀ k₀ s k = (k ≤ length xc) × (s ≡ total _⊖_ (at m mat-b i j) (λ k. entry mat-f (k * (m * m) + (i * m + j)) ⊗ entry xc k) k)
 
 abbrev μ-loop : tie.MeasureT-loop
 μ-loop m mat-b mat-f xc i j s₀ k₀ s k = length xc - k
@@ -22,7 +22,8 @@ at-requires : tie.Need-at-requires Inv-loop μ-loop
 at-requires c κs = search needs
 
 loop-holds : tie.Need-loop-holds Inv-loop μ-loop
-loop-holds c = rw (c .at .ensures) (summed-start _ _ _ _)
+unfolding total
+loop-holds c = (search needs, c .at .ensures)
 
 mul-s : tie.Need-mul-s Inv-loop μ-loop
 mul-s c = search needs
@@ -72,11 +73,11 @@ loop-less c = search needs
 loop-again : tie.Need-loop-again Inv-loop μ-loop
 loop-again c =
     let l = c .before .before .before .loop in
-    summed-turn _ _ _ _ (l .s) (l .k) _ (l .inv) (search needs) refl
+    (search needs, total-turn _⊖_ _ _ (l .k) (l .s) _ (l .inv .1) refl)
 
 returns : tie.Need-returns Inv-loop μ-loop
 unfolding get-elem
-returns c = let l = c .before .loop in summed-done _ _ _ _ (l .s) (l .k) (l .inv) (search needs)
+returns c = let l = c .before .loop in total-at _⊖_ _ _ (l .k) _ (l .s) (l .inv .1) (search needs)
 
 pub get-elem-spec : {M : Type 1} → statement M
 get-elem-spec =

@@ -3,7 +3,8 @@ use mathlib.Core.Path.{_∙_}
 use borrow.Author.Needs.{needs}
 use borrow.Author.Tests.{eq-eqb, ne-eqb}
 use Rattle.numbers.specs.ArrLaws.{dimension-most, wrong-dimension, wrong-length, accepted}
-use Rattle.oracles.proofs.ell_common.Laws.{says-no, says-yes, no-left, no-right, both, lengths}
+use Rattle.oracles.specs.LoopLaws.{says-no, says-yes}
+use Rattle.oracles.proofs.ell_common.Laws.{no-left, no-right, both, lengths}
 use Rattle.oracles.proofs.ell.Ell.update_core.Statement.{statement}
 use Rattle.oracles.proofs.ell.Ell.update_core.Tie as tie
 

@@ -2,7 +2,7 @@
 use mathlib.Core.Path.{_∙_}
 use borrow.Author.Needs.{needs}
 use Rattle.numbers.specs.ArrLaws.{dimension-most, wrong-dimension, wrong-length, accepted}
-use Rattle.oracles.proofs.ell_common.Laws.{says-no, says-yes}
+use Rattle.oracles.specs.LoopLaws.{says-no, says-yes}
 use Rattle.oracles.proofs.ell_stable.Laws.{unfit, fit-by, lengths-known}
 use Rattle.oracles.proofs.ell_stable.EllStable.update_core.Statement.{statement}
 use Rattle.oracles.proofs.ell_stable.EllStable.update_core.Tie as tie
