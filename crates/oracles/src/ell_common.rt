@@ -50,13 +50,7 @@ pub(crate) fn lengths_fit(n: usize, grad: usize, mq: usize, xc: usize) -> bool
     requires { ⌜ n ≤ 32 ⌝ }
     ensures { λ r. ⌜ r ≡ (eqb grad n && eqb mq (n * n) && eqb xc n) ⌝ }
 {
-    if grad != n {
-        return false;
-    }
-    if mq != n * n {
-        return false;
-    }
-    xc == n
+    (grad == n) & (mq == n * n) & (xc == n)
 }
 
 impl CutStrategy {

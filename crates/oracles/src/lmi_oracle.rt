@@ -77,22 +77,12 @@ fn lengths_fit(
     ensures { λ r. ⌜ r ≡ (eqb «mat_b» (m * m) && eqb «mat_f» (n * (m * m)) && eqb xc n && eqb storage (m * m) && eqb wit m && eqb grad n) ⌝ }
 {
     let size = m * m;
-    if mat_b != size {
-        return false;
-    }
-    if mat_f != n * size {
-        return false;
-    }
-    if xc != n {
-        return false;
-    }
-    if storage != size {
-        return false;
-    }
-    if wit != m {
-        return false;
-    }
-    grad == n
+    (mat_b == size)
+        & (mat_f == n * size)
+        & (xc == n)
+        & (storage == size)
+        & (wit == m)
+        & (grad == n)
 }
 
 // Whether mat_b − Σ xc[k] mat_f[k] is positive definite; if not, `grad` is the cut's gradient.

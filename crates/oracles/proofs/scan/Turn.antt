@@ -2,58 +2,26 @@
 use mathlib.Core.Path.{_≡_, refl, sym, ap, _∙_, subst}
 use mathlib.Core.Bool.{Bool, true, false, _||_}
 use mathlib.Core.List.{List}
-use Prim.Native.Nat.{ℕ, zero, suc, _≤_, _<_, _+_, _*_, _-_}
+use Prim.Native.Nat.{ℕ, suc, _≤_, _<_, _+_, _*_, _-_}
 use native.Mathlib.Nat.{suc-mul, le-trans, le-of-eq, mul-le-mul-right}
 use native.Mathlib.Omega.{arith}
-use lib.IntN.{ℤ, pos, negsuc, natAbs, _-ℤ_}
+use lib.IntN.{ℤ, pos, natAbs, _-ℤ_}
 use lib.Signed.{nonNeg}
-use lib.Dec.{T, eqb}
+use lib.Dec.{T}
 use lib.ListN.{length}
 use lib.Ieee.{Float, lt}
 use mir.Syntax.{w32}
 use mir.Val.{SFits}
-use borrow.Author.Tests.{eqb-true, eqb-false}
 use Rattle.numbers.specs.Pick.{pick, hit, skip}
 use Rattle.oracles.specs.RoundRobin.{advanced, Legal}
-use Rattle.oracles.specs.RoundRobinLaws.{or-parts, canon, legal-canon, adv-next, adv-wrap, band-is}
-use Rattle.oracles.specs.Scan.{−∞, none, valueOf, isOver, scanFrom, scanOf, Ready}
+use Rattle.oracles.specs.RoundRobinLaws.{or-parts, canon, legal-canon, band-is}
+use Rattle.oracles.specs.ScanLaws.{NextRow, next-row}
+use Rattle.oracles.specs.Scan.{valueOf, isOver, scanFrom, Ready}
 use Rattle.oracles.specs.declared.round_robin.RoundRobin.{RoundRobin}
 use Rattle.oracles.specs.declared.scan.Upper.{Upper}
 use Rattle.oracles.specs.declared.scan.Violation.the-variants.{Nothing, Broken}
 use Rattle.oracles.specs.declared.scan.Scan.{Scan}
 use Rattle.oracles.proofs.Signed.{pos-fits}
-
--- ---- where a legal cursor goes
-
-record Moved (c : RoundRobin) (from past : ℕ) : Type 0 where
-  at : ℕ
-  is : advanced c ≡ canon from past (suc at)
-  low : from ≤ at
-  high : at < past
-
-to : (c : RoundRobin) (L : Legal c) → L .from < L .past → Moved c (L .from) (L .past)
-to c L h = go (eqb (L .next) (L .past)) refl
-  where
-    go : (b : Bool) → eqb (L .next) (L .past) ≡ b → Moved c (L .from) (L .past)
-    go true e =
-        let q : L .next ≡ L .past = eqb-true (L .next) (L .past) e in
-        record {
-          at = L .from;
-          is = ap advanced (legal-canon c L ∙ ap (canon (L .from) (L .past)) q) ∙ adv-wrap (L .from) (L .past);
-          low = omega arith;
-          high = h;
-        }
-    go false e =
-        let n = eqb-false (L .next) (L .past) e in
-        record {
-          at = L .next;
-          is = ap advanced (legal-canon c L) ∙ adv-next (L .from) (L .past) (L .next) n;
-          low = L .above;
-          high = less n;
-        }
-      where
-        less : (L .next ≡ L .past → ⊥) → L .next < L .past
-        less n = omega (arith, L .below)
 
 -- a scan with rows left: where there are some, the band has one
 pub record Going (n : ℕ) (table : List Float) (c : RoundRobin) (left : ℕ) : Type 0 where
@@ -67,27 +35,30 @@ starts n table x c left R e =
     record { legal = R .legal; room = λ p. omega (arith, p, q); high = R .high }
 
 module _ {n : ℕ} {table : List Float} {c : RoundRobin} {left : ℕ} (G : Going n table c left) (some : 0 < left) (d : RoundRobin) (ed : d ≡ advanced c) where
-  abbrev m : Moved c (G .legal .from) (G .legal .past)
-  m = to c (G .legal) (G .room some)
+  abbrev m : NextRow (G .legal .from) (G .legal .past) (G .legal .next)
+  m = next-row (G .legal .from) (G .legal .past) (G .legal .next) (G .legal .above) (G .legal .below) (G .room some)
 
-  at-is : d .cur ≡ pos (m .at)
-  at-is = ap (λ (e : RoundRobin). e .cur) (ed ∙ m .is)
+  moved-to : d ≡ canon (G .legal .from) (G .legal .past) (suc (m .row))
+  moved-to = ed ∙ ap advanced (legal-canon c (G .legal)) ∙ m .goes
+
+  at-is : d .cur ≡ pos (m .row)
+  at-is = ap (λ (e : RoundRobin). e .cur) moved-to
 
   pub at-nonNeg : T (nonNeg (d .cur))
   at-nonNeg = rw at-is tt
 
   pub at-fits : SFits w32 (d .cur)
-  at-fits = rw at-is (pos-fits (m .at) (omega (arith, m .high, G .legal .small)))
+  at-fits = rw at-is (pos-fits (m .row) (omega (arith, m .high, G .legal .small)))
 
   pub at-within : natAbs (d .cur) * n + n ≤ length table
-  at-within = rw at-is (le-trans (le-of-eq (sym (suc-mul (m .at) n))) (le-trans (mul-le-mul-right n (m .high)) (G .high)))
+  at-within = rw at-is (le-trans (le-of-eq (sym (suc-mul (m .row) n))) (le-trans (mul-le-mul-right n (m .high)) (G .high)))
 
   pub goes-on : Going n table d (left - 1)
-  goes-on = subst (λ (e : RoundRobin). Going n table e (left - 1)) (sym (ed ∙ m .is)) (record {
+  goes-on = subst (λ (e : RoundRobin). Going n table e (left - 1)) (sym moved-to) (record {
     legal = record {
       from = G .legal .from;
       past = G .legal .past;
-      next = suc (m .at);
+      next = suc (m .row);
       lo-is = refl;
       hi-is = refl;
       cur-is = refl;
