@@ -1,0 +1,115 @@
+// An answer's words, one after the other: each `push` writes from place k on and gives the next place. An operation is `told` if it gives each slice's length and each refusal's number.
+use crate::rooms::Room;
+use crate::rooms::part;
+use lists::tally::Replayed;
+use lists::words::put;
+use lists::words::put_floats;
+use numbers::bits::of_bits;
+use numbers::bits::to_bits;
+use numbers::cut::CutChoice;
+use numbers::refusal::Refusal;
+use std::num::wrapping_add_usize;
+
+// The words of any answer.
+pub(crate) type Bytes = [u8; 524288];
+
+// What a call said: 0 or a refusal's number, and the first `len` of the words.
+pub(crate) struct Said {
+    pub(crate) number: u8,
+    pub(crate) words: [u64; 7],
+    pub(crate) len: usize,
+}
+
+pub(crate) fn accepted(words: [u64; 7], len: usize) -> Said {
+    Said {
+        number: 0,
+        words: words,
+        len: len,
+    }
+}
+
+pub(crate) fn refused(why: Refusal) -> Said {
+    Said {
+        number: why.number(),
+        words: [0; 7],
+        len: 0,
+    }
+}
+
+// With the words that stand even then.
+pub(crate) fn refused_with(why: Refusal, word: u64, len: usize) -> Said {
+    Said {
+        number: why.number(),
+        words: [word, 0, 0, 0, 0, 0, 0],
+        len: len,
+    }
+}
+
+// The bounds of a cut; all ones stand for an absent beta1.
+pub(crate) fn choice_of(beta0: f64, beta1: u64) -> CutChoice {
+    if beta1 == u64::MAX {
+        CutChoice::Single(beta0)
+    } else {
+        CutChoice::Parallel(beta0, of_bits(beta1))
+    }
+}
+
+pub(crate) fn beta0_word(beta: CutChoice) -> u64 {
+    match beta {
+        CutChoice::Single(b0) => to_bits(b0),
+        CutChoice::Parallel(b0, _) => to_bits(b0),
+    }
+}
+
+pub(crate) fn beta1_word(beta: CutChoice) -> u64 {
+    match beta {
+        CutChoice::Single(_) => u64::MAX,
+        CutChoice::Parallel(_, b1) => to_bits(b1),
+    }
+}
+
+pub(crate) fn push(got: &mut Bytes, k: usize, w: u64) -> usize {
+    put(got, k, w);
+    wrapping_add_usize(k, 1)
+}
+
+pub(crate) fn push_float(got: &mut Bytes, k: usize, x: f64) -> usize {
+    push(got, k, to_bits(x))
+}
+
+// The words `from` to `to` − 1.
+pub(crate) fn push_words(got: &mut Bytes, k: usize, words: &[u64], from: usize, to: usize) -> usize {
+    let mut at = k;
+    let mut i = from;
+    while i < words.len() && i < to {
+        at = push(got, at, words[i]);
+        i += 1;
+    }
+    at
+}
+
+// The first `len` of the floats.
+pub(crate) fn push_floats(got: &mut Bytes, k: usize, xs: &[f64], len: usize) -> usize {
+    let ys = part(xs, 0, len);
+    put_floats(got, k, ys);
+    wrapping_add_usize(k, ys.len())
+}
+
+pub(crate) fn push_room(got: &mut Bytes, k: usize, s: &Room, len: usize) -> usize {
+    push_floats(got, k, s, len)
+}
+
+pub(crate) fn put_said(got: &mut Bytes, told: bool, said: Said) -> usize {
+    let words = said.words;
+    let k = if told { push(got, 0, said.number as u64) } else { 0 };
+    push_words(got, k, &words, 0, said.len)
+}
+
+// An answer that ends with a slice.
+pub(crate) fn put_answer(got: &mut Bytes, told: bool, said: Said, rest: &[f64], len: usize) -> Replayed {
+    if !told & (said.number > 0) {
+        return Replayed::Refused(said.number);
+    }
+    let k = put_said(got, told, said);
+    Replayed::Words(push_floats(got, k, rest, len))
+}

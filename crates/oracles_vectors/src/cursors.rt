@@ -1,0 +1,61 @@
+// Operations 40, 110 and 111: cursors.
+use crate::answers::Bytes;
+use crate::answers::Said;
+use crate::answers::accepted;
+use crate::answers::put_answer;
+use crate::answers::refused_with;
+use crate::signed::all_signed;
+use crate::signed::signed_at;
+use crate::signed::word_of;
+use lists::tally::Replayed;
+use oracles::round_robin::CursorAnswer;
+use oracles::round_robin::RoundRobin;
+use std::num::wrapping_add_usize;
+
+// The cursor of three words from place k on.
+pub(crate) fn cursor_at(inputs: &[u8], k: usize) -> RoundRobin {
+    RoundRobin {
+        cur: signed_at(inputs, k),
+        lo: signed_at(inputs, wrapping_add_usize(k, 1)),
+        hi: signed_at(inputs, wrapping_add_usize(k, 2)),
+    }
+}
+
+// A refused cursor stays where it is.
+fn advance(rr: RoundRobin) -> Said {
+    match rr.advance() {
+        CursorAnswer::At(moved) => accepted([word_of(moved.current()), 0, 0, 0, 0, 0, 0], 1),
+        CursorAnswer::Refused(why) => refused_with(why, word_of(rr.cur), 1),
+    }
+}
+
+fn new_range(lo: i32, hi: i32) -> Said {
+    match RoundRobin::new_range(lo, hi) {
+        CursorAnswer::At(rr) => accepted(
+            [word_of(rr.cur), word_of(rr.lo), word_of(rr.hi), 0, 0, 0, 0],
+            3,
+        ),
+        CursorAnswer::Refused(why) => refused_with(why, 0, 3),
+    }
+}
+
+pub(crate) fn replay_cursor(
+    op: u64,
+    ins: usize,
+    inputs: &[u8],
+    floats: &[f64],
+    got: &mut Bytes,
+) -> Replayed {
+    let words = if op == 111 { 2 } else { 3 };
+    if ins != words {
+        return Replayed::Unfit;
+    }
+    if !all_signed(inputs, 0, words) {
+        return Replayed::Unfit;
+    }
+    if op == 111 {
+        let said = new_range(signed_at(inputs, 0), signed_at(inputs, 1));
+        return put_answer(got, true, said, floats, 0);
+    }
+    put_answer(got, op == 110, advance(cursor_at(inputs, 0)), floats, 0)
+}

@@ -1,0 +1,170 @@
+// Operations 53 and 118: the LMI oracle.
+use crate::answers::Bytes;
+use crate::answers::Said;
+use crate::answers::accepted;
+use crate::answers::push_floats;
+use crate::answers::push_words;
+use crate::answers::put_said;
+use crate::answers::refused;
+use crate::rooms::Room;
+use crate::rooms::fill;
+use crate::rooms::front;
+use crate::rooms::part;
+use crate::rooms::plus;
+use crate::rooms::times;
+use lists::tally::Replayed;
+use lists::words::word;
+use numbers::bits::to_bits;
+use oracles::lmi_oracle::LmiVerdict;
+use oracles::lmi_oracle::assess_feas;
+
+struct Lengths {
+    mat_b: usize,
+    mat_f: usize,
+    x: usize,
+    storage: usize,
+    wit: usize,
+    grad: usize,
+}
+
+// Where the slices begin, and where the last one ends.
+struct Places {
+    mat_b: usize,
+    mat_f: usize,
+    x: usize,
+    storage: usize,
+    wit: usize,
+    grad: usize,
+    end: usize,
+}
+
+// The lengths that m and n say.
+fn right(m: usize, n: usize) -> Lengths {
+    let size = times(m, m);
+    Lengths {
+        mat_b: size,
+        mat_f: times(n, size),
+        x: n,
+        storage: size,
+        wit: m,
+        grad: n,
+    }
+}
+
+// The lengths that the case says, in words 2 to 7.
+fn told_lengths(inputs: &[u8]) -> Lengths {
+    Lengths {
+        mat_b: word(inputs, 2) as usize,
+        mat_f: word(inputs, 3) as usize,
+        x: word(inputs, 4) as usize,
+        storage: word(inputs, 5) as usize,
+        wit: word(inputs, 6) as usize,
+        grad: word(inputs, 7) as usize,
+    }
+}
+
+fn places_of(told: bool, l: Lengths) -> Places {
+    let mat_b = if told { 8 } else { 2 };
+    let mat_f = plus(mat_b, l.mat_b);
+    let x = plus(mat_f, l.mat_f);
+    let storage = plus(x, l.x);
+    let wit = plus(storage, l.storage);
+    let grad = plus(wit, l.wit);
+    let end = if told { plus(grad, l.grad) } else { grad };
+    Places {
+        mat_b: mat_b,
+        mat_f: mat_f,
+        x: x,
+        storage: storage,
+        wit: wit,
+        grad: grad,
+        end: end,
+    }
+}
+
+// Where the operation is not told, a cut's gradient stands before the position, and only the first two words before that.
+fn said_of(told: bool, verdict: LmiVerdict) -> Said {
+    match verdict {
+        LmiVerdict::Feasible => accepted([0; 7], 3),
+        LmiVerdict::Cut(pos, value) => {
+            let words = [1, to_bits(value), pos.start as u64, pos.end as u64, 0, 0, 0];
+            accepted(words, if told { 4 } else { 2 })
+        }
+        LmiVerdict::Refused(why) => refused(why),
+    }
+}
+
+// The gradient that an answer shows, with the position after it where that is not told.
+fn push_gradient(got: &mut Bytes, k: usize, told: bool, said: Said, grad: &[f64], len: usize) -> usize {
+    let is_late = said.len == 2;
+    let shown = if told | is_late { len } else { 0 };
+    let words = said.words;
+    let k = push_floats(got, k, grad, shown);
+    push_words(got, k, &words, 2, if is_late { 4 } else { 2 })
+}
+
+fn put_all(
+    told: bool,
+    said: Said,
+    l: Lengths,
+    storage: &[f64],
+    wit: &[f64],
+    grad: &[f64],
+    got: &mut Bytes,
+) -> Replayed {
+    if !told & (said.number > 0) {
+        return Replayed::Refused(said.number);
+    }
+    let k = put_said(got, told, said);
+    let k = push_gradient(got, k, told, said, grad, l.grad);
+    let k = push_floats(got, k, storage, l.storage);
+    Replayed::Words(push_floats(got, k, wit, l.wit))
+}
+
+fn call(
+    told: bool,
+    l: Lengths,
+    p: Places,
+    inputs: &[u8],
+    floats: &[f64],
+    a: &mut [f64],
+    b: &mut [f64],
+    c: &mut [f64],
+) -> Said {
+    let m = word(inputs, 0) as usize;
+    let n = word(inputs, 1) as usize;
+    let mat_b = part(floats, p.mat_b, l.mat_b);
+    let mat_f = part(floats, p.mat_f, l.mat_f);
+    let x = part(floats, p.x, l.x);
+    let storage = front(a, l.storage);
+    let wit = front(b, l.wit);
+    let grad = front(c, l.grad);
+    said_of(told, assess_feas(m, n, mat_b, mat_f, x, storage, wit, grad))
+}
+
+pub(crate) fn replay_lmi(
+    op: u64,
+    ins: usize,
+    inputs: &[u8],
+    floats: &[f64],
+    got: &mut Bytes,
+    a: &mut Room,
+    b: &mut Room,
+    c: &mut Room,
+) -> Replayed {
+    let told = op == 118;
+    let l = if told {
+        told_lengths(inputs)
+    } else {
+        right(word(inputs, 0) as usize, word(inputs, 1) as usize)
+    };
+    let p = places_of(told, l);
+    if p.end != ins {
+        return Replayed::Unfit;
+    }
+    fill(a, inputs, true, p.storage, l.storage);
+    fill(b, inputs, true, p.wit, l.wit);
+    fill(c, inputs, told, p.grad, l.grad);
+    let said = call(told, l, p, inputs, floats, a, b, c);
+    put_all(told, said, l, a, b, c, got)
+}

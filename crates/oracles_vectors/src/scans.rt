@@ -1,0 +1,122 @@
+// Operations 41 and 112: the scan of one band.
+use crate::answers::Bytes;
+use crate::answers::Said;
+use crate::answers::accepted;
+use crate::answers::put_answer;
+use crate::answers::refused_with;
+use crate::cursors::cursor_at;
+use crate::rooms::part;
+use crate::rooms::plus;
+use crate::rooms::times;
+use crate::signed::all_signed;
+use crate::signed::word_of;
+use lists::tally::Replayed;
+use lists::words::float;
+use lists::words::word;
+use numbers::bits::of_bits;
+use numbers::bits::to_bits;
+use oracles::round_robin::RoundRobin;
+use oracles::scan::Scan;
+use oracles::scan::ScanAnswer;
+use oracles::scan::Upper;
+use oracles::scan::Violation;
+use oracles::scan::scan_band;
+use std::num::wrapping_add_usize;
+ghost use mathlib.Core.Path.{_≡_};
+ghost use Rattle.oracles.specs.Scan.{scan-band-answer};
+
+// An answer, and the cursor after it.
+struct ScanEnd {
+    answer: ScanAnswer,
+    cursor: RoundRobin,
+}
+
+// The cursor is lent to the call.
+fn scan_lent(
+    n: usize,
+    rows: usize,
+    table: &[f64],
+    x: &[f64],
+    start: RoundRobin,
+    lower: f64,
+    upper: Upper,
+) -> ScanEnd
+    ensures { λ r. ⌜ (r .answer, r .cursor) ≡ scan-band-answer n rows (now (table .entry)) (now (x .entry)) start lower upper ⌝ }
+{
+    let mut c = start;
+    let answer = scan_band(n, rows, table, x, &mut c, lower, upper);
+    ScanEnd {
+        answer: answer,
+        cursor: c,
+    }
+}
+
+// All ones stand for an absent upper limit.
+fn upper_of(w: u64) -> Upper {
+    if w == u64::MAX {
+        Upper::Absent
+    } else {
+        Upper::At(of_bits(w))
+    }
+}
+
+// The words of a violation or of none, then those of every scan, then the cursor.
+fn scanned(scan: Scan, cur: i32) -> Said {
+    let fmax = to_bits(scan.fmax);
+    let kmax = word_of(scan.kmax);
+    let last = word_of(scan.last);
+    let after = word_of(cur);
+    let viol = scan.viol;
+    match viol {
+        Violation::Nothing => accepted(
+            [u64::MAX, u64::MAX, u64::MAX, fmax, kmax, last, after],
+            7,
+        ),
+        Violation::Broken(row, value, is_over) => accepted(
+            [row as u64, to_bits(value), is_over as u64, fmax, kmax, last, after],
+            7,
+        ),
+    }
+}
+
+// Words k to k + 4 have the cursor and the limits.
+fn scan_at(inputs: &[u8], k: usize, table: &[f64], x: &[f64]) -> Said {
+    let n = word(inputs, 0) as usize;
+    let rows = word(inputs, 1) as usize;
+    let lower = float(inputs, wrapping_add_usize(k, 3));
+    let upper = upper_of(word(inputs, wrapping_add_usize(k, 4)));
+    let end = scan_lent(n, rows, table, x, cursor_at(inputs, k), lower, upper);
+    let after = end.cursor;
+    let answer = end.answer;
+    match answer {
+        ScanAnswer::Scanned(scan) => scanned(scan, after.cur),
+        ScanAnswer::Refused(why) => refused_with(why, word_of(after.cur), 1),
+    }
+}
+
+pub(crate) fn replay_scan(
+    op: u64,
+    ins: usize,
+    inputs: &[u8],
+    floats: &[f64],
+    got: &mut Bytes,
+) -> Replayed {
+    let told = op == 112;
+    let n = word(inputs, 0) as usize;
+    let rows = word(inputs, 1) as usize;
+    let lt = if told { word(inputs, 2) as usize } else { times(rows, n) };
+    let lx = if told { word(inputs, 3) as usize } else { n };
+    // The table begins here, the words of the cursor and the limits at k.
+    let from = if told { 9 } else { 2 };
+    let x_at = plus(from, lt);
+    let end = plus(x_at, lx);
+    let k = if told { 4 } else { end };
+    if (if told { end } else { plus(end, 5) }) != ins {
+        return Replayed::Unfit;
+    }
+    if !all_signed(inputs, k, wrapping_add_usize(k, 3)) {
+        return Replayed::Unfit;
+    }
+    let said = scan_at(inputs, k, part(floats, from, lt), part(floats, x_at, lx));
+    put_answer(got, told, said, floats, 0)
+}

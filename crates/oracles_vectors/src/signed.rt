@@ -1,0 +1,41 @@
+// Signed words: a number of 32 bits at 64, in two's complement.
+use lists::words::word;
+
+// Whether the word is such a number.
+fn is_signed(w: u64) -> bool {
+    w < 0x8000_0000 || w >= 0xFFFF_FFFF_8000_0000
+}
+
+// Its number; 0 where it has none.
+pub(crate) fn signed(w: u64) -> i32 {
+    if w < 0x8000_0000 {
+        return w as i32;
+    }
+    if w < 0xFFFF_FFFF_8000_0000 {
+        return 0;
+    }
+    -1 - ((u64::MAX - w) as i32)
+}
+
+pub(crate) fn signed_at(inputs: &[u8], k: usize) -> i32 {
+    signed(word(inputs, k))
+}
+
+// Whether each of the words `from` to `to` − 1 is a signed one.
+pub(crate) fn all_signed(inputs: &[u8], from: usize, to: usize) -> bool {
+    let mut k = from;
+    while k < to {
+        if !is_signed(word(inputs, k)) {
+            return false;
+        }
+        k += 1;
+    }
+    true
+}
+
+pub(crate) fn word_of(i: i32) -> u64 {
+    if i < 0 {
+        return u64::MAX - ((-1 - i) as u64);
+    }
+    i as u64
+}
