@@ -33,8 +33,20 @@ empty-advance = refl
 -- one pass row, and no stop row
 abbrev one-row : LowpassOracle
 one-row = record {
-  «more_alt» = true; idx1 = negsuc 0; nwpass = pos 1; nwstop = pos 1; «lp_sq» = 0ᶠ; «up_sq» = 2ᶠ; «sp_sq» = 1ᶠ; idx2 = pos 0; idx3 = pos 0; fmax = −∞; kmax = none;
-  rr1 = fresh (pos 0) (pos 1); rr2 = fresh (pos 1) (pos 1); rr3 = fresh (pos 1) (pos 1);
+  «more_alt» = true;
+  idx1 = negsuc 0;
+  nwpass = pos 1;
+  nwstop = pos 1;
+  «lp_sq» = 0ᶠ;
+  «up_sq» = 2ᶠ;
+  «sp_sq» = 1ᶠ;
+  idx2 = pos 0;
+  idx3 = pos 0;
+  fmax = −∞;
+  kmax = none;
+  rr1 = fresh (pos 0) (pos 1);
+  rr2 = fresh (pos 1) (pos 1);
+  rr3 = fresh (pos 1) (pos 1);
 }
 
 pub no-stop-row : assess-optim-answer one-row 1ᶠ 2 1 (1ᶠ ∷ 0ᶠ ∷ []) (1ᶠ ∷ 0ᶠ ∷ []) (0ᶠ ∷ 0ᶠ ∷ []) ≡ (record { oracle = one-row; gamma = 1ᶠ; verdict = NotImproved NoStopValue }, 0ᶠ ∷ 0ᶠ ∷ [])

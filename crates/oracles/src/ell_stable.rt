@@ -215,10 +215,7 @@ fn scratch_fits(
 ) -> bool
     ensures { λ r. ⌜ r ≡ (eqb (length (now («inv_ml_g» .entry))) n && eqb (length (now («inv_md_inv_ml_g» .entry))) n && eqb (length (now («gg_t» .entry))) n && eqb (length (now («g_t» .entry))) n) ⌝ }
 {
-    (inv_ml_g.len() == n)
-        & (inv_md_inv_ml_g.len() == n)
-        & (gg_t.len() == n)
-        & (g_t.len() == n)
+    (inv_ml_g.len() == n) & (inv_md_inv_ml_g.len() == n) & (gg_t.len() == n) & (g_t.len() == n)
 }
 
 impl EllStable {

@@ -77,12 +77,7 @@ fn lengths_fit(
     ensures { λ r. ⌜ r ≡ (eqb «mat_b» (m * m) && eqb «mat_f» (n * (m * m)) && eqb xc n && eqb storage (m * m) && eqb wit m && eqb grad n) ⌝ }
 {
     let size = m * m;
-    (mat_b == size)
-        & (mat_f == n * size)
-        & (xc == n)
-        & (storage == size)
-        & (wit == m)
-        & (grad == n)
+    (mat_b == size) & (mat_f == n * size) & (xc == n) & (storage == size) & (wit == m) & (grad == n)
 }
 
 // Whether mat_b − Σ xc[k] mat_f[k] is positive definite; if not, `grad` is the cut's gradient.

@@ -78,7 +78,13 @@ pub(crate) fn push_float(got: &mut Bytes, k: usize, x: f64) -> usize {
 }
 
 // The words `from` to `to` − 1.
-pub(crate) fn push_words(got: &mut Bytes, k: usize, words: &[u64], from: usize, to: usize) -> usize {
+pub(crate) fn push_words(
+    got: &mut Bytes,
+    k: usize,
+    words: &[u64],
+    from: usize,
+    to: usize,
+) -> usize {
     let mut at = k;
     let mut i = from;
     while i < words.len() && i < to {
@@ -101,12 +107,22 @@ pub(crate) fn push_room(got: &mut Bytes, k: usize, s: &Room, len: usize) -> usiz
 
 pub(crate) fn put_said(got: &mut Bytes, told: bool, said: Said) -> usize {
     let words = said.words;
-    let k = if told { push(got, 0, said.number as u64) } else { 0 };
+    let k = if told {
+        push(got, 0, said.number as u64)
+    } else {
+        0
+    };
     push_words(got, k, &words, 0, said.len)
 }
 
 // An answer that ends with a slice.
-pub(crate) fn put_answer(got: &mut Bytes, told: bool, said: Said, rest: &[f64], len: usize) -> Replayed {
+pub(crate) fn put_answer(
+    got: &mut Bytes,
+    told: bool,
+    said: Said,
+    rest: &[f64],
+    len: usize,
+) -> Replayed {
     if !told & (said.number > 0) {
         return Replayed::Refused(said.number);
     }

@@ -88,9 +88,21 @@ fn places_right(inputs: &[u8], xc: usize) -> Places {
 // Operations 119 and 120: words 4 on have the lengths, of one vector of scratch or of four.
 fn places_told(inputs: &[u8], is_stable: bool) -> Places {
     let xc = if is_stable { 13 } else { 10 };
-    let l2 = if is_stable { word(inputs, 7) as usize } else { 0 };
-    let l3 = if is_stable { word(inputs, 8) as usize } else { 0 };
-    let l4 = if is_stable { word(inputs, 9) as usize } else { 0 };
+    let l2 = if is_stable {
+        word(inputs, 7) as usize
+    } else {
+        0
+    };
+    let l3 = if is_stable {
+        word(inputs, 8) as usize
+    } else {
+        0
+    };
+    let l4 = if is_stable {
+        word(inputs, 9) as usize
+    } else {
+        0
+    };
     let lg = word(inputs, if is_stable { 10 } else { 7 }) as usize;
     let lx = word(inputs, 4) as usize;
     let lm = word(inputs, 5) as usize;

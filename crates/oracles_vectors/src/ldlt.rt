@@ -56,9 +56,7 @@ fn places_of(op: u64, inputs: &[u8]) -> Places {
 fn call_factor(m: usize, mat: &[f64], storage: &mut [f64]) -> Said {
     match factor(m, mat, storage) {
         Factored::Definite => accepted([0; 7], 3),
-        Factored::Stopped(pos) => {
-            accepted([1, pos.start as u64, pos.end as u64, 0, 0, 0, 0], 3)
-        }
+        Factored::Stopped(pos) => { accepted([1, pos.start as u64, pos.end as u64, 0, 0, 0, 0], 3) }
         Factored::Refused(why) => refused(why),
     }
 }
@@ -72,14 +70,7 @@ fn value_of(x: Number) -> Said {
 }
 
 // The slice that the call writes is at the front of `a`.
-fn call(
-    op: u64,
-    inputs: &[u8],
-    first: &[f64],
-    second: &[f64],
-    a: &mut [f64],
-    len: usize,
-) -> Said {
+fn call(op: u64, inputs: &[u8], first: &[f64], second: &[f64], a: &mut [f64], len: usize) -> Said {
     let kept = front(a, len);
     let m = word(inputs, 0) as usize;
     let pos = Pos {

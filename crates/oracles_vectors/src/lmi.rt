@@ -2,6 +2,7 @@
 use crate::answers::Bytes;
 use crate::answers::Said;
 use crate::answers::accepted;
+use crate::answers::beta0_word;
 use crate::answers::push_floats;
 use crate::answers::push_words;
 use crate::answers::put_said;
@@ -14,7 +15,6 @@ use crate::rooms::plus;
 use crate::rooms::times;
 use lists::tally::Replayed;
 use lists::words::word;
-use numbers::bits::to_bits;
 use oracles::lmi_oracle::LmiVerdict;
 use oracles::lmi_oracle::assess_feas;
 
@@ -86,8 +86,16 @@ fn places_of(told: bool, l: Lengths) -> Places {
 fn said_of(told: bool, verdict: LmiVerdict) -> Said {
     match verdict {
         LmiVerdict::Feasible => accepted([0; 7], 3),
-        LmiVerdict::Cut(pos, value) => {
-            let words = [1, to_bits(value), pos.start as u64, pos.end as u64, 0, 0, 0];
+        LmiVerdict::Cut(pos, beta) => {
+            let words = [
+                1,
+                beta0_word(beta),
+                pos.start as u64,
+                pos.end as u64,
+                0,
+                0,
+                0,
+            ];
             accepted(words, if told { 4 } else { 2 })
         }
         LmiVerdict::Refused(why) => refused(why),
@@ -95,7 +103,14 @@ fn said_of(told: bool, verdict: LmiVerdict) -> Said {
 }
 
 // The gradient that an answer shows, with the position after it where that is not told.
-fn push_gradient(got: &mut Bytes, k: usize, told: bool, said: Said, grad: &[f64], len: usize) -> usize {
+fn push_gradient(
+    got: &mut Bytes,
+    k: usize,
+    told: bool,
+    said: Said,
+    grad: &[f64],
+    len: usize,
+) -> usize {
     let is_late = said.len == 2;
     let shown = if told | is_late { len } else { 0 };
     let words = said.words;

@@ -187,21 +187,24 @@ fn state_words(oracle: LowpassOracle, more: u64) -> [u64; 11] {
     ]
 }
 
+// The row of a group that has one.
+fn row_word(group: Group) -> u64 {
+    match group {
+        Group::Pass(row, _) => row as u64,
+        Group::Stop(row, _) => row as u64,
+        Group::Middle(row) => row as u64,
+        Group::Sign => u64::MAX,
+    }
+}
+
 // The group, its row and side, and the betas; gamma where it is told.
 fn cut(group: Group, beta: CutChoice, told: bool, gamma: u64) -> Said {
     let b0 = beta0_word(beta);
     let b1 = beta1_word(beta);
     let len = if told { 7 } else { 6 };
-    match group {
-        Group::Pass(row, is_over) => {
-            accepted([1, 0, row as u64, is_over as u64, b0, b1, gamma], len)
-        }
-        Group::Stop(row, is_over) => {
-            accepted([1, 1, row as u64, is_over as u64, b0, b1, gamma], len)
-        }
-        Group::Middle(row) => accepted([1, 2, row as u64, 0, b0, b1, gamma], len),
-        Group::Sign => accepted([1, 3, u64::MAX, 0, b0, b1, gamma], len),
-    }
+    let number = group.number() as u64;
+    let side = group.is_over() as u64;
+    accepted([1, number, row_word(group), side, b0, b1, gamma], len)
 }
 
 fn said_feas(verdict: Verdict) -> Said {
@@ -283,7 +286,15 @@ fn call(op: u64, p: Places, inputs: &[u8], floats: &[f64], a: &mut [f64]) -> Cam
     if (op == 42) | (op == 113) {
         return feas(oracle, inputs, table, x, grad);
     }
-    optim(op == 114, oracle, float(inputs, p.gamma), inputs, table, x, grad)
+    optim(
+        op == 114,
+        oracle,
+        float(inputs, p.gamma),
+        inputs,
+        table,
+        x,
+        grad,
+    )
 }
 
 pub(crate) fn replay_lowpass(
@@ -296,7 +307,11 @@ pub(crate) fn replay_lowpass(
 ) -> Replayed {
     let told = op > 100;
     let more = if (op == 42) | (op == 113) { 0 } else { 1 };
-    let p = if told { places_told(inputs, more) } else { places_right(inputs, more) };
+    let p = if told {
+        places_told(inputs, more)
+    } else {
+        places_right(inputs, more)
+    };
     if p.end != ins {
         return Replayed::Unfit;
     }

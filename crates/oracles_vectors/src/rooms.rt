@@ -7,7 +7,11 @@ pub(crate) type Room = [f64; 65536];
 
 // The sum, at most what 64 bits hold: too long for a case.
 pub(crate) fn plus(a: usize, b: usize) -> usize {
-    if usize::MAX - a < b { usize::MAX } else { a + b }
+    if usize::MAX - a < b {
+        usize::MAX
+    } else {
+        a + b
+    }
 }
 
 // The product, or what is too long for a case.

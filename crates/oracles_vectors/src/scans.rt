@@ -68,12 +68,17 @@ fn scanned(scan: Scan, cur: i32) -> Said {
     let after = word_of(cur);
     let viol = scan.viol;
     match viol {
-        Violation::Nothing => accepted(
-            [u64::MAX, u64::MAX, u64::MAX, fmax, kmax, last, after],
-            7,
-        ),
+        Violation::Nothing => accepted([u64::MAX, u64::MAX, u64::MAX, fmax, kmax, last, after], 7),
         Violation::Broken(row, value, is_over) => accepted(
-            [row as u64, to_bits(value), is_over as u64, fmax, kmax, last, after],
+            [
+                row as u64,
+                to_bits(value),
+                is_over as u64,
+                fmax,
+                kmax,
+                last,
+                after,
+            ],
             7,
         ),
     }
@@ -104,7 +109,11 @@ pub(crate) fn replay_scan(
     let told = op == 112;
     let n = word(inputs, 0) as usize;
     let rows = word(inputs, 1) as usize;
-    let lt = if told { word(inputs, 2) as usize } else { times(rows, n) };
+    let lt = if told {
+        word(inputs, 2) as usize
+    } else {
+        times(rows, n)
+    };
     let lx = if told { word(inputs, 3) as usize } else { n };
     // The table begins here, the words of the cursor and the limits at k.
     let from = if told { 9 } else { 2 };

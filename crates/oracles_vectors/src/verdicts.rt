@@ -36,14 +36,8 @@ struct Agreeing {
 }
 
 fn broken(group: Group) -> Seen {
-    let verdict = match group {
-        Group::Pass(_, _) => 0,
-        Group::Stop(_, _) => 1,
-        Group::Middle(_) => 2,
-        Group::Sign => 3,
-    };
     Seen {
-        verdict: verdict,
+        verdict: group.number() as u64,
         has_peak: false,
         peak: 0.0,
     }
@@ -53,7 +47,11 @@ fn broken(group: Group) -> Seen {
 fn refused(why: Refusal) -> Seen {
     let number = why.number() as u64;
     Seen {
-        verdict: if number == 6 { 4 } else { wrapping_add_u64(16, number) },
+        verdict: if number == 6 {
+            4
+        } else {
+            wrapping_add_u64(16, number)
+        },
         has_peak: false,
         peak: 0.0,
     }
