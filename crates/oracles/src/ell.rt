@@ -24,7 +24,7 @@ ghost use Rattle.oracles.specs.EllLaws.{row-lowered, all-lowered, row-mi
 
 // What is kept beside the matrix mq and the centre xc.
 pub struct Ell {
-    ndim: usize,
+    pub ndim: usize,
     pub kappa: f64,
     helper: EllCalc,
     pub tsq: f64,

@@ -152,7 +152,7 @@ fn is_of(rr: RoundRobin, lo: i32, hi: i32) -> bool
 
 impl LowpassOracle {
     // Refusal 3: the row count, the bands, and the cursors' lo and hi.
-    fn bands_fit(self, rows: usize) -> bool
+    pub fn bands_fit(self, rows: usize) -> bool
         ensures { λ r. ⌜ r ≡ bands-fit self rows ⌝ }
     {
         if !is_rows(rows) {
@@ -173,7 +173,7 @@ impl LowpassOracle {
     }
 
     // Refusal 4.
-    fn cursors_fit(self) -> bool
+    pub fn cursors_fit(self) -> bool
         ensures { λ r. ⌜ r ≡ cursors-fit self ⌝ }
     {
         let rr1 = self.rr1;

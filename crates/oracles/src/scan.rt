@@ -60,10 +60,12 @@ pub fn is_rows(rows: usize) -> bool
 }
 
 // Whether the table has `rows` rows of n, and the point n numbers. By division, since rows × n may be beyond the machine's numbers.
-pub(crate) fn table_fits(n: usize, rows: usize, table: usize, x: usize) -> bool
-    requires { ⌜ 0 < n ⌝ }
+pub fn table_fits(n: usize, rows: usize, table: usize, x: usize) -> bool
     ensures { λ r. ⌜ r ≡ (eqb table (rows * n) && eqb x n) ⌝ }
 {
+    if n == 0 {
+        return (table == 0) & (x == 0);
+    }
     (table / n == rows) & (table % n == 0) & (x == n)
 }
 

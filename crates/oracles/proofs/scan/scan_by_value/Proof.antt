@@ -52,7 +52,7 @@ returns c =
     (no-dimension (a .n) (a .rows) (a .table .now) (a .x .now) (a .rr) (a .lower) (a .upper) (failed (e .before .is-dimension .ensures) (e .if1 .taken)))
 
 table-fits-requires : tie.Need-table-fits-requires
-table-fits-requires c κs = let n = c .before .before .before .before .args .n in omega (arith, dimension-least n (passed (c .before .is-dimension .ensures) (c .if1 .left)))
+table-fits-requires c κs = tt
 
 scan-refused-requires-2 : tie.Need-scan-refused-requires-2
 scan-refused-requires-2 c κs = tt

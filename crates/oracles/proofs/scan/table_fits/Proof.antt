@@ -28,14 +28,25 @@ divides t n rows p = go (eqb t (rows * n)) refl
             let w : t / n * n ≡ rows * n = ap (λ (z : ℕ). z * n) d in
             absurd (eqb-false t (rows * n) e (omega (arith, q, m, w)))
 
-div-result : tie.Need-div-result
-div-result c = c .pre
+-- n is not 0
+above : (n : ℕ) → (n ≡ 0 → ⊥) → 0 < n
+above n h = omega (arith, h)
 
-rem-result : tie.Need-rem-result
-rem-result c = c .pre
+-- with n 0
+none : (t x n rows : ℕ) → n ≡ 0 → (eqb t 0 && eqb x 0) ≡ (eqb t (rows * n) && eqb x n)
+none t x n rows e = let z : rows * 0 ≡ 0 = omega arith in rw (e, z)
 
 returns : tie.Need-returns
-returns c = ap (λ (b : Bool). b && eqb (c .args .x) (c .args .n)) (divides (c .args .table) (c .args .n) (c .args .rows) (c .pre))
+returns c = let a = c .before .args in none (a .table) (a .x) (a .n) (a .rows) (c .if1 .taken)
+
+div-result : tie.Need-div-result
+div-result c = above (c .before .args .n) (c .if1 .left)
+
+rem-result : tie.Need-rem-result
+rem-result c = above (c .before .args .n) (c .if1 .left)
+
+returns-2 : tie.Need-returns-2
+returns-2 c = let a = c .before .args in ap (λ (b : Bool). b && eqb (a .x) (a .n)) (divides (a .table) (a .n) (a .rows) (above (a .n) (c .if1 .left)))
 
 pub table-fits-spec : {M : Type 1} → statement M
-table-fits-spec = tie.close (tie.spec div-result rem-result returns)
+table-fits-spec = tie.close (tie.spec returns div-result rem-result returns-2)

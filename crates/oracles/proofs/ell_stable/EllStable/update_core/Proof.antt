@@ -1,5 +1,5 @@
 -- `oracles::ell_stable::EllStable::update_core` meets its contract. Assumes nothing.
-use mathlib.Core.Path.{_∙_}
+use mathlib.Core.Path.{refl, _∙_}
 use borrow.Author.Needs.{needs}
 use Rattle.numbers.specs.ArrLaws.{dimension-most, wrong-dimension, wrong-length, accepted}
 use Rattle.oracles.specs.LoopLaws.{says-no, says-yes}
@@ -8,10 +8,10 @@ use Rattle.oracles.proofs.ell_stable.EllStable.update_core.Statement.{s
 use Rattle.oracles.proofs.ell_stable.EllStable.update_core.Tie as tie
 
 is-dimension-requires : tie.Need-is-dimension-requires
-is-dimension-requires c κs = search needs
+is-dimension-requires c κs = tt
 
 refused-requires : tie.Need-refused-requires
-refused-requires c κs = search needs
+refused-requires c κs = tt
 
 returns : tie.Need-returns
 returns c = rw (c .refused .ensures) (wrong-dimension _ _ _ _ _ (says-no _ _ (c .before .before .is-dimension .ensures) (c .before .if1 .taken)))
@@ -20,7 +20,7 @@ lengths-fit-requires : tie.Need-lengths-fit-requires
 lengths-fit-requires c κs = dimension-most _ (says-yes _ _ (c .before .is-dimension .ensures) (c .if1 .left))
 
 refused-requires-2 : tie.Need-refused-requires-2
-refused-requires-2 c κs = search needs
+refused-requires-2 c κs = tt
 
 returns-2 : tie.Need-returns-2
 returns-2 c =
@@ -29,22 +29,22 @@ returns-2 c =
     (unfit _ _ _ _ _ (says-no _ _ (c .before .before .lengths-fit .ensures) (c .before .if2 .taken))))
 
 scratch-fits-requires : tie.Need-scratch-fits-requires
-scratch-fits-requires c κs = search needs
+scratch-fits-requires c κs = tt
 
 refused-requires-3 : tie.Need-refused-requires-3
-refused-requires-3 c κs = search needs
+refused-requires-3 c κs = tt
 
 same-length : tie.Need-same-length
-same-length c = search needs
+same-length c = refl
 
 same-length-2 : tie.Need-same-length-2
-same-length-2 c = search needs
+same-length-2 c = refl
 
 same-length-3 : tie.Need-same-length-3
-same-length-3 c = search needs
+same-length-3 c = refl
 
 same-length-4 : tie.Need-same-length-4
-same-length-4 c = search needs
+same-length-4 c = refl
 
 returns-3 : tie.Need-returns-3
 returns-3 c =
@@ -60,22 +60,22 @@ update-requires c κs =
     (says-yes _ _ (c .before .before .before .before .before .before .before .scratch-fits .ensures) (c .before .before .before .before .before .before .if3 .left))
 
 same-length-5 : tie.Need-same-length-5
-same-length-5 c = search needs
+same-length-5 c = c .before .before .before .before .before .before .before .before .before .before .before .before .update .kept .1 .1 .1 .1 .0
 
 same-length-6 : tie.Need-same-length-6
-same-length-6 c = search needs
+same-length-6 c = c .before .before .before .before .before .before .before .before .before .before .before .before .update .kept .1 .1 .1 .1 .1 .0
 
 same-length-7 : tie.Need-same-length-7
-same-length-7 c = search needs
+same-length-7 c = c .before .before .before .before .before .before .before .before .before .before .before .before .update .kept .1 .1 .1 .1 .1 .1 .0
 
 same-length-8 : tie.Need-same-length-8
-same-length-8 c = search needs
+same-length-8 c = c .before .before .before .before .before .before .before .before .before .before .before .before .update .kept .1 .1 .1 .1 .1 .1 .1 .0
 
 same-length-9 : tie.Need-same-length-9
-same-length-9 c = search needs
+same-length-9 c = c .before .before .before .before .before .before .before .before .before .before .before .before .update .kept .1 .1 .1 .1 .1 .1 .1 .1 .0
 
 same-length-10 : tie.Need-same-length-10
-same-length-10 c = search needs
+same-length-10 c = c .before .before .before .before .before .before .before .before .before .before .before .before .update .kept .1 .1 .1 .1 .1 .1 .1 .1 .1 .0
 
 returns-4 : tie.Need-returns-4
 returns-4 c =

@@ -23,7 +23,7 @@ returns c =
     refused-as (a .self) (a .n) (a .rows) (a .table .now) (a .x .now) (a .grad .now) _ _ (c .refused .ensures) (no-dimension (a .self) (a .n) (a .rows) (a .table .now) (a .x .now) (a .grad .now) (failed (e .before .is-dimension .ensures) (e .if1 .taken)))
 
 table-fits-requires : tie.Need-table-fits-requires
-table-fits-requires c κs = let n = c .before .before .before .before .before .args .n in omega (arith, dimension-least n (passed (c .before .is-dimension .ensures) (c .if1 .left)))
+table-fits-requires c κs = tt
 
 refused-requires-2 : tie.Need-refused-requires-2
 refused-requires-2 c κs = tt
