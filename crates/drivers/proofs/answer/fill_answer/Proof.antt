@@ -1,0 +1,103 @@
+-- `drivers::answer::fill_answer` meets its contract. Assumes nothing.
+use mathlib.Core.Path.{_≡_, refl, sym, ap, _∙_}
+use mathlib.Core.Bool.{Bool, true, false, not}
+use mathlib.Core.List.{List, _++_}
+use Prim.Native.Nat.{ℕ, _≤_}
+use native.Mathlib.Omega.{arith}
+use borrow.Author.Needs.{needs}
+use borrow.Author.Tests.{eq-eqb, ne-eqb}
+use lib.Dec.{eqb}
+use lib.ListN.{length, take, drop, getD, length-append, length-drop}
+use lib.Seq.{length-take-le}
+use lib.Ieee.{Float}
+use Rattle.numbers.specs.Pick.{pick, hit, skip}
+use Rattle.numbers.specs.ArrLaws.{length-tab}
+use Rattle.drivers.specs.Record.{halfAt, numbersAt, fronted}
+use Rattle.drivers.specs.Answer.{has-point, answerOf}
+use Rattle.drivers.specs.declared.answer.Answer.{Answer}
+use Rattle.drivers.proofs.answer.fill_answer.Statement.{statement}
+use Rattle.drivers.proofs.answer.fill_answer.Tie as tie
+
+module _ (n : ℕ) (bytes places : List ℕ) (point : List Float) (h : ℕ) (e : h ≡ halfAt bytes (getD places 10 0)) where
+  none : getD places 11 0 ≡ 0 → (record { found = false; steps = h }, point) ≡ answerOf n bytes places point
+  unfolding answerOf
+  none z =
+      let p : has-point places ≡ false = ap not (eq-eqb (getD places 11 0) 0 z) in
+      ap (λ (k : ℕ). (record { found = false; steps = k }, point)) e
+      ∙ (λ i. (record { found = sym p i; steps = halfAt bytes (getD places 10 0) }, skip (has-point places) (fronted (numbersAt bytes (getD places 11 0) n) point) point point p refl i))
+
+  -- the part xs has been filled
+  found : (getD places 11 0 ≡ 0 → ⊥) → (xs : List Float) → xs ≡ numbersAt bytes (getD places 11 0) (length (take n point)) → n ≤ length point
+      → (record { found = true; steps = h }, xs ++ drop n point) ≡ answerOf n bytes places point
+  unfolding answerOf
+  found z xs q l =
+      let p : has-point places ≡ true = ap not (ne-eqb (getD places 11 0) 0 z) in
+      let w : length (take n point) ≡ n = length-take-le n point l in
+      let y : xs ≡ numbersAt bytes (getD places 11 0) n = q ∙ ap (numbersAt bytes (getD places 11 0)) w in
+      let m : length (numbersAt bytes (getD places 11 0) n) ≡ n = length-tab _ n in
+      ap (λ (k : ℕ). (record { found = true; steps = k }, xs ++ drop n point)) e
+      ∙ (λ i. (
+        record { found = sym p i; steps = halfAt bytes (getD places 10 0) },
+        hit (has-point places) (fronted (numbersAt bytes (getD places 11 0) n) point) point (xs ++ drop n point) p (ap (λ (l : List Float). l ++ drop n point) y ∙ ap (λ (k : ℕ). numbersAt bytes (getD places 11 0) n ++ drop k point) (sym m)) i,
+      ))
+
+-- a front that was lent and came back
+rejoined : (n : ℕ) (xs point : List Float) → length xs ≡ length (take n point) → n ≤ length point → length (xs ++ drop n point) ≡ length point
+rejoined n xs point e l = length-append xs (drop n point) ∙ omega (arith, e, length-take-le n point l, length-drop n point)
+
+-- a point that is there has room
+roomy : (places : List ℕ) {n : ℕ} {l : ℕ} → (has-point places ≡ true → n ≤ l) → (getD places 11 0 ≡ 0 → ⊥) → n ≤ l
+roomy places h z = h (ap not (ne-eqb (getD places 11 0) 0 z))
+
+element-copy-out-half-at : tie.Need-element-copy-out-half-at
+element-copy-out-half-at c = search needs
+
+half-at-requires : tie.Need-half-at-requires
+half-at-requires c κs = tt
+
+cast-steps : tie.Need-cast-steps
+cast-steps c = record { fits = omega (arith, c .half-at .ensures) }
+
+element-copy-out-if1 : tie.Need-element-copy-out-if1
+element-copy-out-if1 c = search needs
+
+returns : tie.Need-returns
+returns c =
+    let a = c .before .before .before .before .before .before .args in
+    none (a .n) (a .bytes .now) (a .places .now) (a .point .now) _ (c .before .before .half-at .ensures) (c .if1 .taken)
+
+element-copy-out-numbers-into : tie.Need-element-copy-out-numbers-into
+element-copy-out-numbers-into c = search needs
+
+slice-relend-prefix-numbers-into : tie.Need-slice-relend-prefix-numbers-into
+slice-relend-prefix-numbers-into c = let s = c .before .before .before .before .before .before .before in roomy (s .args .places .now) (s .pre .1) (c .before .if1 .left)
+
+slice-aggregate-numbers-into : tie.Need-slice-aggregate-numbers-into
+slice-aggregate-numbers-into c =
+    let s = c .before .before .before .before .before .before .before .before in
+    sym (length-take-le (s .args .n) (s .args .point .now) (roomy (s .args .places .now) (s .pre .1) (c .before .before .if1 .left)))
+
+numbers-into-requires : tie.Need-numbers-into-requires
+numbers-into-requires c κs =
+    let s = c .before .before .before .before .before .before .before .before in
+    omega (arith, s .pre .0, length-take-le (s .args .n) (s .args .point .now) (roomy (s .args .places .now) (s .pre .1) (c .before .before .if1 .left)))
+
+same-length : tie.Need-same-length
+same-length c =
+    let s = c .before .before .before .before .before .before .before .before .before .before .before in
+    let l = roomy (s .args .places .now) (s .pre .1) (c .before .before .before .before .before .if1 .left) in
+    rejoined (s .args .n) (c .before .before .numbers-into .last .1 .1 .0) (s .args .point .now) (c .before .before .numbers-into .kept .1 .1 .0) l
+
+returns-2 : tie.Need-returns-2
+returns-2 c =
+    let s = c .before .before .before .before .before .before .before .before .before .before .before in
+    let a = s .args in
+    let z = c .before .before .before .before .before .if1 .left in
+    found (a .n) (a .bytes .now) (a .places .now) (a .point .now) _ (c .before .before .before .before .before .before .before .half-at .ensures) z _ (c .before .before .numbers-into .ensures)
+    (roomy (a .places .now) (s .pre .1) z)
+
+pub fill-answer-spec : {M : Type 1} → statement M
+fill-answer-spec =
+    tie.close
+    (tie.spec element-copy-out-half-at half-at-requires cast-steps element-copy-out-if1 returns element-copy-out-numbers-into slice-relend-prefix-numbers-into
+    slice-aggregate-numbers-into numbers-into-requires same-length returns-2)

@@ -1,0 +1,59 @@
+-- `drivers::belongs::belongs` meets its contract. Assumes nothing.
+use mathlib.Core.Path.{_≡_, refl, sym, ap, _∙_}
+use borrow.Author.Needs.{needs}
+use Rattle.numbers.specs.Pick.{hit, skip}
+use Rattle.oracles.specs.LoopLaws.{says-no, says-yes}
+use Rattle.drivers.specs.Belongs.{said-by}
+use Rattle.drivers.specs.BelongsLaws.{no-dimension, no-length, belongs-said}
+use Rattle.drivers.proofs.belongs.belongs.Statement.{statement}
+use Rattle.drivers.proofs.belongs.belongs.Tie as tie
+
+is-dimension-requires : tie.Need-is-dimension-requires
+is-dimension-requires c κs = tt
+
+returns : tie.Need-returns
+returns c = let a = c .before .before .before .before .before .before .before .args in no-dimension (a .job) (a .table .now) (a .x .now) (a .answer) (a .point .now) (a .grad .now) (says-no _ _ (c .before .is-dimension .ensures) (c .if1 .taken))
+
+returns-2 : tie.Need-returns-2
+returns-2 c =
+    let a = c .before .before .before .before .before .before .before .before .args in
+    no-length (a .job) (a .table .now) (a .x .now) (a .answer) (a .point .now) (a .grad .now) (says-yes _ _ (c .before .before .is-dimension .ensures) (c .before .if1 .left)) (says-no _ _ refl (c .if2 .taken))
+
+assess-feas-requires : tie.Need-assess-feas-requires
+assess-feas-requires c κs = tt
+
+said-by-requires : tie.Need-said-by-requires
+said-by-requires c κs = tt
+
+same-length : tie.Need-same-length
+same-length c = search needs
+
+returns-3 : tie.Need-returns-3
+returns-3 c =
+    let f = c .before .before .before .assess-feas in
+    let a = c .before .before .before .before .before .before .before .before .before .before .before .before .before .before .args in
+    let t = c .before .before .before .before .before .if3 .taken in
+    belongs-said (a .job) (a .table .now) (a .x .now) (a .answer) (a .point .now) (a .grad .now) (says-yes _ _ (c .before .before .before .before .before .before .before .before .is-dimension .ensures) (c .before .before .before .before .before .before .before .if1 .left)) (says-yes _ _ refl (c .before .before .before .before .before .before .if2 .left)) _ (hit _ _ _ _ t refl)
+    (f .result) _ (f .ensures .0) _ (c .said-by .ensures ∙ ap (said-by (f .result .verdict)) (sym t))
+
+assess-feas-requires-2 : tie.Need-assess-feas-requires-2
+assess-feas-requires-2 c κs = tt
+
+said-by-requires-2 : tie.Need-said-by-requires-2
+said-by-requires-2 c κs = tt
+
+same-length-2 : tie.Need-same-length-2
+same-length-2 c = search needs
+
+returns-4 : tie.Need-returns-4
+returns-4 c =
+    let f = c .before .before .before .assess-feas2 in
+    let a = c .before .before .before .before .before .before .before .before .before .before .before .before .before .before .args in
+    let t = c .before .before .before .before .before .if3 .left in
+    belongs-said (a .job) (a .table .now) (a .x .now) (a .answer) (a .point .now) (a .grad .now) (says-yes _ _ (c .before .before .before .before .before .before .before .before .is-dimension .ensures) (c .before .before .before .before .before .before .before .if1 .left)) (says-yes _ _ refl (c .before .before .before .before .before .before .if2 .left)) _ (skip _ _ _ _ t refl)
+    (f .result) _ (f .ensures .0) _ (c .said-by2 .ensures ∙ ap (said-by (f .result .verdict)) (sym t))
+
+pub belongs-spec : {M : Type 1} → statement M
+belongs-spec =
+    tie.close
+    (tie.spec is-dimension-requires returns returns-2 assess-feas-requires said-by-requires same-length returns-3 assess-feas-requires-2 said-by-requires-2 same-length-2 returns-4)

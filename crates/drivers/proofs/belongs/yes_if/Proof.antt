@@ -1,0 +1,14 @@
+-- `drivers::belongs::yes_if` meets its contract. Assumes nothing.
+use mathlib.Core.Path.{refl}
+use Rattle.numbers.specs.Pick.{hit, skip}
+use Rattle.drivers.proofs.belongs.yes_if.Statement.{statement}
+use Rattle.drivers.proofs.belongs.yes_if.Tie as tie
+
+returns : tie.Need-returns
+returns c = hit _ _ _ _ (c .if1 .taken) refl
+
+returns-2 : tie.Need-returns-2
+returns-2 c = skip _ _ _ _ (c .if1 .left) refl
+
+pub yes-if-spec : {M : Type 1} → statement M
+yes-if-spec = tie.close (tie.spec returns returns-2)

@@ -1,0 +1,4 @@
+mod Answers
+mod Checks
+mod Runs
+mod Steps

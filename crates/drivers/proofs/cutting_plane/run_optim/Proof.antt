@@ -1,0 +1,146 @@
+-- `drivers::cutting_plane::run_optim` meets its contract. The invariant: the steps that are left compute the answer. Assumes nothing.
+use mathlib.Core.Path.{_≡_, refl, sym, ap, _∙_}
+use mathlib.Core.Bool.{Bool, false}
+use mathlib.Core.List.{List}
+use Prim.Native.Nat.{_≤_, _-_}
+use native.Mathlib.Omega.{arith}
+use lib.ListN.{length}
+use lib.Ieee.{Float}
+use Rattle.oracles.specs.LoopLaws.{says-no, says-yes}
+use Rattle.oracles.specs.declared.ell.Ell.{Ell}
+use Rattle.oracles.specs.declared.lowpass_oracle.LowpassOracle.{LowpassOracle}
+use Rattle.drivers.specs.CuttingPlane.{OptimSpace, leaves, optim-left, optim-run}
+use Rattle.drivers.specs.declared.cutting_plane.OptimAnswer.{OptimAnswer}
+use Rattle.drivers.proofs.cutting_plane.Runs.{all-left, optim-more, optim-ends, optim-out}
+use Rattle.drivers.proofs.cutting_plane.run_optim.Statement.{statement}
+use Rattle.drivers.proofs.cutting_plane.run_optim.Tie as tie
+
+-- the space of the slices and the state
+abbrev at-hand : LowpassOracle → Ell → Float → Bool → List Float → List Float → List Float → List Float → List Float → OptimSpace
+at-hand o e gamma found mq xc grad grad-t best = record { oracle = o; ell = e; buffers = record { mq = mq; xc = xc; grad-t = grad-t }; grad = grad; gamma = gamma; found = found; best = best }
+
+abbrev Inv-loop : tie.InvT-loop
+Inv-loop gamma options rows table mq₀ xc₀ grad₀ grad-t₀ x-best₀ omega₀ space₀ offer₀ found₀ niter₀ mq xc grad grad-t x-best omega space offer found niter =
+    (niter ≤ options .«max_iters»)
+    × (optim-run rows table (options .tolerance) (options .«max_iters» - niter) niter (at-hand omega space offer found mq xc grad grad-t x-best)
+    ≡ optim-run rows table (options .tolerance) (options .«max_iters») 0 (at-hand omega₀ space₀ offer₀ found₀ mq₀ xc₀ grad₀ grad-t₀ x-best₀))
+    × (length mq ≡ length mq₀) × (length xc ≡ length xc₀) × (length grad ≡ length grad₀) × (length grad-t ≡ length grad-t₀) × (length x-best ≡ length x-best₀)
+
+abbrev μ-loop : tie.MeasureT-loop
+μ-loop gamma options rows table mq₀ xc₀ grad₀ grad-t₀ x-best₀ omega₀ space₀ offer₀ found₀ niter₀ mq xc grad grad-t x-best omega space offer found niter = options .«max_iters» - niter
+
+loop-holds : tie.Need-loop-holds Inv-loop μ-loop
+loop-holds c =
+    let a = c .before .before .before .before .before .before .args in (
+      omega arith,
+      all-left (λ m. optim-run (a .rows) (a .table .now) (a .options .tolerance) m 0 (at-hand (a .oracle) (a .ell) (a .gamma) false (a .mq .now) (a .xc .now) (a .grad .now) (a .grad-t .now) (a .x-best .now))) (a .options .«max_iters»),
+      refl,
+      refl,
+      refl,
+      refl,
+      refl,
+    )
+
+optim-step-requires : tie.Need-optim-step-requires Inv-loop μ-loop
+optim-step-requires c κs = tt
+
+optim-goes-on-requires : tie.Need-optim-goes-on-requires Inv-loop μ-loop
+optim-goes-on-requires c κs = tt
+
+optim-ended-requires : tie.Need-optim-ended-requires Inv-loop μ-loop
+optim-ended-requires c κs = tt
+
+same-length : tie.Need-same-length Inv-loop μ-loop
+same-length c = c .before .before .before .before .before .before .before .before .before .before .before .before .before .before .before .optim-step .kept .1 .1 .1 .1 .1 .1 .0 ∙ c .before .before .before .before .before .before .before .before .before .before .before .before .before .before .before .before .before .before .before .before .before .before .before .loop .inv .2
+
+same-length-2 : tie.Need-same-length-2 Inv-loop μ-loop
+same-length-2 c = c .before .before .before .before .before .before .before .before .before .before .before .before .before .before .before .optim-step .kept .1 .1 .1 .1 .1 .1 .1 .0 ∙ c .before .before .before .before .before .before .before .before .before .before .before .before .before .before .before .before .before .before .before .before .before .before .before .loop .inv .3
+
+same-length-3 : tie.Need-same-length-3 Inv-loop μ-loop
+same-length-3 c = c .before .before .before .before .before .before .before .before .before .before .before .before .before .before .before .optim-step .kept .1 .1 .1 .1 .1 .1 .1 .1 .0 ∙ c .before .before .before .before .before .before .before .before .before .before .before .before .before .before .before .before .before .before .before .before .before .before .before .loop .inv .4
+
+same-length-4 : tie.Need-same-length-4 Inv-loop μ-loop
+same-length-4 c = c .before .before .before .before .before .before .before .before .before .before .before .before .before .before .before .optim-step .kept .1 .1 .1 .1 .1 .1 .1 .1 .1 .0 ∙ c .before .before .before .before .before .before .before .before .before .before .before .before .before .before .before .before .before .before .before .before .before .before .before .loop .inv .5
+
+same-length-5 : tie.Need-same-length-5 Inv-loop μ-loop
+same-length-5 c = c .before .before .before .before .before .before .before .before .before .before .before .before .before .before .before .optim-step .kept .1 .1 .1 .1 .1 .1 .1 .1 .1 .1 .0 ∙ c .before .before .before .before .before .before .before .before .before .before .before .before .before .before .before .before .before .before .before .before .before .before .before .loop .inv .6
+
+returns : tie.Need-returns Inv-loop μ-loop
+returns c =
+    let l = c .before .before .before .before .before .before .before .before .before .before .before .before .before .before .before .before .before .before .before .before .before .before .before .loop in
+    let a = c .before .before .before .before .before .before .before .before .before .before .before .before .before .before .before .before .before .before .before .before .before .before .before .before .before .before .before .before .before .before .args in
+    let f = c .before .before .before .before .before .before .before .before .before .before .before .before .before .before .before .optim-step in
+    optim-ends (a .rows) (a .table .now) (a .options .tolerance) (a .options .«max_iters») (l .niter) (at-hand (l .omega) (l .space) (l .offer) (l .found) (l .mq) (l .xc) (l .grad) (l .grad-t) (l .x-best)) _ _
+    (c .before .before .before .before .before .before .before .before .before .before .before .before .before .before .before .before .before .before .before .before .before .if1 .taken) (f .ensures) (says-no _ _ (c .before .before .optim-goes-on .ensures) (c .before .if2 .taken)) _ (c .optim-ended .ensures)
+    ∙ l .inv .1
+
+add-niter : tie.Need-add-niter Inv-loop μ-loop
+add-niter c = record { fits = omega (arith, c .before .before .before .before .before .before .before .before .before .before .before .before .before .before .before .before .before .before .before .before .if1 .taken, c .before .before .before .before .before .before .before .before .before .before .before .before .before .before .before .before .before .before .before .before .before .before .loop .inv .0) }
+
+loop-less : tie.Need-loop-less Inv-loop μ-loop
+loop-less c = omega (arith, c .before .before .before .before .before .before .before .before .before .before .before .before .before .before .before .before .before .before .before .before .if1 .taken)
+
+loop-again : tie.Need-loop-again Inv-loop μ-loop
+loop-again c =
+    let l = c .before .before .before .before .before .before .before .before .before .before .before .before .before .before .before .before .before .before .before .before .before .before .loop in
+    let a = c .before .before .before .before .before .before .before .before .before .before .before .before .before .before .before .before .before .before .before .before .before .before .before .before .before .before .before .before .before .args in
+    let f = c .before .before .before .before .before .before .before .before .before .before .before .before .before .before .optim-step in
+    let t = c .before .before .before .before .before .before .before .before .before .before .before .before .before .before .before .before .before .before .before .before .if1 .taken in (
+      omega (arith, t),
+      sym (optim-more (a .rows) (a .table .now) (a .options .tolerance) (a .options .«max_iters») (l .niter) (at-hand (l .omega) (l .space) (l .offer) (l .found) (l .mq) (l .xc) (l .grad) (l .grad-t) (l .x-best)) _ _
+          t (f .ensures) (says-yes _ _ (c .before .optim-goes-on .ensures) (c .if2 .left)))
+          ∙ l .inv .1,
+      f .kept .1 .1 .1 .1 .1 .1 .0 ∙ l .inv .2,
+      f .kept .1 .1 .1 .1 .1 .1 .1 .0 ∙ l .inv .3,
+      f .kept .1 .1 .1 .1 .1 .1 .1 .1 .0 ∙ l .inv .4,
+      f .kept .1 .1 .1 .1 .1 .1 .1 .1 .1 .0 ∙ l .inv .5,
+      f .kept .1 .1 .1 .1 .1 .1 .1 .1 .1 .1 .0 ∙ l .inv .6,
+    )
+
+same-length-6 : tie.Need-same-length-6 Inv-loop μ-loop
+same-length-6 c = c .before .before .loop .inv .2
+
+same-length-7 : tie.Need-same-length-7 Inv-loop μ-loop
+same-length-7 c = c .before .before .loop .inv .3
+
+same-length-8 : tie.Need-same-length-8 Inv-loop μ-loop
+same-length-8 c = c .before .before .loop .inv .4
+
+same-length-9 : tie.Need-same-length-9 Inv-loop μ-loop
+same-length-9 c = c .before .before .loop .inv .5
+
+same-length-10 : tie.Need-same-length-10 Inv-loop μ-loop
+same-length-10 c = c .before .before .loop .inv .6
+
+returns-2 : tie.Need-returns-2 Inv-loop μ-loop
+returns-2 c =
+    let l = c .before .before .loop in
+    let a = c .before .before .before .before .before .before .before .before .before .args in
+    sym (optim-out (a .rows) (a .table .now) (a .options .tolerance) (a .options .«max_iters») (l .niter) (at-hand (l .omega) (l .space) (l .offer) (l .found) (l .mq) (l .xc) (l .grad) (l .grad-t) (l .x-best)) (c .if1 .left))
+    ∙ l .inv .1
+
+pub run-optim-spec : {M : Type 1} → statement M
+run-optim-spec =
+    tie.close
+    (tie.spec
+    Inv-loop
+    μ-loop
+    loop-holds
+    optim-step-requires
+    optim-goes-on-requires
+    optim-ended-requires
+    same-length
+    same-length-2
+    same-length-3
+    same-length-4
+    same-length-5
+    returns
+    add-niter
+    loop-less
+    loop-again
+    same-length-6
+    same-length-7
+    same-length-8
+    same-length-9
+    same-length-10
+    returns-2)

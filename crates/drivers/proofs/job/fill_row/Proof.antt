@@ -1,0 +1,89 @@
+-- `drivers::job::fill_row` meets its contract. Assumes nothing.
+use mathlib.Core.Path.{_≡_, refl, sym, ap}
+use mathlib.Core.Bool.{Bool, false, not}
+use mathlib.Core.List.{List, append-assoc}
+use Prim.Native.Nat.{ℕ, _≤_, _+_, _-_, _*_}
+use native.Mathlib.Omega.{arith}
+use borrow.Rule.Slice.PartMut.{putMid}
+use lib.ListN.{length, take, drop, length-drop}
+use lib.Seq.{length-take-le, drop-drop}
+use lib.Ieee.{Float}
+use Rattle.numbers.specs.Pick.{hit, skip}
+use Rattle.oracles.specs.LoopLaws.{says-no, says-yes, is-hit}
+use Rattle.drivers.specs.Record.{contentOf, numbersAt, is-row, rows-in, row-filled}
+use borrow.Author.Needs.{needs}
+use Rattle.drivers.proofs.job.fill_row.Statement.{statement}
+use Rattle.drivers.proofs.job.fill_row.Tie as tie
+
+module _ (bytes : List ℕ) (at n k : ℕ) (t : Bool) (e : t ≡ is-row bytes at) (y : not t ≡ false) where
+  -- the row's place is in the table
+  room : (l : ℕ) → k + rows-in bytes at * n ≤ l → k + n ≤ l
+  room l h =
+      let o : rows-in bytes at ≡ 1 = is-hit _ _ _ (says-yes t (is-row bytes at) e y) in
+      go (rows-in bytes at) o h
+    where
+      go : (r : ℕ) → r ≡ 1 → k + r * n ≤ l → k + n ≤ l
+      go r o h = let h′ : k + 1 * n ≤ l = rw o at h in omega arith
+
+  filled : (p : ℕ) (table ys : List Float) → p ≡ contentOf bytes at → ys ≡ numbersAt bytes p (length (take (k + n - k) (drop k table)))
+      → k + rows-in bytes at * n ≤ length table → (k + n, putMid k (k + n - k) table ys) ≡ row-filled bytes at n k table
+  unfolding row-filled
+  filled p table ys a d h =
+      hit _ _ _ _ (says-yes t (is-row bytes at) e y)
+      (ap (λ (z : List Float). (k + n, z))
+      (rw (d, a, m, length-take-le n (drop k table) (rw (length-drop k table) (omega (arith, room (length table) h))), drop-drop n k table)
+      (sym (append-assoc (take k table) (numbersAt bytes (contentOf bytes at) n) (drop (k + n) table)))))
+    where
+      m : k + n - k ≡ n
+      m = omega arith
+
+is-row-requires : tie.Need-is-row-requires
+is-row-requires c κs = search needs
+
+returns : tie.Need-returns
+unfolding row-filled
+returns c = skip _ _ _ _ (says-no _ _ (c .before .is-row .ensures) (c .if1 .taken)) refl
+
+add-end : tie.Need-add-end
+add-end c = search needs
+
+content-at-requires : tie.Need-content-at-requires
+content-at-requires c κs = search needs
+
+mul-numbers-into : tie.Need-mul-numbers-into
+mul-numbers-into c = search needs
+
+sub-numbers-into : tie.Need-sub-numbers-into
+sub-numbers-into c = search needs
+
+part-numbers-into-start : tie.Need-part-numbers-into-start
+part-numbers-into-start c = search needs
+
+part-numbers-into-end : tie.Need-part-numbers-into-end
+part-numbers-into-end c =
+    let test1 = c .before in
+    let ir = test1 .before in
+    let s = ir .before .before .before in
+    let h = room _ _ (s .args .n) (s .args .k) _ (ir .is-row .ensures) (test1 .if1 .left) _ (s .pre .2) in
+    search needs
+
+numbers-into-requires : tie.Need-numbers-into-requires
+numbers-into-requires c κs = search needs
+
+same-length : tie.Need-same-length
+same-length c = search needs
+
+returns-2 : tie.Need-returns-2
+returns-2 c =
+    let ni = c .before .before in
+    let ca = ni .before .before in
+    let test1 = ca .before in
+    let ir = test1 .before in
+    let s = ir .before .before .before in
+    filled _ _ _ _ _ (ir .is-row .ensures) (test1 .if1 .left) _ _ _ (ca .content-at .ensures) (ni .numbers-into .ensures) (s .pre .2)
+
+pub fill-row-spec : {M : Type 1} → statement M
+fill-row-spec =
+    tie.close
+    (tie.spec is-row-requires returns add-end content-at-requires mul-numbers-into sub-numbers-into part-numbers-into-start
+    part-numbers-into-end numbers-into-requires same-length returns-2)

@@ -1,0 +1,72 @@
+-- `drivers::job::job_options` meets its contract. Assumes nothing.
+use mathlib.Core.Path.{_≡_, _∙_}
+use mathlib.Core.List.{List}
+use Prim.Native.Nat.{ℕ, _<_, _≤_, _-_, _%_}
+use native.Mathlib.Omega.{arith}
+use lib.ListN.{length, take, drop, length-drop}
+use lib.Seq.{take-all}
+use lib.Ieee.{Float}
+use Rattle.numbers.specs.Bits.{floatOf, wordAt}
+use Rattle.numbers.specs.BitsLaws.{word-past}
+use Rattle.drivers.specs.Job.{optionsOf}
+use Rattle.drivers.specs.declared.cutting_plane.Options.{Options}
+use borrow.Author.Needs.{needs}
+use Rattle.drivers.proofs.job.job_options.Statement.{statement}
+use Rattle.drivers.proofs.job.job_options.Tie as tie
+
+module _ (bytes : List ℕ) (p : ℕ) (o : Options) where
+  past : length bytes < p → o ≡ record { «max_iters» = 0; tolerance = floatOf 0 } → o ≡ optionsOf bytes p
+  unfolding optionsOf
+  past h e =
+      let l : length (drop p bytes) ≤ 0 = rw (length-drop p bytes) (omega arith) in
+      e ∙ rw (← word-past (drop p bytes) 0 l, ← word-past (drop p bytes) 2 (omega arith))
+
+  read : (w v : ℕ) (x : Float) → w ≡ wordAt (take (length bytes - p) (drop p bytes)) 0 → v ≡ wordAt (take (length bytes - p) (drop p bytes)) 2 → x ≡ floatOf v
+      → o ≡ record { «max_iters» = w % 65536; tolerance = x } → o ≡ optionsOf bytes p
+  unfolding optionsOf
+  read w v x a b d e =
+      let t : take (length bytes - p) (drop p bytes) ≡ drop p bytes = take-all (length bytes - p) (drop p bytes) (rw (length-drop p bytes) (omega arith)) in
+      e ∙ rw (d, a, b, t)
+
+new-requires : tie.Need-new-requires
+new-requires c κs = search needs
+
+returns : tie.Need-returns
+returns c = past _ _ _ (c .before .if1 .taken) (c .new .ensures)
+
+sub-content : tie.Need-sub-content
+sub-content c = search needs
+
+part-content-start : tie.Need-part-content-start
+part-content-start c = search needs
+
+part-content-end : tie.Need-part-content-end
+part-content-end c = search needs
+
+word-at-requires : tie.Need-word-at-requires
+word-at-requires c κs = search needs
+
+cast-new : tie.Need-cast-new
+cast-new c = search needs
+
+word-at-requires-2 : tie.Need-word-at-requires-2
+word-at-requires-2 c κs = search needs
+
+of-bits-requires : tie.Need-of-bits-requires
+of-bits-requires c κs = search needs
+
+new-requires-2 : tie.Need-new-requires-2
+new-requires-2 c κs = search needs
+
+returns-2 : tie.Need-returns-2
+returns-2 c =
+    let ob = c .before in
+    let wa2 = ob .before in
+    let wa = wa2 .before in
+    read _ _ _ _ _ _ (wa .word-at .ensures) (wa2 .word-at2 .ensures) (ob .of-bits .ensures) (c .new2 .ensures)
+
+pub job-options-spec : {M : Type 1} → statement M
+job-options-spec =
+    tie.close
+    (tie.spec new-requires returns sub-content part-content-start part-content-end word-at-requires cast-new word-at-requires-2 of-bits-requires
+    new-requires-2 returns-2)

@@ -1,0 +1,28 @@
+-- `drivers::job::part` meets its contract. Assumes nothing.
+use mathlib.Core.Path.{_≡_}
+use Prim.Native.Nat.{ℕ, _/_, _%_}
+use native.Mathlib.Omega.{arith}
+use Rattle.drivers.specs.Job.{partOf}
+use Rattle.drivers.proofs.job.part.Statement.{statement}
+use Rattle.drivers.proofs.job.part.Tie as tie
+
+low : (w k : ℕ) → k ≡ 0 → w % 65536 ≡ partOf w k
+low w k e = rw e (omega arith)
+
+middle : (w k : ℕ) → k ≡ 1 → w / 65536 % 65536 ≡ partOf w k
+middle w k e = rw e
+
+high : (w k : ℕ) → k ≡ 2 → w / 4294967296 % 65536 ≡ partOf w k
+high w k e = rw e
+
+returns : tie.Need-returns
+returns c = low _ _ (c .if1 .taken)
+
+returns-2 : tie.Need-returns-2
+returns-2 c = middle _ _ (c .if2 .taken)
+
+returns-3 : tie.Need-returns-3
+returns-3 c = high _ (c .before .before .args .k) (omega arith)
+
+pub part-spec : {M : Type 1} → statement M
+part-spec = tie.close (tie.spec returns returns-2 returns-3)

@@ -1,0 +1,39 @@
+-- `drivers::job::signed` meets its contract. Assumes nothing.
+use mathlib.Core.Path.{_≡_}
+use Prim.Native.Nat.{ℕ, _<_, _≤_}
+use native.Mathlib.Omega.{arith}
+use borrow.Author.Tests.{lt-ltb, le-ltb}
+use lib.IntN.{pos, _-ℤ_}
+use mir.Syntax.{w32}
+use mir.Val.{toZ, ofZ}
+use Rattle.numbers.specs.Pick.{hit, skip}
+use Rattle.drivers.specs.Job.{signed}
+use Rattle.drivers.proofs.job.Signs.{half-fits, less-fits, reads-half, reads-less}
+use Rattle.drivers.proofs.job.signed.Statement.{statement}
+use Rattle.drivers.proofs.job.signed.Tie as tie
+
+low : (h : ℕ) → h < 65536 → h < 32768 → toZ w32 h ≡ signed h
+unfolding signed
+low h l b = hit _ _ _ _ (lt-ltb h 32768 b) (reads-half h l)
+
+high : (h : ℕ) → h < 65536 → 32768 ≤ h → toZ w32 (ofZ w32 (toZ w32 h -ℤ pos 65536)) ≡ signed h
+unfolding signed
+high h l b = skip _ _ _ _ (le-ltb h 32768 b) (reads-less h 65536 l (omega arith))
+
+cast-result : tie.Need-cast-result
+cast-result c = half-fits _ (c .before .pre)
+
+returns : tie.Need-returns
+returns c = low _ (c .before .pre) (c .if1 .taken)
+
+cast-result-2 : tie.Need-cast-result-2
+cast-result-2 c = half-fits _ (c .before .pre)
+
+sub-result : tie.Need-sub-result
+sub-result c = rw (reads-half _ (c .before .pre)) (less-fits _ 65536 (c .before .pre) (omega arith))
+
+returns-2 : tie.Need-returns-2
+returns-2 c = high _ (c .before .pre) (c .if1 .left)
+
+pub signed-spec : {M : Type 1} → statement M
+signed-spec = tie.close (tie.spec cast-result returns cast-result-2 sub-result returns-2)

@@ -1,0 +1,63 @@
+-- `drivers::record::count_rows` meets its contract: at each turn the rows so far and those that are left make the answer. Assumes nothing.
+use mathlib.Core.Path.{_≡_, ap}
+use mathlib.Core.List.{List}
+use Prim.Native.Nat.{ℕ, _<_, _≤_, _+_, _-_}
+use native.Mathlib.Omega.{arith}
+use lib.ListN.{length}
+use Rattle.oracles.specs.LoopLaws.{by-test}
+use Rattle.drivers.specs.Record.{is-row, rows-in, after, fields-of, row-count}
+use Rattle.drivers.specs.RecordLaws.{fields-after, fields-start, fields-turn, fields-end, after-past, left-less}
+use borrow.Author.Needs.{needs}
+use Rattle.drivers.proofs.record.count_rows.Statement.{statement}
+use Rattle.drivers.proofs.record.count_rows.Tie as tie
+
+one : (bytes : List ℕ) (at : ℕ) → rows-in bytes at ≤ 1
+one bytes at = by-test (λ z. z ≤ 1) (is-row bytes at) 1 0 (λ _. omega arith) (λ _. omega arith)
+
+module _ (bytes : List ℕ) (at rows all : ℕ) (left : rows + row-count bytes (fields-after bytes at) ≡ all) where
+  goes-on : (k next : ℕ) → at < length bytes → rows ≤ at → k ≡ rows-in bytes at → next ≡ after bytes at
+      → (rows + k ≤ next) × (rows + k + row-count bytes (fields-after bytes next) ≡ all)
+  unfolding row-count
+  goes-on k next h s a d =
+      let t = ap (λ (z : List ℕ). row-count bytes z) (fields-turn bytes at h) in
+      (omega (arith, one bytes at, after-past bytes at h), rw d (omega arith))
+
+  ends : length bytes ≤ at → rows ≡ all
+  unfolding row-count
+  ends h = let t = ap (λ (z : List ℕ). row-count bytes z) (fields-end bytes at h) in omega arith
+
+abbrev Inv-loop : tie.InvT-loop
+Inv-loop bytes at₀ rows₀ at rows = (rows ≤ at) × (rows + row-count bytes (fields-after bytes at) ≡ row-count bytes (fields-of bytes))
+
+abbrev μ-loop : tie.MeasureT-loop
+μ-loop bytes at₀ rows₀ at rows = length bytes - at
+
+loop-holds : tie.Need-loop-holds Inv-loop μ-loop
+loop-holds c = (search needs, rw (fields-start _) (omega arith))
+
+rows-in-requires : tie.Need-rows-in-requires Inv-loop μ-loop
+rows-in-requires c κs = search needs
+
+add-rows : tie.Need-add-rows Inv-loop μ-loop
+add-rows c = let k : c .rows-in .result ≤ 1 = rw (c .rows-in .ensures) (one _ _) in record { fits = omega arith }
+
+next-field-requires : tie.Need-next-field-requires Inv-loop μ-loop
+next-field-requires c κs = search needs
+
+loop-less : tie.Need-loop-less Inv-loop μ-loop
+loop-less c = left-less _ _ _ (c .next-field .ensures) (c .before .before .loop-test .taken)
+
+loop-again : tie.Need-loop-again Inv-loop μ-loop
+loop-again c =
+    let ri = c .before in
+    let in-loop = ri .before in
+    let l = in-loop .before in
+    goes-on _ _ _ _ (l .loop .inv .1) _ _ (in-loop .loop-test .taken) (l .loop .inv .0) (ri .rows-in .ensures) (c .next-field .ensures)
+
+returns : tie.Need-returns Inv-loop μ-loop
+returns c = ends _ _ _ _ (c .before .loop .inv .1) (c .loop-test .left)
+
+pub count-rows-spec : {M : Type 1} → statement M
+count-rows-spec =
+    tie.close
+    (tie.spec Inv-loop μ-loop loop-holds rows-in-requires add-rows next-field-requires loop-less loop-again returns)

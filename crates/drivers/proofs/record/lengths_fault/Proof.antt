@@ -1,0 +1,96 @@
+-- `drivers::record::lengths_fault` meets its contract: at each turn what is left computes the answer. Assumes nothing.
+use mathlib.Core.Path.{_≡_, sym, ap, _∙_}
+use mathlib.Core.Bool.{not}
+use mathlib.Core.List.{List}
+use Prim.Native.Nat.{ℕ, _<_, _≤_, _-_}
+use borrow.Author.Tests.{eq-eqb, ne-eqb}
+use lib.ListN.{length}
+use Rattle.numbers.specs.declared.refusal.Refusal.the-variants.{Length}
+use Rattle.oracles.specs.LoopLaws.{is-hit, is-skip}
+use Rattle.drivers.specs.Record.{indexOf, indexAt, lengthAt, ruleLength, after, fields-of, lengths-fault}
+use Rattle.drivers.specs.RecordLaws.{fields-after, fields-start, fields-turn, fields-end, left-less}
+use Rattle.drivers.specs.declared.record.Fault.{Fault}
+use Rattle.drivers.specs.declared.record.Fault.the-variants.{Sound, At}
+use borrow.Author.Needs.{needs}
+use Rattle.drivers.proofs.record.lengths_fault.Statement.{statement}
+use Rattle.drivers.proofs.record.lengths_fault.Tie as tie
+
+module _ (bytes : List ℕ) (n at : ℕ) (w : Fault) (left : lengths-fault n bytes (fields-after bytes at) ≡ w) where
+  module _ (h : at < length bytes) (l r : ℕ) (a : l ≡ lengthAt bytes at) (b : r ≡ ruleLength (indexAt bytes at) n) where
+    stops : (l ≡ r → ⊥) → At Length at ≡ w
+    unfolding lengths-fault
+    stops t =
+        sym (is-hit _ _ _ (rw (← a, ← b) (ap not (ne-eqb l r t)))) ∙ sym (ap (λ (z : List ℕ). lengths-fault n bytes z) (fields-turn bytes at h)) ∙ left
+
+    goes-on : l ≡ r → (next : ℕ) → next ≡ after bytes at → lengths-fault n bytes (fields-after bytes next) ≡ w
+    unfolding lengths-fault
+    goes-on t next d =
+        rw d
+        (sym (is-skip _ _ _ (rw (← a, ← b) (ap not (eq-eqb l r t)))) ∙ sym (ap (λ (z : List ℕ). lengths-fault n bytes z) (fields-turn bytes at h)) ∙ left)
+
+  ends : length bytes ≤ at → Sound ≡ w
+  unfolding lengths-fault
+  ends h = sym (ap (λ (z : List ℕ). lengths-fault n bytes z) (fields-end bytes at h)) ∙ left
+
+abbrev Inv-loop : tie.InvT-loop
+Inv-loop bytes n at₀ at = lengths-fault n bytes (fields-after bytes at) ≡ lengths-fault n bytes (fields-of bytes)
+
+abbrev μ-loop : tie.MeasureT-loop
+μ-loop bytes n at₀ at = length bytes - at
+
+loop-holds : tie.Need-loop-holds Inv-loop μ-loop
+loop-holds c = rw (fields-start _)
+
+tag-at-requires : tie.Need-tag-at-requires Inv-loop μ-loop
+tag-at-requires c κs = search needs
+
+rule-index-requires : tie.Need-rule-index-requires Inv-loop μ-loop
+rule-index-requires c κs = search needs
+
+length-at-requires : tie.Need-length-at-requires Inv-loop μ-loop
+length-at-requires c κs = search needs
+
+rule-length-requires : tie.Need-rule-length-requires Inv-loop μ-loop
+rule-length-requires c κs = search needs
+
+returns : tie.Need-returns Inv-loop μ-loop
+returns c =
+    let rl = c .before in
+    let la = rl .before in
+    let ri = la .before in
+    let ta = ri .before in
+    let in-loop = ta .before in
+    let l = in-loop .before in
+    let s = l .before .before in
+    let i = ri .rule-index .ensures ∙ ap indexOf (ta .tag-at .ensures) in
+    stops _ _ _ _ (l .loop .inv) (in-loop .loop-test .taken) _ _ (la .length-at .ensures) (rl .rule-length .ensures ∙ ap (λ (z : ℕ). ruleLength z (s .args .n)) i) (c .if1 .taken)
+
+next-field-requires : tie.Need-next-field-requires Inv-loop μ-loop
+next-field-requires c κs = search needs
+
+loop-less : tie.Need-loop-less Inv-loop μ-loop
+loop-less c =
+    let in-loop = c .before .before .before .before .before .before in
+    left-less _ _ _ (c .next-field .ensures) (in-loop .loop-test .taken)
+
+loop-again : tie.Need-loop-again Inv-loop μ-loop
+loop-again c =
+    let test1 = c .before in
+    let rl = test1 .before in
+    let la = rl .before in
+    let ri = la .before in
+    let ta = ri .before in
+    let in-loop = ta .before in
+    let l = in-loop .before in
+    let s = l .before .before in
+    let i = ri .rule-index .ensures ∙ ap indexOf (ta .tag-at .ensures) in
+    goes-on _ _ _ _ (l .loop .inv) (in-loop .loop-test .taken) _ _ (la .length-at .ensures) (rl .rule-length .ensures ∙ ap (λ (z : ℕ). ruleLength z (s .args .n)) i) (test1 .if1 .left) _ (c .next-field .ensures)
+
+returns-2 : tie.Need-returns-2 Inv-loop μ-loop
+returns-2 c = ends _ _ _ _ (c .before .loop .inv) (c .loop-test .left)
+
+pub lengths-fault-spec : {M : Type 1} → statement M
+lengths-fault-spec =
+    tie.close
+    (tie.spec Inv-loop μ-loop loop-holds tag-at-requires rule-index-requires length-at-requires rule-length-requires returns next-field-requires
+    loop-less loop-again returns-2)

@@ -1,0 +1,41 @@
+-- `drivers::record::next_field` meets its contract. Assumes nothing.
+use mathlib.Core.Path.{_≡_, refl}
+use mathlib.Core.List.{List}
+use Prim.Native.Nat.{ℕ, _<_, _≤_, _+_, _-_}
+use borrow.Author.Tests.{lt-ltb, le-ltb}
+use lib.ListN.{length}
+use Rattle.numbers.specs.Pick.{hit, skip}
+use Rattle.drivers.specs.Record.{lengthAt, after}
+use borrow.Author.Needs.{needs}
+use Rattle.drivers.proofs.record.next_field.Statement.{statement}
+use Rattle.drivers.proofs.record.next_field.Tie as tie
+
+cut : (bytes : List ℕ) (at l : ℕ) → l ≡ lengthAt bytes at → length bytes - at < 3 + l → length bytes ≡ after bytes at
+unfolding after
+cut bytes at l e h = hit _ _ _ _ (lt-ltb _ _ (rw e at h)) refl
+
+whole : (bytes : List ℕ) (at l : ℕ) → l ≡ lengthAt bytes at → 3 + l ≤ length bytes - at → at + (3 + l) ≡ after bytes at
+unfolding after
+whole bytes at l e h = skip _ _ _ _ (le-ltb _ _ (rw e at h)) (rw e)
+
+length-at-requires : tie.Need-length-at-requires
+length-at-requires c κs = search needs
+
+add-whole : tie.Need-add-whole
+add-whole c = search needs
+
+sub-if1 : tie.Need-sub-if1
+sub-if1 c = search needs
+
+returns : tie.Need-returns
+returns c = cut _ _ _ (c .before .length-at .ensures) (c .if1 .taken)
+
+add-result : tie.Need-add-result
+add-result c = search needs
+
+returns-2 : tie.Need-returns-2
+returns-2 c = whole _ _ _ (c .before .length-at .ensures) (c .if1 .left)
+
+pub next-field-spec : {M : Type 1} → statement M
+next-field-spec =
+    tie.close (tie.spec length-at-requires add-whole sub-if1 returns add-result returns-2)

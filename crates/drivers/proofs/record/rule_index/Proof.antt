@@ -1,0 +1,49 @@
+-- `drivers::record::rule_index` meets its contract. The invariant: the tag is not among the first i rules. Assumes nothing.
+use mathlib.Core.Path.{_≡_}
+use Prim.Native.Nat.{_≤_, _+_, _-_}
+use lib.ListN.{drop}
+use Rattle.drivers.specs.Record.{rules, indexIn, indexOf}
+use Rattle.drivers.specs.RecordLaws.{index-start, index-found, index-turn, index-end}
+use borrow.Author.Needs.{needs}
+use Rattle.drivers.proofs.record.rule_index.Statement.{statement}
+use Rattle.drivers.proofs.record.rule_index.Tie as tie
+
+abbrev Inv-loop : tie.InvT-loop
+Inv-loop tag i₀ i = (i ≤ 12) × (indexOf tag ≡ i + indexIn (drop i rules) tag)
+
+abbrev μ-loop : tie.MeasureT-loop
+μ-loop tag i₀ i = 12 - i
+
+loop-holds : tie.Need-loop-holds Inv-loop μ-loop
+loop-holds c = (search needs, index-start _)
+
+rule-at-requires : tie.Need-rule-at-requires Inv-loop μ-loop
+rule-at-requires c κs = search needs
+
+returns : tie.Need-returns Inv-loop μ-loop
+returns c =
+    let ra = c .before .before in
+    let l2 = ra .before .before in
+    let l = l2 .loop in
+    index-found _ _ _ (ra .rule-at .ensures) (search needs) (c .if1 .taken) (l .inv .1)
+
+add-i : tie.Need-add-i Inv-loop μ-loop
+add-i c = search needs
+
+loop-less : tie.Need-loop-less Inv-loop μ-loop
+loop-less c = search needs
+
+loop-again : tie.Need-loop-again Inv-loop μ-loop
+loop-again c =
+    let ra = c .before .before in
+    let l2 = ra .before .before in
+    let l = l2 .loop in
+    (search needs, index-turn _ _ _ (ra .rule-at .ensures) (search needs) (c .if1 .left) (l .inv .1))
+
+returns-2 : tie.Need-returns-2 Inv-loop μ-loop
+returns-2 c = index-end _ _ (search needs) (c .before .loop .inv .1)
+
+pub rule-index-spec : {M : Type 1} → statement M
+rule-index-spec =
+    tie.close
+    (tie.spec Inv-loop μ-loop loop-holds rule-at-requires returns add-i loop-less loop-again returns-2)

@@ -1,0 +1,60 @@
+-- `drivers::record::rule_length` meets its contract. Assumes nothing.
+use mathlib.Core.Path.{_≡_}
+use Prim.Native.Nat.{ℕ, _≤_, _+_, _*_, _^_}
+use native.Mathlib.Nat.{mul-le-mul, pow-le-pow-left, pow-le-pow-right}
+use native.Mathlib.Omega.{arith}
+use Rattle.drivers.specs.Record.{ruleAt, ruleLength}
+use Rattle.drivers.specs.RecordLaws.{rule-small}
+use Rattle.drivers.specs.declared.record.Rule.{Rule}
+use borrow.Author.Needs.{needs}
+use Rattle.drivers.proofs.record.rule_length.Statement.{statement}
+use Rattle.drivers.proofs.record.rule_length.Tie as tie
+
+small : (i : ℕ) (r : Rule) → r ≡ ruleAt i → (r .base ≤ 24) × (r .factor ≤ 8) × (r .power ≤ 2)
+small i r e = rw e (rule-small i)
+
+product : (f p n k : ℕ) → p ≡ n ^ k → f ≤ 8 → n ≤ 32 → k ≤ 2 → f * p ≤ 8192
+product f p n k e a b d =
+    let q : n ^ k ≤ 32 ^ k = pow-le-pow-left b k in
+    let r : 32 ^ k ≤ 32 ^ 2 = pow-le-pow-right (omega arith) d in
+    let t : p ≤ 1024 = omega arith in
+    let s : f * p ≤ 8 * 1024 = mul-le-mul a t in
+    omega arith
+
+is : (i n p : ℕ) (r : Rule) → r ≡ ruleAt i → p ≡ n ^ (r .power) → r .base + r .factor * p ≡ ruleLength i n
+unfolding ruleLength
+is i n p r e d = rw (d, e)
+
+rule-at-requires : tie.Need-rule-at-requires
+rule-at-requires c κs = search needs
+
+power-requires : tie.Need-power-requires
+power-requires c κs = (search needs, small _ _ (c .rule-at .ensures) .2)
+
+mul-result : tie.Need-mul-result
+mul-result c =
+    let p2 = c .before in
+    let ra = p2 .before in
+    let s2 = ra .before in
+    let s = small _ _ (ra .rule-at .ensures) in
+    let p = product (ra .rule-at .result .factor) (p2 .power .result) (s2 .args .n) (ra .rule-at .result .power) (p2 .power .ensures) (s .1) (s2 .pre) (s .2) in
+    record { fits = omega arith }
+
+add-result : tie.Need-add-result
+add-result c =
+    let p2 = c .before .before in
+    let ra = p2 .before in
+    let s2 = ra .before in
+    let s = small _ _ (ra .rule-at .ensures) in
+    let p = product (ra .rule-at .result .factor) (p2 .power .result) (s2 .args .n) (ra .rule-at .result .power) (p2 .power .ensures) (s .1) (s2 .pre) (s .2) in
+    record { fits = omega arith }
+
+returns : tie.Need-returns
+returns c =
+    let p = c .before .before in
+    let ra = p .before in
+    is _ _ _ _ (ra .rule-at .ensures) (p .power .ensures)
+
+pub rule-length-spec : {M : Type 1} → statement M
+rule-length-spec =
+    tie.close (tie.spec rule-at-requires power-requires mul-result add-result returns)

@@ -1,0 +1,76 @@
+-- What the calls of a run show: a step with its text, the last line, a refusal. Assumes nothing.
+use Prim.Native.Nat.{ℕ, suc, _≤_, _<_}
+use mathlib.Core.Path.{_≡_, ap, _∙_}
+use mathlib.Core.Bool.{Bool, false}
+use mathlib.Core.List.{List, [], _++_}
+use native.Mathlib.Omega.{arith}
+use borrow.Author.Tests.{lt-ltb, le-ltb}
+use lib.Dec.{ltb}
+use lib.ListN.{length}
+use lib.Ieee.{Float}
+use Rattle.numbers.specs.Pick.{pick, hit, skip}
+use Rattle.numbers.specs.declared.refusal.Refusal.{Refusal}
+use Rattle.numbers.specs.declared.refusal.Refusal.the-variants.{Room}
+use Rattle.oracles.specs.Ell.{EllBuffers}
+use Rattle.drivers.specs.Text.{put-all}
+use Rattle.drivers.specs.TextLaws.{put-front}
+use Rattle.drivers.specs.CuttingPlane.{Space, check-space, feas-step, goes-on, feas-ended}
+use Rattle.drivers.specs.Trace.{said-pieces, last-pieces, ended-pieces, space-of, run-at, step-printed, limit-printed, not-printed, next-checked, next-answer}
+use Rattle.drivers.specs.TraceLaws.{last-most, step-pieces}
+use Rattle.drivers.specs.declared.answer.Answer.{Answer}
+use Rattle.drivers.specs.declared.cutting_plane.Said.{Said}
+use Rattle.drivers.specs.declared.cutting_plane.Checked.{Checked}
+use Rattle.drivers.specs.declared.cutting_plane.Checked.the-variants.{Right, Wrong}
+use Rattle.drivers.specs.declared.trace.Run.{Run}
+use Rattle.drivers.specs.declared.trace.Text.the-variants.{Bytes, Refused}
+use Rattle.drivers.specs.declared.trace.Printed.{Printed}
+
+module _ (run : Run) (table : List Float) (b : EllBuffers) (grad : List Float) (out : List ℕ) where
+  -- the pieces of the step, and the rest of its text; the number of the next one
+  pub step-shown : (said : Said) (s : Space) (more : Bool) (rest : List (List ℕ)) (r : ℕ × List ℕ) (k : ℕ) (next : Run) → 128 ≤ length out
+      → (said, s) ≡ feas-step (run .rows) table (space-of run b grad) → more ≡ goes-on said (s .ell .tsq) (run .options .tolerance)
+      → rest ≡ pick more [] (ended-pieces (feas-ended said (run .niter))) → r ≡ put-all out 0 (said-pieces (run .niter) said ++ rest)
+      → k ≡ pick more (suc (run .niter)) (run .niter) → next ≡ run-at run s k
+      → (record { run = next; more = more; text = Bytes (r .0) }, s .buffers, s .grad, r .1) ≡ step-printed run table b grad out
+  unfolding step-printed
+  step-shown said s more rest r k next h e m t f n g =
+      let w = step-pieces out (run .niter) more said rest r h t f in
+      let p = g ∙ ap (run-at run s) n in
+      rw (← e, ← m) (λ i. (record { run = p i; more = more; text = Bytes (w i .0) }, s .buffers, s .grad, w i .1))
+
+  -- `next`, by what the check says
+  module _ (checked : Checked) (e : checked ≡ check-space (run .rows) table (space-of run b grad)) where
+    by-check : (p : Printed × EllBuffers × List Float × List ℕ) → p ≡ next-checked run table b grad out checked → p ≡ next-answer run table b grad out
+    unfolding next-answer
+    by-check p f = f ∙ ap (next-checked run table b grad out) e
+
+  shown-refused : (why : Refusal) (q : Printed) → q ≡ record { run = run; more = false; text = Refused why } → (q, b, grad, out) ≡ not-printed run b grad out why
+  shown-refused why q e = ap (λ (p : Printed). (p, b, grad, out)) e
+
+  pub next-wrong : (why : Refusal) (q : Printed) → Wrong why ≡ check-space (run .rows) table (space-of run b grad)
+      → q ≡ record { run = run; more = false; text = Refused why } → (q, b, grad, out) ≡ next-answer run table b grad out
+  next-wrong why q e f = by-check (Wrong why) e _ (shown-refused why q f)
+
+  module _ (e : Right ≡ check-space (run .rows) table (space-of run b grad)) where
+    pub next-room : (q : Printed) → length out < 128 → q ≡ record { run = run; more = false; text = Refused Room } → (q, b, grad, out) ≡ next-answer run table b grad out
+    next-room q h f = by-check Right e _ (hit _ _ _ _ (lt-ltb (length out) 128 h) (shown-refused Room q f))
+
+    module _ (h : 128 ≤ length out) where
+      roomy : (p : Printed × EllBuffers × List Float × List ℕ)
+          → p ≡ pick (ltb (run .niter) (run .options .«max_iters»)) (step-printed run table b grad out) (limit-printed run b grad out) → p ≡ next-answer run table b grad out
+      roomy p f = by-check Right e _ (skip _ _ _ _ (le-ltb (length out) 128 h) f)
+
+      pub next-step : (p : Printed × EllBuffers × List Float × List ℕ) → run .niter < run .options .«max_iters» → p ≡ step-printed run table b grad out
+          → p ≡ next-answer run table b grad out
+      next-step p l f = roomy p (hit _ _ _ _ (lt-ltb (run .niter) (run .options .«max_iters») l) f)
+
+      shown-limit : (r : ℕ × List ℕ) → r ≡ put-all out 0 (last-pieces (record { found = false; steps = run .niter }))
+          → (record { run = run; more = false; text = Bytes (r .0) }, b, grad, r .1) ≡ limit-printed run b grad out
+      unfolding limit-printed
+      shown-limit r f =
+          let a : Answer = record { found = false; steps = run .niter } in
+          ap (λ (q : ℕ × List ℕ). (record { run = run; more = false; text = Bytes (q .0) }, b, grad, q .1)) (put-front out (last-pieces a) r (omega (arith, last-most a)) f)
+
+      pub next-limit : (r : ℕ × List ℕ) → run .options .«max_iters» ≤ run .niter → r ≡ put-all out 0 (last-pieces (record { found = false; steps = run .niter }))
+          → (record { run = run; more = false; text = Bytes (r .0) }, b, grad, r .1) ≡ next-answer run table b grad out
+      next-limit r l f = roomy _ (skip _ _ _ _ (le-ltb (run .niter) (run .options .«max_iters») l) (shown-limit r f))

@@ -1,0 +1,26 @@
+-- `drivers::trace::refused_line` meets its contract. Assumes nothing.
+use native.Mathlib.Omega.{arith}
+use Rattle.drivers.specs.TraceLaws.{not-printed-in, printed-in, refused-most}
+use borrow.Author.Needs.{needs}
+use Rattle.drivers.proofs.trace.refused_line.Statement.{statement}
+use Rattle.drivers.proofs.trace.refused_line.Tie as tie
+
+returns : tie.Need-returns
+returns c = not-printed-in _ _ (c .if1 .taken)
+
+put-refused-requires : tie.Need-put-refused-requires
+put-refused-requires c κs = search needs
+
+same-length : tie.Need-same-length
+same-length c = search needs
+
+returns-2 : tie.Need-returns-2
+returns-2 c =
+    let refused = c .before .before in
+    let test = refused .before .before in
+    let start = test .before .before in
+    let a = start .args in
+    printed-in _ _ _ (test .if1 .left) (omega (arith, refused-most (a .why) (a .place))) (refused .put-refused .ensures)
+
+pub refused-line-spec : {M : Type 1} → statement M
+refused-line-spec = tie.close (tie.spec returns put-refused-requires same-length returns-2)

@@ -1,0 +1,47 @@
+-- Whether an answer belongs to a job (document 01, "Job and answer records"). Definitions only.
+use mathlib.Core.Bool.{Bool, true, false, not, _&&_}
+use mathlib.Core.List.{List}
+use lib.Dec.{eqb}
+use lib.ListN.{length}
+use lib.Ieee.{Float}
+use Rattle.numbers.specs.Pick.{pick}
+use Rattle.numbers.specs.Arr.{tested}
+use Rattle.numbers.specs.declared.refusal.Refusal.the-variants.{Dimension, Length, Band, Cursor}
+use Rattle.oracles.specs.Scan.{table-fits}
+use Rattle.oracles.specs.LowpassOracle.{bands-fit, cursors-fit, assess-feas-answer}
+use Rattle.oracles.specs.Verdict.{asked, judge, is-feasible}
+use Rattle.oracles.specs.declared.lowpass_oracle.Verdict.{Verdict}
+use Rattle.oracles.specs.declared.lowpass_oracle.Verdict.the-variants.{Feasible, Cut, Refused as NotAssessed}
+use Rattle.drivers.specs.declared.answer.Answer.{Answer}
+use Rattle.drivers.specs.declared.job.Job.{Job}
+use Rattle.drivers.specs.declared.belongs.Belonging.{Belonging}
+use Rattle.drivers.specs.declared.belongs.Belonging.the-variants.{Yes, No, Refused}
+
+abbrev pub yes-if : Bool → Belonging
+yes-if is-so = pick is-so Yes No
+
+-- what a verdict on the point that is asked about says, of an answer that has a point or has none
+abbrev pub said-by : Verdict → Bool → Belonging
+said-by Feasible found = yes-if found
+said-by (Cut group beta) found = yes-if (not found)
+said-by (NotAssessed why) found = Refused why
+
+-- a point is feasible for a job: nothing of the job's cursors is asked
+abbrev pub feasible-for : Job → List Float → List Float → Bool
+feasible-for j table x = is-feasible (judge (asked (j .oracle) (j .oracle .«sp_sq») (j .n) (j .rows) table x))
+
+-- the point that is asked about: the answer's, or the job's own where it has none
+abbrev pub asked-point : Answer → List Float → List Float → List Float
+asked-point a x point = pick (a .found) point x
+
+-- an answer with a point belongs where it is feasible, one without where the job's own point isn't
+abbrev pub is-of : Job → List Float → List Float → Answer → List Float → Bool
+is-of j table x a point = pick (a .found) (feasible-for j table point) (not (feasible-for j table x))
+
+-- `belongs`: refusals 1 to 4; grad is left as the assessment of the point that is asked about leaves it
+unfoldable pub belongs-answer : Job → List Float → List Float → Answer → List Float → List Float → Belonging × List Float
+belongs-answer j table x a point grad =
+    tested (j .n) (table-fits (j .n) (j .rows) table x && eqb (length point) (j .n) && eqb (length grad) (j .n)) (Refused Dimension, grad) (Refused Length, grad)
+    (pick (not (bands-fit (j .oracle) (j .rows))) (Refused Band, grad)
+    (pick (not (cursors-fit (j .oracle))) (Refused Cursor, grad)
+    (yes-if (is-of j table x a point), assess-feas-answer (j .oracle) (j .n) (j .rows) table (asked-point a x point) grad .1)))

@@ -1,0 +1,31 @@
+-- Definitions, which a reader has to believe.
+pub mod Record
+pub mod CuttingPlane
+pub mod Job
+pub mod Text
+pub mod Answer
+pub mod Belongs
+pub mod Trace
+pub mod Calls
+pub mod Program
+-- Theorems about them, and the laws that these rest on.
+pub mod FaultLaws
+pub mod RecordLaws
+pub mod AnswerLaws
+pub mod JobLaws
+pub mod BelongsLaws
+pub mod TextLaws
+pub mod StepRight
+pub mod Untouched
+pub mod OptimRight
+pub mod TraceLaws
+pub mod CallsLaws
+pub mod WrittenFields
+pub mod RoundTrip
+pub mod RunEnds
+pub mod OptimBest
+pub mod OptimEnds
+pub mod JobRuns
+pub mod FoundFeasible
+pub mod Worked
+pub mod ProgramLaws

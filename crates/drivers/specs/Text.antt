@@ -1,0 +1,55 @@
+-- Text: numbers as digits, and pieces written one after the other. Definitions only.
+use Prim.Native.Nat.{ℕ, zero, suc, _+_, _/_, _%_}
+use mathlib.Core.List.{List, [], _∷_, _++_}
+use lib.Dec.{leb, ltb}
+use lib.ListN.{length, take, drop}
+use Rattle.numbers.specs.Pick.{pick}
+
+-- bytes written from `at` on; what stands before and after stays
+unfoldable pub over : List ℕ → ℕ → List ℕ → List ℕ
+over out at bytes = take at out ++ bytes ++ drop (at + length bytes) out
+
+-- a piece of text from `at` on, and where the next one begins; a piece that does not fit is not written
+unfoldable pub put : List ℕ → ℕ → List ℕ → ℕ × List ℕ
+unfolding over
+put out at text = pick (leb (at + length text) (length out)) (at + length text, over out at text) (at, out)
+
+-- pieces, one after the other
+unfoldable pub put-all : List ℕ → ℕ → List (List ℕ) → ℕ × List ℕ
+unfolding put
+put-all out at [] = (at, out)
+put-all out at (text ∷ texts) = let r = put out at text in put-all (r .1) (r .0) texts
+
+-- pieces as one text
+unfoldable pub joined : List (List ℕ) → List ℕ
+joined [] = []
+joined (text ∷ texts) = text ++ joined texts
+
+-- a digit: 0 to 9, A to F
+unfoldable pub digitChar : ℕ → ℕ
+digitChar d = pick (ltb d 10) (48 + d) (55 + d)
+
+-- the lowest digits of w, so many of them, the highest first
+unfoldable pub digitsOf : ℕ → ℕ → ℕ → List ℕ
+unfolding digitChar
+digitsOf base zero w = []
+digitsOf base (suc count) w = digitsOf base count (w / base) ++ (digitChar (w % base) ∷ [])
+
+-- how many decimal digits w has, of which at most `most` stand before the last
+unfoldable pub digit-count-to : ℕ → ℕ → ℕ
+digit-count-to zero w = 1
+digit-count-to (suc most) w = pick (ltb w 10) 1 (suc (digit-count-to most (w / 10)))
+
+-- a number of 64 bits has at most 20
+unfoldable pub digit-count : ℕ → ℕ
+unfolding digit-count-to
+digit-count w = digit-count-to 19 w
+
+-- in decimal, and as 16 upper-case hexadecimal digits
+unfoldable pub decimal : ℕ → List ℕ
+unfolding digitsOf digit-count
+decimal w = digitsOf 10 (digit-count w) w
+
+unfoldable pub hex : ℕ → List ℕ
+unfolding digitsOf
+hex w = digitsOf 16 16 w

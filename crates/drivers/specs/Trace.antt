@@ -1,0 +1,219 @@
+-- The text of a run (document 01, "The program `filterrun`"): a line for each cut, then the answer, or one line that refuses the job. Definitions only.
+use Prim.Native.Nat.{ℕ, zero, suc, _-_}
+use mathlib.Core.Bool.{Bool, true, false}
+use mathlib.Core.List.{List, [], _∷_, _++_}
+use lib.Dec.{ltb}
+use lib.ListN.{length, take}
+use lib.Ieee.{Float}
+use Rattle.numbers.specs.Pick.{pick}
+use Rattle.numbers.specs.Bits.{bitsOf}
+use Rattle.numbers.specs.Refusal.{refusalNumber}
+use Rattle.numbers.specs.declared.refusal.Refusal.{Refusal}
+use Rattle.numbers.specs.declared.refusal.Refusal.the-variants.{Room}
+use Rattle.numbers.specs.declared.cut.CutChoice.{CutChoice}
+use Rattle.numbers.specs.declared.cut.CutChoice.the-variants.{Single, Parallel}
+use Rattle.numbers.specs.declared.cut.CutStatus.{CutStatus}
+use Rattle.numbers.specs.declared.cut.CutStatus.the-variants.{Success, NoSoln, NoEffect}
+use Rattle.oracles.specs.LowpassOracle.{groupSide}
+use Rattle.oracles.specs.Ell.{EllBuffers, new-ell-answer}
+use Rattle.oracles.specs.declared.lowpass_oracle.Group.{Group}
+use Rattle.oracles.specs.declared.lowpass_oracle.Group.the-variants.{Pass, Stop, Middle, Sign}
+use Rattle.oracles.specs.declared.ell.NewEll.{NewEll}
+use Rattle.oracles.specs.declared.ell.NewEll.the-variants.{Made, Refused as NoEll}
+use Rattle.drivers.specs.Text.{over, joined, decimal, hex}
+use Rattle.drivers.specs.CuttingPlane.{Space, check-space, feas-step, goes-on, feas-ended}
+use Rattle.drivers.specs.Job.{read-job-answer}
+use Rattle.drivers.specs.declared.answer.Answer.{Answer}
+use Rattle.drivers.specs.declared.cutting_plane.Said.{Said}
+use Rattle.drivers.specs.declared.cutting_plane.Said.the-variants.{Feasible, Cut, Refused as NotStepped}
+use Rattle.drivers.specs.declared.cutting_plane.FeasAnswer.{FeasAnswer}
+use Rattle.drivers.specs.declared.cutting_plane.FeasAnswer.the-variants.{Ended, Refused as NotRun}
+use Rattle.drivers.specs.declared.cutting_plane.Checked.{Checked}
+use Rattle.drivers.specs.declared.cutting_plane.Checked.the-variants.{Right, Wrong}
+use Rattle.drivers.specs.declared.job.Job.{Job}
+use Rattle.drivers.specs.declared.job.JobAnswer.{JobAnswer}
+use Rattle.drivers.specs.declared.job.JobAnswer.the-variants.{Read, Refused as NotRead}
+use Rattle.drivers.specs.declared.trace.Run.{Run}
+use Rattle.drivers.specs.declared.trace.Text.{Text}
+use Rattle.drivers.specs.declared.trace.Text.the-variants.{Bytes, Refused}
+use Rattle.drivers.specs.declared.trace.Printed.{Printed}
+use Rattle.drivers.specs.declared.trace.NewRun.{NewRun}
+use Rattle.drivers.specs.declared.trace.NewRun.the-variants.{Made as MadeRun, Refused as NoRun}
+use Rattle.drivers.specs.declared.trace.Opened.{Opened}
+use Rattle.drivers.specs.declared.trace.Opened.the-variants.{Going, Over}
+
+-- ---- a cut's line: step, group, row or -, over or under, beta0, beta1 or -, status. The words stand here as their bytes, with the spaces beside them.
+
+abbrev pub group-word : Group → List ℕ
+group-word (Pass row over) = 32 ∷ 112 ∷ 97 ∷ 115 ∷ 115 ∷ 32 ∷ []  -- " pass "
+group-word (Stop row over) = 32 ∷ 115 ∷ 116 ∷ 111 ∷ 112 ∷ 32 ∷ []  -- " stop "
+group-word (Middle row) = 32 ∷ 109 ∷ 105 ∷ 100 ∷ 100 ∷ 108 ∷ 101 ∷ 32 ∷ []  -- " middle "
+group-word Sign = 32 ∷ 115 ∷ 105 ∷ 103 ∷ 110 ∷ 32 ∷ []  -- " sign "
+
+abbrev pub row-text : Group → List ℕ
+row-text (Pass row over) = decimal row
+row-text (Stop row over) = decimal row
+row-text (Middle row) = decimal row
+row-text Sign = 45 ∷ []  -- "-"
+
+abbrev pub side-word : Bool → List ℕ
+side-word true = 32 ∷ 111 ∷ 118 ∷ 101 ∷ 114 ∷ 32 ∷ []  -- " over "
+side-word false = 32 ∷ 117 ∷ 110 ∷ 100 ∷ 101 ∷ 114 ∷ 32 ∷ []  -- " under "
+
+-- the betas as their bits; a NaN as 7FF8000000000000
+abbrev pub beta-pieces : CutChoice → List (List ℕ)
+beta-pieces (Single beta0) = hex (bitsOf beta0) ∷ (32 ∷ 45 ∷ []) ∷ []  -- " -"
+beta-pieces (Parallel beta0 beta1) = hex (bitsOf beta0) ∷ (32 ∷ []) ∷ hex (bitsOf beta1) ∷ []
+
+abbrev pub status-word : CutStatus → List ℕ
+status-word Success = 32 ∷ 83 ∷ 117 ∷ 99 ∷ 99 ∷ 101 ∷ 115 ∷ 115 ∷ 10 ∷ []  -- " Success" and a line feed
+status-word NoSoln = 32 ∷ 78 ∷ 111 ∷ 83 ∷ 111 ∷ 108 ∷ 110 ∷ 10 ∷ []  -- " NoSoln"
+status-word NoEffect = 32 ∷ 78 ∷ 111 ∷ 69 ∷ 102 ∷ 102 ∷ 101 ∷ 99 ∷ 116 ∷ 10 ∷ []  -- " NoEffect"
+
+abbrev pub cut-pieces : ℕ → Group → CutChoice → CutStatus → List (List ℕ)
+cut-pieces step group beta status = (decimal step ∷ group-word group ∷ row-text group ∷ side-word (groupSide group) ∷ []) ++ beta-pieces beta ++ (status-word status ∷ [])
+
+-- what a step prints of itself: nothing, or its cut
+abbrev pub said-pieces : ℕ → Said → List (List ℕ)
+said-pieces step Feasible = []
+said-pieces step (Cut group beta status) = cut-pieces step group beta status
+said-pieces step (NotStepped why) = []
+
+-- ---- the last line: `found` or `none`, and the steps
+
+abbrev pub outcome-word : Bool → List ℕ
+outcome-word true = 102 ∷ 111 ∷ 117 ∷ 110 ∷ 100 ∷ 32 ∷ []  -- "found "
+outcome-word false = 110 ∷ 111 ∷ 110 ∷ 101 ∷ 32 ∷ []  -- "none "
+
+abbrev pub last-pieces : Answer → List (List ℕ)
+last-pieces a = outcome-word (a .found) ∷ decimal (a .steps) ∷ (10 ∷ []) ∷ []
+
+abbrev pub ended-pieces : FeasAnswer → List (List ℕ)
+ended-pieces (Ended a) = last-pieces a
+ended-pieces (NotRun why) = []
+
+-- ---- the line of a refusal: `refused`, number, place
+
+abbrev pub refused-pieces : Refusal → ℕ → List (List ℕ)
+refused-pieces why place =
+    (114 ∷ 101 ∷ 102 ∷ 117 ∷ 115 ∷ 101 ∷ 100 ∷ 32 ∷ [])  -- "refused "
+    ∷ decimal (refusalNumber why) ∷ (32 ∷ []) ∷ decimal place ∷ (10 ∷ []) ∷ []
+
+-- a text at the front of `out`, and its length; 11 where `out` has fewer than 128 bytes
+unfoldable pub printed : List ℕ → List ℕ → Text × List ℕ
+printed text out = pick (ltb (length out) 128) (Refused Room, out) (Bytes (length text), over out 0 text)
+
+abbrev pub refused-line-answer : Refusal → ℕ → List ℕ → Text × List ℕ
+refused-line-answer why place out = printed (joined (refused-pieces why place)) out
+
+-- ---- a run
+
+-- before its first step; n has been tested by the reader, and is again
+abbrev pub run-of : Job → NewEll → NewRun
+run-of j (Made e) = MadeRun (record { oracle = j .oracle; ell = e; options = j .options; rows = j .rows; niter = 0 })
+run-of j (NoEll why) = NoRun why
+
+abbrev pub new-run-answer : Job → NewRun
+new-run-answer j = run-of j (new-ell-answer (j .n) (j .kappa))
+
+-- what a run moves, with the slices that it is lent
+abbrev pub space-of : Run → EllBuffers → List Float → Space
+space-of run b grad = record { oracle = run .oracle; ell = run .ell; buffers = b; grad = grad }
+
+-- the run after a step
+abbrev pub run-at : Run → Space → ℕ → Run
+run-at run s k = record { oracle = s .oracle; ell = s .ell; options = run .options; rows = run .rows; niter = k }
+
+-- the text of a step, and of the run's end where it is the last
+unfoldable pub step-text : ℕ → Bool → Said → List ℕ
+step-text k more said = joined (said-pieces k said ++ pick more [] (ended-pieces (feas-ended said k)))
+
+-- a step and its text
+unfoldable pub step-printed : Run → List Float → EllBuffers → List Float → List ℕ → Printed × EllBuffers × List Float × List ℕ
+step-printed run table b grad out =
+    let k = run .niter in
+    let r = feas-step (run .rows) table (space-of run b grad) in
+    let more = goes-on (r .0) (r .1 .ell .tsq) (run .options .tolerance) in
+    let text = step-text k more (r .0) in (
+      record { run = run-at run (r .1) (pick more (suc k) k); more = more; text = Bytes (length text) },
+      r .1 .buffers,
+      r .1 .grad,
+      over out 0 text,
+    )
+
+-- the last line of a run whose step limit has run out
+unfoldable pub limit-printed : Run → EllBuffers → List Float → List ℕ → Printed × EllBuffers × List Float × List ℕ
+limit-printed run b grad out =
+    let text = joined (last-pieces (record { found = false; steps = run .niter })) in
+    (record { run = run; more = false; text = Bytes (length text) }, b, grad, over out 0 text)
+
+-- a run that is refused, with everything as it came
+abbrev pub not-printed : Run → EllBuffers → List Float → List ℕ → Refusal → Printed × EllBuffers × List Float × List ℕ
+not-printed run b grad out why = (record { run = run; more = false; text = Refused why }, b, grad, out)
+
+-- `Run::next`: refusals 1 to 4, then 11, then a step, or the end where the limit has run out
+abbrev pub next-checked : Run → List Float → EllBuffers → List Float → List ℕ → Checked → Printed × EllBuffers × List Float × List ℕ
+next-checked run table b grad out (Wrong why) = not-printed run b grad out why
+next-checked run table b grad out Right =
+    pick (ltb (length out) 128) (not-printed run b grad out Room)
+    (pick (ltb (run .niter) (run .options .«max_iters»)) (step-printed run table b grad out)
+    (limit-printed run b grad out))
+
+unfoldable pub next-answer : Run → List Float → EllBuffers → List Float → List ℕ → Printed × EllBuffers × List Float × List ℕ
+next-answer run table b grad out = next-checked run table b grad out (check-space (run .rows) table (space-of run b grad))
+
+-- all that is printed by the steps k, k + 1, .. of which so many are left, and the lines of their cuts alone: the steps that feas-run takes
+unfoldable pub run-text : ℕ → List Float → Float → ℕ → ℕ → Space → List ℕ
+run-text rows table tolerance zero k s = joined (last-pieces (record { found = false; steps = k }))
+run-text rows table tolerance (suc left) k s =
+    let r = feas-step rows table s in
+    let more = goes-on (r .0) (r .1 .ell .tsq) tolerance in
+    step-text k more (r .0) ++ pick more (run-text rows table tolerance left (suc k) (r .1)) []
+
+unfoldable pub cut-lines : ℕ → List Float → Float → ℕ → ℕ → Space → List ℕ
+cut-lines rows table tolerance zero k s = []
+cut-lines rows table tolerance (suc left) k s =
+    let r = feas-step rows table s in
+    joined (said-pieces k (r .0)) ++ pick (goes-on (r .0) (r .1 .ell .tsq) tolerance) (cut-lines rows table tolerance left (suc k) (r .1)) []
+
+-- what a run has still to print
+abbrev pub text-left : Run → List Float → EllBuffers → List Float → List ℕ
+text-left run table b grad = run-text (run .rows) table (run .options .tolerance) (run .options .«max_iters» - run .niter) (run .niter) (space-of run b grad)
+
+-- the text that a call has put at the front of `out`
+abbrev pub text-in : Text → List ℕ → List ℕ
+text-in (Bytes n) out = take n out
+text-in (Refused why) out = []
+
+-- what so many calls of `next` print, one after the other, while there is more
+unfoldable pub printed-by : ℕ → Run → List Float → EllBuffers → List Float → List ℕ → List ℕ
+printed-by zero run table b grad out = []
+printed-by (suc calls) run table b grad out =
+    let p = next-answer run table b grad out in
+    text-in (p .0 .text) (p .3) ++ pick (p .0 .more) (printed-by calls (p .0 .run) table (p .1) (p .2) (p .3)) []
+
+-- ---- a program's input
+
+abbrev pub opened-over : Text × List ℕ → Opened × List ℕ
+opened-over t = (Over (t .0), t .1)
+
+abbrev pub opened-run : List ℕ → NewRun → Opened × List ℕ
+opened-run out (MadeRun run) = (Going run, out)
+opened-run out (NoRun why) = opened-over (refused-line-answer why 0 out)
+
+abbrev pub opened-job : Job → List ℕ → Opened × List ℕ
+opened-job j out = opened-run out (new-run-answer j)
+
+abbrev pub opened-read : List ℕ → JobAnswer → Opened × List ℕ
+opened-read out (Read j) = opened-job j out
+opened-read out (NotRead why place) = opened-over (refused-line-answer why place out)
+
+-- `open`: more than 65,536 bytes are refused before all else; then the job is read, and its run made
+abbrev pub with-slices : List Float → List Float → List Float → Opened × List ℕ → Opened × List Float × List Float × List Float × List ℕ
+with-slices table xc mq r = (r .0, table, xc, mq, r .1)
+
+unfoldable pub open-answer : List ℕ → List Float → List Float → List Float → List ℕ → Opened × List Float × List Float × List Float × List ℕ
+open-answer bytes table xc mq out =
+    let j = read-job-answer bytes table xc mq in
+    pick (ltb 65536 (length bytes)) (with-slices table xc mq (opened-over (refused-line-answer Room 65536 out)))
+    (with-slices (j .1) (j .2) (j .3) (opened-read out (j .0)))

@@ -1,0 +1,8 @@
+// The third layer: drivers and records, and the text of a run. Names and order of operations are those of the Rust in docs/src.
+pub mod answer;
+pub mod belongs;
+pub mod cutting_plane;
+pub mod job;
+pub mod record;
+pub mod text;
+pub mod trace;
