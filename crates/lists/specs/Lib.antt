@@ -1,3 +1,5 @@
 pub mod Words
 pub mod Case
 pub mod Tally
+pub mod Rooms
+pub mod Signed

@@ -1,6 +1,6 @@
 // An answer's words, one after the other: each `push` writes from place k on and gives the next place. An operation is `told` if it gives each slice's length and each refusal's number.
-use crate::rooms::Room;
-use crate::rooms::part;
+use lists::rooms::Room;
+use lists::rooms::part;
 use lists::tally::Replayed;
 use lists::words::put;
 use lists::words::put_floats;

@@ -1,14 +1,14 @@
 // Operation 130: the verdicts on one point from every legal place of the three cursors.
 use crate::answers::Bytes;
 use crate::answers::push;
-use crate::rooms::Room;
-use crate::rooms::front;
-use crate::rooms::part;
-use crate::rooms::plus;
-use crate::rooms::times;
-use crate::signed::all_signed;
-use crate::signed::signed;
-use crate::signed::signed_at;
+use lists::rooms::Room;
+use lists::rooms::front;
+use lists::rooms::part;
+use lists::rooms::plus;
+use lists::rooms::times;
+use lists::signed::all_signed;
+use lists::signed::signed;
+use lists::signed::signed_at;
 use lists::tally::Replayed;
 use lists::words::float;
 use lists::words::word;

@@ -1,0 +1,12 @@
+-- `lists::signed::is_signed` meets its contract. Assumes nothing.
+use mathlib.Core.Path.{refl}
+use Rattle.lists.specs.Signed.{isSigned}
+use Rattle.lists.proofs.signed.is_signed.Statement.{statement}
+use Rattle.lists.proofs.signed.is_signed.Tie as tie
+
+returns : tie.Need-returns
+unfolding isSigned
+returns c = refl
+
+pub is-signed-spec : {M : Type 1} → statement M
+is-signed-spec = tie.close (tie.spec returns)

@@ -1,0 +1,19 @@
+-- `lists::signed::signed_at` meets its contract. Assumes nothing.
+use mathlib.Core.Path.{ap, _∙_}
+use borrow.Author.Needs.{needs}
+use mir.Facts.{toZ-ofZ}
+use Rattle.lists.specs.Signed.{signedOf}
+use Rattle.lists.proofs.signed.signed_at.Statement.{statement}
+use Rattle.lists.proofs.signed.signed_at.Tie as tie
+
+word-requires : tie.Need-word-requires
+word-requires c κs = search needs
+
+signed-requires : tie.Need-signed-requires
+signed-requires c κs = search needs
+
+returns : tie.Need-returns
+returns c = toZ-ofZ (search needs) ∙ c .signed .ensures ∙ ap signedOf (c .before .word .ensures)
+
+pub signed-at-spec : {M : Type 1} → statement M
+signed-at-spec = tie.close (tie.spec word-requires signed-requires returns)
