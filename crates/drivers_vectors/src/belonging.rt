@@ -1,0 +1,85 @@
+// Operation 153: whether an answer belongs to a job.
+use crate::answers::Bytes;
+use crate::answers::push_floats;
+use crate::answers::push_words;
+use crate::state::is_state;
+use crate::state::oracle_of;
+use crate::state::state_told;
+use drivers::answer::Answer;
+use drivers::belongs::Belonging;
+use drivers::belongs::belongs;
+use drivers::cutting_plane::Options;
+use drivers::job::Job;
+use lists::rooms::Room;
+use lists::rooms::fill;
+use lists::rooms::front;
+use lists::rooms::part;
+use lists::rooms::plus;
+use lists::tally::Replayed;
+use lists::words::word;
+
+// A job with its numbers in words 0, 1 and 6 on; kappa and the options are not asked for.
+fn job_of(inputs: &[u8]) -> Job {
+    Job {
+        n: word(inputs, 0) as usize,
+        rows: word(inputs, 1) as usize,
+        oracle: oracle_of(inputs, state_told(6)),
+        kappa: 0.0,
+        options: Options::default(),
+    }
+}
+
+fn put_belonging(got: &mut Bytes, belonging: Belonging) -> usize {
+    match belonging {
+        Belonging::Yes => push_words(got, 0, &[0, 1]),
+        Belonging::No => push_words(got, 0, &[0, 0]),
+        Belonging::Refused(why) => push_words(got, 0, &[why.number() as u64, 0]),
+    }
+}
+
+// The gradient is at the front of `a`.
+fn call(
+    inputs: &[u8],
+    table: &[f64],
+    x: &[f64],
+    answer: Answer,
+    point: &[f64],
+    a: &mut [f64],
+    lg: usize,
+) -> Belonging {
+    belongs(job_of(inputs), table, x, answer, point, front(a, lg))
+}
+
+pub(crate) fn replay_belongs(
+    ins: usize,
+    inputs: &[u8],
+    floats: &[f64],
+    got: &mut Bytes,
+    a: &mut Room,
+) -> Replayed {
+    let lt = word(inputs, 2) as usize;
+    let lx = word(inputs, 3) as usize;
+    let lp = word(inputs, 4) as usize;
+    let lg = word(inputs, 5) as usize;
+    let found = word(inputs, 26);
+    let x_at = plus(27, lt);
+    let point_at = plus(x_at, lx);
+    let grad_at = plus(point_at, lp);
+    if (plus(grad_at, lg) != ins) | (found > 1) {
+        return Replayed::Unfit;
+    }
+    if !is_state(inputs, state_told(6)) {
+        return Replayed::Unfit;
+    }
+    fill(a, inputs, true, grad_at, lg);
+    let answer = Answer {
+        found: found == 1,
+        steps: 0,
+    };
+    let table = part(floats, 27, lt);
+    let x = part(floats, x_at, lx);
+    let point = part(floats, point_at, lp);
+    let belonging = call(inputs, table, x, answer, point, a, lg);
+    let k = put_belonging(got, belonging);
+    Replayed::Words(push_floats(got, k, a, lg))
+}

@@ -1,0 +1,170 @@
+// Operations 150 to 152: the readers and the writer.
+use crate::answers::Bytes;
+use crate::answers::push_floats;
+use crate::answers::push_words;
+use crate::packed::bytes_at;
+use crate::packed::lent;
+use crate::packed::pad;
+use crate::packed::put_bytes;
+use crate::packed::words_of;
+use crate::places::half_of;
+use drivers::answer::Answer;
+use drivers::answer::AnswerRead;
+use drivers::answer::AnswerWritten;
+use drivers::answer::read_answer;
+use drivers::answer::write_answer;
+use drivers::job::Job;
+use drivers::job::JobAnswer;
+use drivers::job::read_job;
+use lists::rooms::Room;
+use lists::rooms::fill;
+use lists::rooms::front;
+use lists::rooms::part;
+use lists::rooms::plus;
+use lists::signed::word_of;
+use lists::tally::Replayed;
+use lists::words::word;
+use numbers::bits::to_bits;
+use numbers::refusal::Refusal;
+
+fn push_refused(got: &mut Bytes, why: Refusal, place: usize) -> usize {
+    push_words(got, 0, &[why.number() as u64, place as u64])
+}
+
+// What a job has beside its slices.
+fn push_job(got: &mut Bytes, job: Job) -> usize {
+    let oracle = job.oracle;
+    let options = job.options;
+    let rr1 = oracle.rr1;
+    let rr2 = oracle.rr2;
+    let rr3 = oracle.rr3;
+    let words = [
+        0,
+        0,
+        job.n as u64,
+        job.rows as u64,
+        word_of(oracle.nwpass),
+        word_of(oracle.nwstop),
+        to_bits(oracle.lp_sq),
+        to_bits(oracle.up_sq),
+        to_bits(oracle.sp_sq),
+        word_of(rr1.cur),
+        word_of(rr2.cur),
+        word_of(rr3.cur),
+        to_bits(job.kappa),
+        options.max_iters as u64,
+        to_bits(options.tolerance),
+    ];
+    push_words(got, 0, &words)
+}
+
+// The slices are at the fronts of the rooms.
+fn put_job(
+    got: &mut Bytes,
+    bytes: &[u8],
+    a: &mut [f64],
+    lt: usize,
+    b: &mut [f64],
+    lx: usize,
+    c: &mut [f64],
+    lm: usize,
+) -> usize {
+    match read_job(bytes, front(a, lt), front(b, lx), front(c, lm)) {
+        JobAnswer::Read(job) => push_job(got, job),
+        JobAnswer::Refused(why, place) => push_refused(got, why, place),
+    }
+}
+
+pub(crate) fn replay_read_job(
+    ins: usize,
+    inputs: &[u8],
+    got: &mut Bytes,
+    a: &mut Room,
+    b: &mut Room,
+    c: &mut Room,
+) -> Replayed {
+    let len = word(inputs, 0) as usize;
+    let lt = word(inputs, 1) as usize;
+    let lx = word(inputs, 2) as usize;
+    let lm = word(inputs, 3) as usize;
+    let table_at = plus(4, words_of(len));
+    let x_at = plus(table_at, lt);
+    let mq_at = plus(x_at, lx);
+    if plus(mq_at, lm) != ins {
+        return Replayed::Unfit;
+    }
+    fill(a, inputs, true, table_at, lt);
+    fill(b, inputs, true, x_at, lx);
+    fill(c, inputs, true, mq_at, lm);
+    let bytes = bytes_at(inputs, 4, len);
+    let k = put_job(got, bytes, a, lt, b, lx, c, lm);
+    let k = push_floats(got, k, a, lt);
+    let k = push_floats(got, k, b, lx);
+    Replayed::Words(push_floats(got, k, c, lm))
+}
+
+fn put_answer(got: &mut Bytes, n: usize, bytes: &[u8], a: &mut [f64], lp: usize) -> usize {
+    match read_answer(n, bytes, front(a, lp)) {
+        AnswerRead::Read(answer) => {
+            let words = [0, 0, answer.found as u64, answer.steps as u64];
+            push_words(got, 0, &words)
+        }
+        AnswerRead::Refused(why, place) => push_refused(got, why, place),
+    }
+}
+
+pub(crate) fn replay_read_answer(
+    ins: usize,
+    inputs: &[u8],
+    got: &mut Bytes,
+    a: &mut Room,
+) -> Replayed {
+    let n = word(inputs, 0) as usize;
+    let len = word(inputs, 1) as usize;
+    let lp = word(inputs, 2) as usize;
+    let point_at = plus(3, words_of(len));
+    if plus(point_at, lp) != ins {
+        return Replayed::Unfit;
+    }
+    fill(a, inputs, true, point_at, lp);
+    let k = put_answer(got, n, bytes_at(inputs, 3, len), a, lp);
+    Replayed::Words(push_floats(got, k, a, lp))
+}
+
+// The record stands in `got` from its third word on.
+fn write(n: usize, answer: Answer, point: &[f64], got: &mut [u8], len: usize) -> AnswerWritten {
+    write_answer(n, answer, point, lent(got, 16, len))
+}
+
+fn put_written(got: &mut Bytes, written: AnswerWritten) -> usize {
+    match written {
+        AnswerWritten::Bytes(count) => push_words(got, 0, &[0, count as u64]),
+        AnswerWritten::Refused(why) => push_words(got, 0, &[why.number() as u64, 0]),
+    }
+}
+
+pub(crate) fn replay_write_answer(
+    ins: usize,
+    inputs: &[u8],
+    floats: &[f64],
+    got: &mut Bytes,
+) -> Replayed {
+    let n = word(inputs, 0) as usize;
+    let found = word(inputs, 1);
+    let steps = word(inputs, 2);
+    let lp = word(inputs, 3) as usize;
+    let len = word(inputs, 4) as usize;
+    let out_at = plus(5, lp);
+    let words = words_of(len);
+    if (plus(out_at, words) != ins) | (found > 1) | (steps > 65535) {
+        return Replayed::Unfit;
+    }
+    let end = put_bytes(got, 16, bytes_at(inputs, out_at, len));
+    pad(got, end);
+    let answer = Answer {
+        found: found == 1,
+        steps: half_of(steps),
+    };
+    let written = write(n, answer, part(floats, 5, lp), got, len);
+    Replayed::Words(plus(put_written(got, written), words))
+}
