@@ -56,6 +56,15 @@ impl Case {
         self.output.push(x.map_or(ABSENT, word));
     }
 
+    /// Eight bytes to a word, the first one lowest; the last word is filled with zeros.
+    pub fn take_bytes(&mut self, bytes: &[u8]) {
+        self.input.extend(packed(bytes));
+    }
+
+    pub fn give_bytes(&mut self, bytes: &[u8]) {
+        self.output.extend(packed(bytes));
+    }
+
     pub fn write(&self, to: &mut impl Write) -> io::Result<()> {
         assert!(3 + self.input.len() + self.output.len() <= MOST);
         put(to, self.op)?;
@@ -87,12 +96,26 @@ impl Case {
     }
 }
 
+fn packed(bytes: &[u8]) -> impl Iterator<Item = u64> + '_ {
+    bytes.chunks(8).map(|part| {
+        let mut word = [0; 8];
+        word[..part.len()].copy_from_slice(part);
+        u64::from_le_bytes(word)
+    })
+}
+
+/// The bytes of packed words.
+pub fn unpacked(words: &[u64], count: u64) -> Vec<u8> {
+    let bytes = words.iter().flat_map(|w| w.to_le_bytes());
+    bytes.take(count as usize).collect()
+}
+
 /// A signed number at 64 bits.
 fn signed(i: i32) -> u64 {
     i as i64 as u64
 }
 
-pub fn status_word(status: CutStatus) -> u64 {
+pub fn status_word(status: &CutStatus) -> u64 {
     match status {
         CutStatus::Success => 0,
         CutStatus::NoSoln => 1,

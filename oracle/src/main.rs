@@ -1,6 +1,7 @@
-//! Writes, checks and shows lists of the published Rust's answers.
+//! Writes, checks and shows lists of the published Rust's answers, and runs jobs with it.
 
 mod draw;
+mod drivers;
 mod lengths;
 mod lists;
 mod numbers;
@@ -8,6 +9,8 @@ mod oracles;
 mod rng;
 mod show;
 mod sqrt_check;
+#[cfg(test)]
+mod testing;
 mod words;
 
 use ellalgo_rs::arr::Arr;
@@ -21,13 +24,21 @@ const USAGE: &str = "usage:
   oracle check-sqrt                                        check the roots of a list
   oracle count                                             count a list's cases and answers
   oracle show                                              print a list as text
-layers: numbers, oracles";
+  oracle filterrun                                         run a job as the program does
+  oracle compare-runs --program PATH --seed S --count N    compare a program's texts with the Rust's
+  oracle job-to-text                                       a job or answer record as plain text
+  oracle job-from-text                                     and back
+  oracle example lowpass --n N [--rows R] ..               a real filter's job, see examples/README.md
+  oracle answer                                            run a job and write its answer record
+layers: numbers, oracles, drivers";
 
 /// A layer of the project: its operations, and what fills a case of one.
 struct Layer {
     name: &'static str,
     ops: &'static [(u64, &'static str, usize)],
     fill: fn(u64, &mut words::Source, &mut Case),
+    /// Cases that every list begins with.
+    fixed: fn() -> Vec<Case>,
 }
 
 const LAYERS: &[Layer] = &[
@@ -35,11 +46,19 @@ const LAYERS: &[Layer] = &[
         name: "numbers",
         ops: numbers::OPS,
         fill: numbers::fill,
+        fixed: Vec::new,
     },
     Layer {
         name: "oracles",
         ops: oracles::OPS,
         fill: oracles::fill,
+        fixed: Vec::new,
+    },
+    Layer {
+        name: "drivers",
+        ops: drivers::OPS,
+        fill: drivers::fill,
+        fixed: drivers::fixed,
     },
 ];
 
@@ -51,6 +70,16 @@ fn main() -> ExitCode {
         ["check-sqrt"] => sqrt_check::check(&mut input(), &mut output()),
         ["count"] => show::count(&mut input(), &mut output()),
         ["show"] => show::show(&mut input(), &mut output()),
+        ["filterrun"] => drivers::filterrun::run(&mut input(), &mut output()),
+        ["answer"] => drivers::filterrun::answer(&mut input(), &mut output()),
+        ["job-to-text"] => drivers::plain::to_text(&mut input(), &mut output()),
+        ["job-from-text"] => drivers::plain::from_text(&mut input(), &mut output()),
+        ["example", "lowpass", "--n", n, ref rest @ ..] => {
+            drivers::example::write(n, rest, &mut output())
+        }
+        ["compare-runs", "--program", program, "--seed", seed, "--count", count] => {
+            whole(seed).and_then(|seed| drivers::compare::compare(program, seed, whole(count)?))
+        }
         _ => Err(wrong(USAGE)),
     };
     match done {
@@ -129,7 +158,13 @@ fn write_list(layer: &Layer, wheel: &[u64], seed: u64, count: u64) -> io::Result
     let mut src = words::Source::new(seed);
     let mut case = Case::default();
     let mut to = output();
-    for at in 0..count {
+    let mut fixed = (layer.fixed)();
+    fixed.retain(|case| wheel.contains(&case.op));
+    fixed.truncate(count as usize);
+    for case in &fixed {
+        case.write(&mut to)?;
+    }
+    for at in 0..count - fixed.len() as u64 {
         let op = wheel[(at % wheel.len() as u64) as usize];
         (layer.fill)(op, &mut src, &mut case);
         case.write(&mut to)?;

@@ -214,7 +214,7 @@ fn calculator(op: u64, src: &mut Source, case: &mut Case) {
             calc.calc_central_cut(tsq)
         }
     };
-    case.give(status_word(status));
+    case.give(status_word(&status));
     case.give_floats(&[rho, sigma, delta]);
 }
 

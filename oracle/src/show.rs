@@ -25,12 +25,12 @@ pub fn show(from: &mut impl Read, to: &mut impl Write) -> io::Result<bool> {
 /// so on where that word is a status, a refusal or a kind of answer.
 pub fn count(from: &mut impl Read, to: &mut impl Write) -> io::Result<bool> {
     let mut case = Case::default();
-    let mut tally: BTreeMap<u64, [u64; 9]> = BTreeMap::new();
+    let mut tally: BTreeMap<u64, [u64; 15]> = BTreeMap::new();
     while case.read(from)? {
         let row = tally.entry(case.op).or_default();
         row[0] += 1;
         row[1] += 8 * (3 + case.input.len() + case.output.len()) as u64;
-        if let Some(&first @ 0..=6) = case.output.first() {
+        if let Some(&first @ 0..=12) = case.output.first() {
             row[2 + first as usize] += 1;
         }
     }
@@ -53,7 +53,7 @@ pub fn count(from: &mut impl Read, to: &mut impl Write) -> io::Result<bool> {
 
 /// Whether the first output word is a status, a refusal or a kind of answer.
 fn tells(op: u64) -> bool {
-    matches!(op, 20..=28 | 42 | 43 | 50 | 53 | 60 | 61 | 100..=129)
+    matches!(op, 20..=28 | 42 | 43 | 50 | 53 | 60 | 61 | 70 | 71 | 100..=129 | 140..=153)
 }
 
 fn name(op: u64) -> &'static str {

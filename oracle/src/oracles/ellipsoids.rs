@@ -28,7 +28,7 @@ pub fn update_of(space: &Space, cut: &Cut, case: &mut Case) {
     case.take_floats(&[cut.b0]);
     case.take_optional(cut.b1);
     let (status, after) = space.updated(cut);
-    case.give(status_word(status));
+    case.give(status_word(&status));
     give_space(&after, case);
 }
 
@@ -68,7 +68,7 @@ pub fn update_any(src: &mut Source, case: &mut Case, stable: bool) {
     if no == 0 {
         let status;
         (status, space) = space.updated(&cut);
-        case.give(status_word(status));
+        case.give(status_word(&status));
     }
     give_space(&space, case);
 }

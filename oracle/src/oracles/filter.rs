@@ -6,6 +6,7 @@ use super::limits::{edges, lower_limit, lowered, raised, upper_limit};
 use crate::draw::{dimension, halves, many, minus_zeros, part, row_against, vector};
 use crate::words::Source;
 use ellalgo_rs::arr::Arr;
+use ellalgo_rs::oracles::lowpass_oracle::LowpassOracle;
 
 /// The bands in the order of the cursors.
 const PASS: usize = 0;
@@ -38,8 +39,21 @@ impl State {
         }
     }
 
+    /// As a call of the oracle has left it.
+    pub fn after(&self, oracle: &LowpassOracle) -> Self {
+        let rr = oracle.cursors();
+        State {
+            cursors: [0, 1, 2].map(|k| self.cursors[k].moved(rr[k])),
+            idx: [oracle.idx1, oracle.idx2, oracle.idx3],
+            fmax: oracle.fmax,
+            kmax: oracle.kmax,
+            more_alt: oracle.more_alt,
+            sp_sq: oracle.sp_sq,
+        }
+    }
+
     /// The cursors stand anywhere legal.
-    fn moved(mut self, src: &mut Source) -> Self {
+    pub fn moved(mut self, src: &mut Source) -> Self {
         self.cursors = self.cursors.map(|c| Cursor::on(src, c.lo, c.hi));
         self.idx = self.cursors.map(|c| c.cur);
         self
@@ -118,6 +132,19 @@ impl Filter {
     pub fn spectrum(&self) -> Vec<Arr> {
         let rows = self.table.chunks(self.n);
         rows.map(|row| Arr::from(row.to_vec())).collect()
+    }
+
+    /// The Rust's oracle in a state; the rows are lent to it.
+    pub fn oracle(&self, spectrum: Vec<Arr>, state: &State) -> LowpassOracle {
+        LowpassOracle::with_table(
+            spectrum,
+            (self.nwpass, self.nwstop),
+            (self.lp_sq, self.up_sq, state.sp_sq),
+            state.cursors.map(|c| c.made()),
+            state.idx,
+            (state.fmax, state.kmax),
+            state.more_alt,
+        )
     }
 
     /// What each row gives at the point.
@@ -289,7 +316,7 @@ pub fn sizes(src: &mut Source) -> (usize, usize) {
 
 /// Where the pass band ends and where the stop band begins. Any band may be empty, but mostly
 /// none is.
-fn borders(src: &mut Source, rows: i64) -> (i32, i32) {
+pub fn borders(src: &mut Source, rows: i64) -> (i32, i32) {
     let (a, b) = (src.rng.range(0, rows), src.rng.range(0, rows));
     let (nwpass, nwstop) = match src.rng.below(12) {
         0 => src.rng.pick(&[(0, a), (a, a), (a, rows)]),
@@ -308,7 +335,7 @@ fn borders(src: &mut Source, rows: i64) -> (i32, i32) {
 fn table(src: &mut Source, n: usize, rows: usize) -> (Vec<f64>, Vec<f64>) {
     match src.rng.below(8) {
         0..=2 => (many(src, rows * n, halves), many(src, n, halves)),
-        3 => (waves(n, rows), response(src, n)),
+        3 => (waves(n, rows, |i| evenly(i, rows)), response(src, n)),
         4 | 5 => {
             let table = many(src, rows * n, Source::ordinary);
             (table, many(src, n, Source::ordinary))
@@ -321,12 +348,12 @@ fn table(src: &mut Source, n: usize, rows: usize) -> (Vec<f64>, Vec<f64>) {
     }
 }
 
-/// The rows of a filter: 1 and twice the cosines of an angle's multiples. They come from their
-/// recurrence, since the library's cosine is not the same everywhere.
-fn waves(n: usize, rows: usize) -> Vec<f64> {
+/// The rows of a filter: 1 and twice the cosines of the multiples of an angle, whose cosine is told
+/// for each row. They come from their recurrence, since the library's cosine is not the same everywhere.
+pub fn waves(n: usize, rows: usize, cosine: impl Fn(usize) -> f64) -> Vec<f64> {
     let mut table = Vec::with_capacity(rows * n);
     for i in 0..rows {
-        let c = 1.0 - 2.0 * i as f64 / (rows.max(2) - 1) as f64;
+        let c = cosine(i);
         let (mut before, mut now) = (1.0, c);
         table.push(1.0);
         for _ in 1..n {
@@ -352,4 +379,9 @@ fn zero_row(src: &mut Source, x: &[f64]) -> Vec<f64> {
         row[0] = -row[0];
     }
     row
+}
+
+/// Cosines from 1 down to −1 in equal steps.
+fn evenly(i: usize, rows: usize) -> f64 {
+    1.0 - 2.0 * i as f64 / (rows.max(2) - 1) as f64
 }

@@ -75,74 +75,15 @@ impl<'a> Bench<'a> {
         state: &State,
         call: impl FnOnce(&mut LowpassOracle, &Arr) -> T,
     ) -> (T, State) {
-        let f = self.filter;
-        let mut oracle = LowpassOracle::with_table(
-            take(&mut self.spectrum),
-            (f.nwpass, f.nwstop),
-            (f.lp_sq, f.up_sq, state.sp_sq),
-            state.cursors.map(|c| c.made()),
-            state.idx,
-            (state.fmax, state.kmax),
-            state.more_alt,
-        );
+        let mut oracle = self.filter.oracle(take(&mut self.spectrum), state);
         let answer = call(&mut oracle, &self.x);
-        let rr = oracle.cursors();
-        let after = State {
-            cursors: [0, 1, 2].map(|k| state.cursors[k].moved(rr[k])),
-            idx: [oracle.idx1, oracle.idx2, oracle.idx3],
-            fmax: oracle.fmax,
-            kmax: oracle.kmax,
-            more_alt: oracle.more_alt,
-            sp_sq: oracle.sp_sq,
-        };
+        let after = state.after(&oracle);
         self.spectrum = oracle.spectrum;
         (answer, after)
     }
 
-    /// The cut that the scans alone lead to. It shows which group broke, and at which row and side.
-    fn expected(&self, state: &State) -> Option<Cut> {
-        let f = self.filter;
-        let [pass, middle, stop] = state.cursors;
-        let scans = [
-            (PASS, pass, f.lp_sq, Some(f.up_sq)),
-            (STOP, stop, 0.0, Some(state.sp_sq)),
-            (MIDDLE, middle, 0.0, None),
-        ];
-        for (group, cursor, lower, upper) in scans {
-            let (mut rr, band) = (cursor.made(), (cursor.lo, cursor.hi));
-            let (found, ..) = scan_band_of(&self.spectrum, &self.x, &mut rr, band, lower, upper);
-            if let Some((row, val, over)) = found {
-                let a = self.spectrum[row].data();
-                let (grad, beta) = match upper {
-                    Some(u) if over => (a.to_vec(), ParallelCut(val - u, Some(val - lower))),
-                    _ => (negated(a), ParallelCut(lower - val, upper.map(|u| u - val))),
-                };
-                return Some(Cut {
-                    group,
-                    row: Some(row),
-                    over,
-                    beta,
-                    grad,
-                });
-            }
-        }
-        (self.x[0] < 0.0).then(|| self.sign_cut())
-    }
-
-    fn sign_cut(&self) -> Cut {
-        let mut grad = vec![0.0; self.x.len()];
-        grad[0] = -1.0;
-        Cut {
-            group: SIGN,
-            row: None,
-            over: false,
-            beta: ParallelCut(-self.x[0], None),
-            grad,
-        }
-    }
-
     pub fn assess_feas(&mut self, state: &State) -> (Option<Cut>, State) {
-        let expected = self.expected(state);
+        let expected = expected_cut(self.filter, &self.spectrum, &self.x, state);
         let (found, after) = self.run(state, |oracle, x| oracle.assess_feas(x));
         check(expected.as_ref(), found.as_ref(), &after);
         (expected, after)
@@ -167,12 +108,53 @@ impl<'a> Bench<'a> {
     }
 }
 
+/// The cut that the scans alone lead to. It shows which group broke, and at which row and side.
+pub fn expected_cut(f: &Filter, spectrum: &[Arr], x: &Arr, state: &State) -> Option<Cut> {
+    let [pass, middle, stop] = state.cursors;
+    let scans = [
+        (PASS, pass, f.lp_sq, Some(f.up_sq)),
+        (STOP, stop, 0.0, Some(state.sp_sq)),
+        (MIDDLE, middle, 0.0, None),
+    ];
+    for (group, cursor, lower, upper) in scans {
+        let (mut rr, band) = (cursor.made(), (cursor.lo, cursor.hi));
+        let (found, ..) = scan_band_of(spectrum, x, &mut rr, band, lower, upper);
+        if let Some((row, val, over)) = found {
+            let a = spectrum[row].data();
+            let (grad, beta) = match upper {
+                Some(u) if over => (a.to_vec(), ParallelCut(val - u, Some(val - lower))),
+                _ => (negated(a), ParallelCut(lower - val, upper.map(|u| u - val))),
+            };
+            return Some(Cut {
+                group,
+                row: Some(row),
+                over,
+                beta,
+                grad,
+            });
+        }
+    }
+    (x[0] < 0.0).then(|| sign_cut(x))
+}
+
+fn sign_cut(x: &Arr) -> Cut {
+    let mut grad = vec![0.0; x.len()];
+    grad[0] = -1.0;
+    Cut {
+        group: SIGN,
+        row: None,
+        over: false,
+        beta: ParallelCut(-x[0], None),
+        grad,
+    }
+}
+
 fn negated(row: &[f64]) -> Vec<f64> {
     row.iter().map(|a| -a).collect()
 }
 
 /// The scans and the oracle must show the same.
-fn check(expected: Option<&Cut>, found: Option<&(Arr, ParallelCut)>, after: &State) {
+pub fn check(expected: Option<&Cut>, found: Option<&(Arr, ParallelCut)>, after: &State) {
     match (expected, found) {
         (None, None) => assert!(!after.more_alt),
         (Some(cut), Some(found)) => {
@@ -211,7 +193,7 @@ pub fn give_state(state: &State, case: &mut Case) {
     case.give_floats(&[state.sp_sq]);
 }
 
-fn take_oracle(f: &Filter, case: &mut Case) {
+pub fn take_oracle(f: &Filter, case: &mut Case) {
     case.take(f.n as u64);
     for i in [f.rows(), f.nwpass, f.nwstop] {
         case.take_signed(i);

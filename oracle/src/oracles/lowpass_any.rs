@@ -36,7 +36,7 @@ impl Call {
         call
     }
 
-    fn spoil(&mut self, src: &mut Source) {
+    pub fn spoil(&mut self, src: &mut Source) {
         let which = src.rng.below(3) as usize;
         match src.rng.below(10) {
             0 => self.held.spoil_size(src),
@@ -86,7 +86,7 @@ impl Call {
         }
     }
 
-    fn refusal(&self) -> u64 {
+    pub fn refusal(&self) -> u64 {
         match self.held.refusal() {
             0 if !self.bands_are_legal() => 3,
             0 if !self.filter.state.cursors.iter().all(|c| c.place_is_legal()) => 4,
@@ -107,21 +107,26 @@ impl Call {
 
     /// The words of both calls; `gamma` stands in the second only.
     fn take(&self, gamma: Option<f64>, case: &mut Case) {
-        let f = &self.filter;
         case.take(self.held.n);
         case.take(self.held.rows);
         self.held.take_lengths(case);
+        self.take_settings(case);
+        case.take_floats(gamma.as_slice());
+        self.held.take_slices(case);
+    }
+
+    /// Bands, limits and the oracle's state.
+    pub fn take_settings(&self, case: &mut Case) {
+        let f = &self.filter;
         case.take_signed(f.nwpass);
         case.take_signed(f.nwstop);
         case.take_floats(&[f.lp_sq, f.up_sq, f.state.sp_sq]);
         f.state.cursors.iter().for_each(|c| c.take(case));
         take_rest(&f.state, case);
-        case.take_floats(gamma.as_slice());
-        self.held.take_slices(case);
     }
 
     /// The slices are the filter's own once the call is accepted.
-    fn accept(&mut self) {
+    pub fn accept(&mut self) {
         self.filter.n = self.held.n as usize;
         self.filter.table = self.held.slices[0].clone();
         self.filter.x = self.held.slices[1].clone();

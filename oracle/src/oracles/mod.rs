@@ -1,18 +1,18 @@
 //! The cases of the second layer: cursor, lowpass oracle, factor and witness, LMI oracle,
 //! ellipsoids, and their refusals.
 
-mod cursor;
+pub mod cursor;
 mod ellipsoids;
-mod filter;
+pub mod filter;
 mod ldlt;
-mod limits;
+pub mod limits;
 mod lmi;
-mod lowpass;
-mod lowpass_any;
+pub mod lowpass;
+pub mod lowpass_any;
 mod matrices;
 mod positions;
 mod scan;
-mod spaces;
+pub mod spaces;
 mod tables;
 #[cfg(test)]
 mod tests;

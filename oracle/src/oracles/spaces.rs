@@ -52,13 +52,12 @@ impl Space {
 
     /// The Rust's update.
     pub fn updated(&self, cut: &Cut) -> (CutStatus, Space) {
-        let mq = Arr::from_shape_vec(self.n(), self.n(), self.mq.clone());
-        let xc = Arr::from(self.xc.clone());
-        let scratch = self.scratch.iter().map(|v| Arr::from(v.clone()));
-        let scratch: Vec<Arr> = scratch.collect();
         let by = (Arr::from(cut.grad.clone()), ParallelCut(cut.b0, cut.b1));
         if self.stable {
-            let mut ell = EllStable::new_with_matrix(self.kappa, mq, xc);
+            let mq = Arr::from_shape_vec(self.n(), self.n(), self.mq.clone());
+            let scratch = self.scratch.iter().map(|v| Arr::from(v.clone()));
+            let scratch: Vec<Arr> = scratch.collect();
+            let mut ell = EllStable::new_with_matrix(self.kappa, mq, Arr::from(self.xc.clone()));
             ell.set_tsq(self.tsq);
             ell.set_scratch(scratch.try_into().unwrap());
             let status = apply(&mut ell, cut.how, &by);
@@ -72,19 +71,29 @@ impl Space {
             };
             return (status, after);
         }
-        let mut ell = Ell::new_with_matrix(self.kappa, mq, xc);
-        ell.tsq = self.tsq;
-        ell.set_grad_t(scratch.into_iter().next().unwrap());
+        let mut ell = self.ell();
         let status = apply(&mut ell, cut.how, &by);
-        let after = Space {
+        (status, Space::of_ell(&ell))
+    }
+
+    /// The Rust's `Ell` of these numbers.
+    pub fn ell(&self) -> Ell {
+        let mq = Arr::from_shape_vec(self.n(), self.n(), self.mq.clone());
+        let mut ell = Ell::new_with_matrix(self.kappa, mq, Arr::from(self.xc.clone()));
+        ell.tsq = self.tsq;
+        ell.set_grad_t(Arr::from(self.scratch[0].clone()));
+        ell
+    }
+
+    pub fn of_ell(ell: &Ell) -> Space {
+        Space {
             stable: false,
             kappa: ell.kappa,
             tsq: ell.tsq,
             xc: ell.xc.data().to_vec(),
             mq: ell.mq.data().to_vec(),
             scratch: vec![ell.grad_t().data().to_vec()],
-        };
-        (status, after)
+        }
     }
 
     /// Omega, which shows as tsq where kappa is 1; zero where it has no effect.
@@ -141,7 +150,7 @@ fn size(src: &mut Source) -> usize {
     src.rng.range(2, most) as usize
 }
 
-fn shape(src: &mut Source, stable: bool, n: usize) -> Space {
+pub fn shape(src: &mut Source, stable: bool, n: usize) -> Space {
     let xc = if src.rng.once_in(8) {
         vector(src, n)
     } else {
@@ -165,7 +174,7 @@ fn shape(src: &mut Source, stable: bool, n: usize) -> Space {
     space
 }
 
-fn diagonal(n: usize, mut entry: impl FnMut(usize) -> f64) -> Vec<f64> {
+pub fn diagonal(n: usize, mut entry: impl FnMut(usize) -> f64) -> Vec<f64> {
     let mut mq = vec![0.0; n * n];
     for i in 0..n {
         mq[i * n + i] = entry(i);

@@ -1,70 +1,8 @@
 //! Operations 110 to 114: every reason to refuse is met alone, and together with a later one.
 //! The reasons are taken from the words, apart from the generator's own tests.
 
-use super::{must_be_common, Reader, Relation};
 use crate::lists::{Case, ABSENT};
-
-/// All that is wrong with a call, each with the number of its refusal.
-pub struct Any {
-    faults: Vec<(u64, &'static str)>,
-    /// The words that a refused call leaves as they were.
-    kept: Vec<u64>,
-}
-
-impl Any {
-    pub fn new() -> Self {
-        Any {
-            faults: Vec::new(),
-            kept: Vec::new(),
-        }
-    }
-
-    pub fn test(&mut self, no: u64, name: &'static str, wrong: bool) {
-        if wrong {
-            self.faults.push((no, name));
-        }
-    }
-
-    /// Nothing else is wrong.
-    pub fn only(&self, name: &str) -> bool {
-        self.faults.len() == 1 && self.has(name)
-    }
-
-    pub fn has(&self, name: &str) -> bool {
-        self.faults.iter().any(|fault| fault.1 == name)
-    }
-
-    pub fn accepted(&self) -> bool {
-        self.faults.is_empty()
-    }
-
-    pub fn number(&self) -> u64 {
-        self.faults.iter().map(|fault| fault.0).min().unwrap_or(0)
-    }
-
-    /// Faults of the first number stand beside one of the second.
-    pub fn order(&self, first: u64, second: u64) -> bool {
-        self.number() == first && self.faults.iter().any(|fault| fault.0 == second)
-    }
-
-    /// The lengths are counts before the slices; their names are the faults'.
-    pub fn lengths(&mut self, lens: &[u64], right: &[(&'static str, u128)]) {
-        for (&len, &(name, right)) in lens.iter().zip(right) {
-            self.test(2, name, len as u128 != right);
-        }
-    }
-
-    pub fn keep(&mut self, input: &[u64]) {
-        self.kept.extend(input);
-    }
-
-    /// Reads the rest of the output, which must be what was kept if the call is refused.
-    pub fn end(&self, mut to: Reader) {
-        let rest = to.words(self.kept.len());
-        assert!(self.accepted() || rest == self.kept);
-        to.end();
-    }
-}
+use crate::testing::{must_be_common, Any, Reader, Relation};
 
 fn signed3(from: &mut Reader) -> [i64; 3] {
     [(); 3].map(|_| from.signed() as i64)

@@ -1,8 +1,7 @@
 //! Operations 115 to 122, as `any_lengths` does it.
 
-use super::any_lengths::Any;
-use super::{must_be_common, Reader, Relation};
 use crate::lists::Case;
+use crate::testing::{must_be_common, Any, Reader, Relation};
 
 fn read_factor(case: &Case) -> Any {
     let mut seen = Any::new();
