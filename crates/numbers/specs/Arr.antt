@@ -8,6 +8,7 @@ use lib.Ieee.{Float, nan}
 use Rattle.numbers.specs.F64.{_⊕_, _⊗_, 0ᶠ, −0ᶠ, 1ᶠ}
 use Rattle.numbers.specs.Pick.{pick}
 use Rattle.numbers.specs.declared.refusal.Refusal.the-variants.{Dimension, Length}
+use Rattle.numbers.specs.declared.arr.Four.{Four}
 use Rattle.numbers.specs.declared.arr.Number.{Number}
 use Rattle.numbers.specs.declared.arr.Number.the-variants.{Value, Refused}
 use Rattle.numbers.specs.declared.arr.Written.{Written}
@@ -32,6 +33,20 @@ dotOf (x ∷ a) (y ∷ b) = dotFrom (x ⊗ y) a b
 -- row i of a flat table of rows of n
 abbrev pub rowOf : ℕ → List Float → ℕ → List Float
 rowOf n table i = take n (drop (i * n) table)
+
+-- s, and the products from column j on of the row of n that begins at `at`, with x
+abbrev pub partFrom : ℕ → List Float → List Float → ℕ → ℕ → Float → Float
+partFrom n table x j at s = dotFrom s (drop j (take n (drop at table))) (drop j x)
+
+-- `dot` with x of each of the first four rows of a table whose rows are as long as x: where it ends before, of what there is of the row
+abbrev pub fourOf : List Float → List Float → Four
+fourOf table x =
+    record {
+      a = dotOf (rowOf (length x) table 0) x;
+      b = dotOf (rowOf (length x) table 1) x;
+      c = dotOf (rowOf (length x) table 2) x;
+      d = dotOf (rowOf (length x) table 3) x;
+    }
 
 -- f 0, f 1, .. f (n - 1)
 unfoldable pub tab {ℓ} : {X : Type ℓ} → (ℕ → X) → ℕ → List X

@@ -11,8 +11,8 @@ use borrow.Author.Tests.{ltb-true, ltb-false, leb-true, leb-false, eqb-true, eqb
 use lib.Dec.{leb, ltb, eqb}
 use lib.Ieee.{binary64, Float, nan}
 use lib.Ieee.Fits.{mul-fits}
-use lib.ListN.{length, take, drop, getD, set, replicate, length-append, length-set, length-replicate, drop-of-length-le, getD-replicate, replicate-append-replicate}
-use lib.Seq.{drop-cons, take-suc, set-at, append-snoc, getD-set-same, getD-set-other}
+use lib.ListN.{length, take, drop, getD, set, replicate, length-append, length-drop, length-set, length-replicate, drop-of-length-le, getD-replicate, replicate-append-replicate}
+use lib.Seq.{length-take-le, drop-cons, take-suc, take-take, drop-drop, set-at, append-snoc, getD-take, getD-drop, getD-set-same, getD-set-other}
 use Rattle.numbers.specs.F64.{−0ᶠ, _⊕_, _⊗_, 0ᶠ, 1ᶠ}
 use Rattle.numbers.specs.Arr.{dotOf, isDimension, dotFrom, tab, setDiag, diagOf, tested}
 use Rattle.numbers.specs.Pick.{pick, hit, skip}
@@ -86,6 +86,16 @@ module _ {ℓ} {X : Type ℓ} (f : ℕ → X) (xs₀ : List X) where
     is = rw (h .is, add-one, ← e) (stored i v l);
   }
 
+  pub filled-four : (xs : List X) (i : ℕ) (a b c d : X) → FilledTo f xs₀ xs i → i + 4 ≤ length xs₀ → a ≡ f i → b ≡ f (i + 1) → c ≡ f (i + 2) → d ≡ f (i + 3)
+      → FilledTo f xs₀ (set (set (set (set xs i a) (i + 1) b) (i + 2) c) (i + 3) d) (i + 4)
+  filled-four xs i a b c d h l p q r s =
+      let e₂ : i + 1 + 1 ≡ i + 2 = omega arith in
+      let e₃ : i + 2 + 1 ≡ i + 3 = omega arith in
+      let e₄ : i + 3 + 1 ≡ i + 4 = omega arith in
+      let two = rw e₂ at (filled-turn _ (i + 1) b (filled-turn xs i a h (omega arith) p) (omega arith) q) in
+      let three = rw e₃ at (filled-turn _ (i + 2) c two (omega arith) r) in
+      rw e₄ at (filled-turn _ (i + 3) d three (omega arith) s)
+
   pub filled-done : (xs : List X) (i : ℕ) → FilledTo f xs₀ xs i → length xs₀ ≤ i → xs ≡ tab f (length xs₀)
   filled-done xs i h l =
       let e : i ≡ length xs₀ = omega (arith, h .within) in
@@ -96,6 +106,24 @@ module _ {ℓ} {X : Type ℓ} (f : ℕ → X) (xs₀ : List X) where
 -- row i of m rows of n ends within the table
 pub row-in : (n i m : ℕ) → i < m → i * n + n ≤ m * n
 row-in n i m h = omega (arith, suc-mul i n, mul-le-mul-right n h)
+
+-- ---- the n numbers from `at` on
+
+pub part-long : (n at : ℕ) (l : List Float) → at + n ≤ length l → length (take n (drop at l)) ≡ n
+part-long n at l h = length-take-le n (drop at l) (rw (length-drop at l) (omega arith))
+
+pub part-entry : (n at j : ℕ) (l : List Float) → j < n → getD (take n (drop at l)) j nan ≡ getD l (at + j) nan
+part-entry n at j l h = getD-take n (drop at l) j nan h ∙ getD-drop at l j nan
+
+-- of a part that is m long
+pub part-of-part : (n a at m : ℕ) (l : List Float) → a + n ≤ m → take n (drop a (take m (drop at l))) ≡ take n (drop (at + a) l)
+part-of-part n a at m l h = drop-take n a m (drop at l) h ∙ ap (λ (k : List Float). take n k) (drop-drop a at l)
+  where
+    drop-take : (n a m : ℕ) (l : List Float) → a + n ≤ m → take n (drop a (take m l)) ≡ take n (drop a l)
+    drop-take n zero m l h = take-take n m l (omega arith)
+    drop-take n (suc a) zero l h = absurd (omega arith)
+    drop-take n (suc a) (suc m) [] h = refl
+    drop-take n (suc a) (suc m) (x ∷ l) h = drop-take n a m l (omega arith)
 
 -- equal places with columns below n are in one row
 row-le : (n i j k l : ℕ) → l < n → i * n + j ≡ k * n + l → i ≤ k
@@ -159,6 +187,9 @@ pub eye-at : (n i j : ℕ) → i < n → j < n → getD (diagOf n (replicate n 1
 eye-at n i j h g = diag-at n (replicate n 1ᶠ) i j h g ∙ rw (getD-replicate n i 1ᶠ nan h)
 
 -- ---- the answers of the public calls, by what the tests say
+
+pub dimension-least : (n : ℕ) → isDimension n ≡ true → 2 ≤ n
+dimension-least n h = leb-true 2 n (and-eq-true-iff (leb 2 n) (leb n 32) .0 h .0)
 
 pub dimension-most : (n : ℕ) → isDimension n ≡ true → n ≤ 32
 dimension-most n h = leb-true n 32 (and-eq-true-iff (leb 2 n) (leb n 32) .0 h .1)

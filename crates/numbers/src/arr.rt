@@ -2,9 +2,9 @@
 use crate::refusal::Refusal;
 ghost use mathlib.Core.Path.{_≡_};
 ghost use Prim.Native.Nat.{_+_, _*_, _≤_, _<_, min};
-ghost use lib.ListN.{length, drop, replicate};
+ghost use lib.ListN.{length, take, drop, replicate};
 ghost use Rattle.numbers.specs.F64.{0ᶠ};
-ghost use Rattle.numbers.specs.Arr.{isDimension, dotFrom, dotOf, mvOf, diagOf, setDiag, dot-answer, dot-mv-into-answer, copy-from-answer, eye-answer, from-diag-answer};
+ghost use Rattle.numbers.specs.Arr.{isDimension, dotFrom, dotOf, partFrom, fourOf, mvOf, diagOf, setDiag, dot-answer, dot-mv-into-answer, copy-from-answer, eye-answer, from-diag-answer};
 
 pub enum Number {
     Value(f64),
@@ -14,6 +14,14 @@ pub enum Number {
 pub enum Written {
     Done,
     Refused(Refusal),
+}
+
+// A number for each of four rows.
+pub struct Four {
+    pub a: f64,
+    pub b: f64,
+    pub c: f64,
+    pub d: f64,
 }
 
 // Whether n is a point's dimension.
@@ -29,7 +37,7 @@ fn shorter(a: usize, b: usize) -> usize
     if a < b { a } else { b }
 }
 
-// `start`, and the products from `from` on added left to right.
+// `start`, and the products from `from` on added left to right, two to a turn.
 fn add_products(start: f64, a: &[f64], b: &[f64], from: usize) -> f64
     requires { ⌜ (from ≤ length (now a)) × (from ≤ length (now b)) ⌝ }
     ensures { λ r. ⌜ r ≡ dotFrom start (drop from (now (a .entry))) (drop from (now (b .entry))) ⌝ }
@@ -37,9 +45,13 @@ fn add_products(start: f64, a: &[f64], b: &[f64], from: usize) -> f64
     let common = shorter(a.len(), b.len());
     let mut s = start;
     let mut i = from;
-    while i < common {
+    while i + 1 < common {
         s = s + a[i] * b[i];
-        i += 1;
+        s = s + a[i + 1] * b[i + 1];
+        i += 2;
+    }
+    if i < common {
+        s = s + a[i] * b[i];
     }
     s
 }
@@ -70,17 +82,140 @@ pub fn dot(n: usize, a: &[f64], b: &[f64]) -> Number
     Number::Value(dot_zip(a, b))
 }
 
-// Each row of the matrix, lent as a part that begins at i × n, times x.
-fn rows_into(n: usize, mat: &[f64], x: &[f64], out: &mut [f64])
+// The products of four rows of n, one after the other in `rows`, from `from` on: side by side, so that an addition does not wait for another row's, and
+// each added to its row's start left to right.
+fn add_four(start: Four, n: usize, rows: &[f64], x: &[f64], from: usize) -> Four
+    requires { ⌜ (from ≤ n) × (4 * n ≤ length (now rows)) × (length (now x) ≡ n) ⌝ }
+    ensures { λ r. ⌜ (r .a ≡ partFrom n (now (rows .entry)) (now (x .entry)) from 0 (start .a)) × (r .b ≡ partFrom n (now (rows .entry)) (now (x .entry)) from n (start .b)) × (r .c ≡ partFrom n (now (rows .entry)) (now (x .entry)) from (2 * n) (start .c)) × (r .d ≡ partFrom n (now (rows .entry)) (now (x .entry)) from (3 * n) (start .d)) ⌝ }
+{
+    let mut a = start.a;
+    let mut b = start.b;
+    let mut c = start.c;
+    let mut d = start.d;
+    let mut j = from;
+    while j < n {
+        let y = x[j];
+        a = a + rows[j] * y;
+        b = b + rows[n + j] * y;
+        c = c + rows[2 * n + j] * y;
+        d = d + rows[3 * n + j] * y;
+        j += 1;
+    }
+    Four {
+        a: a,
+        b: b,
+        c: c,
+        d: d,
+    }
+}
+
+// The row as long as x that begins at `at`, or what there is of it, with x.
+fn dot_part(rows: &[f64], x: &[f64], at: usize) -> f64
+    ensures { λ r. ⌜ r ≡ dotOf (take (length (now (x .entry))) (drop at (now (rows .entry)))) (now (x .entry)) ⌝ }
+{
+    let from = shorter(at, rows.len());
+    let end = shorter(from + x.len(), rows.len());
+    dot_zip(&rows[from..end], x)
+}
+
+// `dot_four` where the table may end before its fourth row does.
+fn dot_parts(rows: &[f64], x: &[f64]) -> Four
+    ensures { λ r. ⌜ r ≡ fourOf (now (rows .entry)) (now (x .entry)) ⌝ }
+{
+    let n = x.len();
+    Four {
+        a: dot_part(rows, x, 0),
+        b: dot_part(rows, x, n),
+        c: dot_part(rows, x, 2 * n),
+        d: dot_part(rows, x, 3 * n),
+    }
+}
+
+// `dot_zip` of the first four rows of a table of rows as long as x; where it has fewer, of what there is.
+pub fn dot_four(rows: &[f64], x: &[f64]) -> Four
+    ensures { λ r. ⌜ r ≡ fourOf (now (rows .entry)) (now (x .entry)) ⌝ }
+{
+    let n = x.len();
+    if n == 0 {
+        return dot_parts(rows, x);
+    }
+    if rows.len() < 4 * n {
+        return dot_parts(rows, x);
+    }
+    let y = x[0];
+    let first = Four {
+        a: rows[0] * y,
+        b: rows[n] * y,
+        c: rows[2 * n] * y,
+        d: rows[3 * n] * y,
+    };
+    add_four(first, n, rows, x, 1)
+}
+
+// The row of n that begins at `at` times x, with n 2 or 3.
+fn short_row(n: usize, mat: &[f64], x: &[f64], at: usize) -> f64
+    requires { ⌜ (2 ≤ n) × (n ≤ 3) × (at + n ≤ length (now mat)) × (length (now x) ≡ n) ⌝ }
+    ensures { λ r. ⌜ r ≡ dotFrom 0ᶠ (take n (drop at (now (mat .entry)))) (now (x .entry)) ⌝ }
+{
+    let s = 0.0 + mat[at] * x[0];
+    let t = s + mat[at + 1] * x[1];
+    if n == 2 {
+        return t;
+    }
+    t + mat[at + 2] * x[2]
+}
+
+// A matrix of 2 or 3 times x, with no loop to set up.
+fn short_rows_into(n: usize, mat: &[f64], x: &[f64], out: &mut [f64])
+    requires { ⌜ (2 ≤ n) × (n ≤ 3) × (length (now mat) ≡ n * n) × (length (now x) ≡ n) × (length (now out) ≡ n) ⌝ }
+    ensures { λ _. ⌜ now (out .exit) ≡ mvOf n (now (mat .entry)) (now (x .entry)) ⌝ }
+{
+    out[0] = short_row(n, mat, x, 0);
+    out[1] = short_row(n, mat, x, n);
+    if n == 3 {
+        out[2] = short_row(n, mat, x, 2 * n);
+    }
+}
+
+// Each row of the matrix, lent as a part that begins at i × n, times x: four rows at a time, and the last ones singly.
+fn long_rows_into(n: usize, mat: &[f64], x: &[f64], out: &mut [f64])
     requires { ⌜ (n ≤ 32) × (length (now mat) ≡ n * n) × (length (now x) ≡ n) × (length (now out) ≡ n) ⌝ }
     ensures { λ _. ⌜ now (out .exit) ≡ mvOf n (now (mat .entry)) (now (x .entry)) ⌝ }
 {
+    let zeros = Four {
+        a: 0.0,
+        b: 0.0,
+        c: 0.0,
+        d: 0.0,
+    };
     let mut i = 0;
     while i < n {
         let at = i * n;
-        let end = at + n;
-        out[i] = add_products(0.0, &mat[at..end], x, 0);
-        i += 1;
+        if i + 4 <= n {
+            let end = at + 4 * n;
+            let four = add_four(zeros, n, &mat[at..end], x, 0);
+            out[i] = four.a;
+            out[i + 1] = four.b;
+            out[i + 2] = four.c;
+            out[i + 3] = four.d;
+            i += 4;
+        } else {
+            let end = at + n;
+            out[i] = add_products(0.0, &mat[at..end], x, 0);
+            i += 1;
+        }
+    }
+}
+
+// Each row of the matrix times x.
+fn rows_into(n: usize, mat: &[f64], x: &[f64], out: &mut [f64])
+    requires { ⌜ (2 ≤ n) × (n ≤ 32) × (length (now mat) ≡ n * n) × (length (now x) ≡ n) × (length (now out) ≡ n) ⌝ }
+    ensures { λ _. ⌜ now (out .exit) ≡ mvOf n (now (mat .entry)) (now (x .entry)) ⌝ }
+{
+    if n >= 4 {
+        long_rows_into(n, mat, x, out);
+    } else {
+        short_rows_into(n, mat, x, out);
     }
 }
 

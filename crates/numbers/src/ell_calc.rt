@@ -7,8 +7,9 @@ use crate::cut::Params;
 use crate::refusal::Refusal;
 use crate::sqrt::sqrt;
 ghost use mathlib.Core.Path.{_≡_};
+ghost use lib.Ieee.{lt};
 ghost use Rattle.numbers.specs.EllCalcCore.{core-new, core-parallel-bias-cut-fast, core-parallel-bias-cut, core-parallel-central-cut, core-bias-cut-fast, core-bias-cut, core-central-cut};
-ghost use Rattle.numbers.specs.EllCalc.{new-answer, single-instead, calc-single-or-parallel-bias-cut, calc-single-or-parallel-central-cut, calc-single-or-parallel-q, calc-parallel-impl, calc-parallel-bias-cut, calc-parallel-q, calc-parallel-central-cut, calc-bias-cut, calc-bias-cut-q, calc-central-cut};
+ghost use Rattle.numbers.specs.EllCalc.{new-answer, single-instead, calc-single-or-parallel-bias-cut, calc-single-or-parallel-central-cut, calc-single-or-parallel-q, calc-parallel-bias-cut, calc-parallel-q, calc-parallel-central-cut, calc-bias-cut, calc-bias-cut-q, calc-central-cut};
 
 // What NoSoln and NoEffect carry.
 const NO_SOLN: Answer = Answer {
@@ -162,6 +163,13 @@ pub enum NewEllCalc {
     Refused(Refusal),
 }
 
+// Whether no number lies between the two bounds.
+fn crossed(beta0: f64, beta1: f64) -> bool
+    ensures { λ r. ⌜ r ≡ lt beta1 beta0 ⌝ }
+{
+    beta1 < beta0
+}
+
 impl EllCalc {
     pub fn new(n: usize) -> NewEllCalc
         ensures { λ r. ⌜ r ≡ new-answer n ⌝ }
@@ -212,24 +220,18 @@ impl EllCalc {
         (beta1 > 0.0 && tsq <= beta1 * beta1) || !self.use_parallel_cut
     }
 
-    // `discrete` selects the q form's fallback and its test of eta.
-    fn calc_parallel_impl(self, beta0: f64, beta1: f64, tsq: f64, discrete: bool) -> Answer
-        ensures { λ r. ⌜ r ≡ calc-parallel-impl self beta0 beta1 tsq discrete ⌝ }
+    // The plain form and the q form share no function, so that each is compiled into its caller and its answer is not copied.
+    pub fn calc_parallel_bias_cut(self, beta0: f64, beta1: f64, tsq: f64) -> Answer
+        ensures { λ r. ⌜ r ≡ calc-parallel-bias-cut self beta0 beta1 tsq ⌝ }
     {
-        if beta1 < beta0 {
+        if crossed(beta0, beta1) {
             return NO_SOLN;
         }
         if self.single_instead(beta1, tsq) {
-            if discrete {
-                return self.calc_bias_cut_q(beta0, tsq);
-            }
             return self.calc_bias_cut(beta0, tsq);
         }
         let b0b1 = beta0 * beta1;
         let eta = tsq + self.n_f * b0b1;
-        if discrete && eta <= 0.0 {
-            return NO_EFFECT;
-        }
         let helper = self.helper;
         Answer {
             status: CutStatus::Success,
@@ -237,16 +239,25 @@ impl EllCalc {
         }
     }
 
-    pub fn calc_parallel_bias_cut(self, beta0: f64, beta1: f64, tsq: f64) -> Answer
-        ensures { λ r. ⌜ r ≡ calc-parallel-bias-cut self beta0 beta1 tsq ⌝ }
-    {
-        self.calc_parallel_impl(beta0, beta1, tsq, false)
-    }
-
     pub fn calc_parallel_q(self, beta0: f64, beta1: f64, tsq: f64) -> Answer
         ensures { λ r. ⌜ r ≡ calc-parallel-q self beta0 beta1 tsq ⌝ }
     {
-        self.calc_parallel_impl(beta0, beta1, tsq, true)
+        if crossed(beta0, beta1) {
+            return NO_SOLN;
+        }
+        if self.single_instead(beta1, tsq) {
+            return self.calc_bias_cut_q(beta0, tsq);
+        }
+        let b0b1 = beta0 * beta1;
+        let eta = tsq + self.n_f * b0b1;
+        if eta <= 0.0 {
+            return NO_EFFECT;
+        }
+        let helper = self.helper;
+        Answer {
+            status: CutStatus::Success,
+            params: helper.calc_parallel_bias_cut_fast(beta0, beta1, tsq, b0b1, eta),
+        }
     }
 
     pub fn calc_parallel_central_cut(self, beta1: f64, tsq: f64) -> Answer

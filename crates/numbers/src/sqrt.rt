@@ -1,5 +1,6 @@
 // The square root of IEEE 754, from f64 and its bits (document 01, "Root"; it stands for `f64::sqrt`).
 ghost use mathlib.Core.Path.{_≡_};
+ghost use mathlib.Core.Bool.{true};
 ghost use Prim.Native.Nat.{_+_, _-_, _*_, _≤_, _<_, _^_};
 ghost use lib.Ieee.{binary64, ofBits};
 ghost use Rattle.numbers.specs.Sqrt.{sqrtOf};
@@ -104,6 +105,76 @@ fn root_of(bits: u64) -> f64
     f64::from_bits((s.g + 1) * HIDDEN + (a + 1) / 2)
 }
 
+// A guess at √x from its bits, of which nothing is proved. Half of the pattern gives a y near 1 / √x. Two steps of Newton's method take g to √x
+// and h to 1 / (2 √x), with constants that make the largest error least. The last step adds the remainder x - g * g times h, corrected for h's own
+// error. `top` is g with 26 digits, so that its square is exact, and the remainder nearly so.
+// A step that overflows or loses digits gives a wrong guess, which `is_rounded` refuses.
+fn guess(x: f64, bits: u64) -> f64
+    requires { ⌜ bits < 0x7ff0_0000_0000_0000 ⌝ }
+{
+    let y = f64::from_bits(0x5fe4_0000_0000_0000 - bits / 2);
+    let large = f64::from_bits(0x21b7_a000_0000_0000 + bits / 2);
+    let g0 = x * y;
+    let r1 = 1.68191 - g0 * (0.70395 * y);
+    let g1 = g0 * r1;
+    let h1 = 0.5 * y * r1;
+    let top = g1 + large - large;
+    let rest = x - top * top;
+    let r2 = 1.5000003 - g1 * h1;
+    let g = g1 * r2;
+    let h = h1 * r2;
+    let left = rest - (g - top) * (g + top);
+    g + left * (1.5 * h * (1.1666666666667867 - g * h))
+}
+
+// Whether q is √(m × 2 ^ 52) rounded: q² - q < m × 2 ^ 52 ≤ q² + q. With q = high × 2 ^ 27 + low the difference left - right is
+// m × 2 ^ 52 + q - q²; each test before it refuses what is too far off to be held in 64 bits.
+fn is_rounded(m: u64, q: u64) -> bool
+    requires { ⌜ (m < 2 ^ 54) × (q < 2 ^ 53) ⌝ }
+    ensures { λ r. ⌜ (r ≡ true → (q * q < m * 2 ^ 52 + q) × (m * 2 ^ 52 ≤ q * q + q)) ⌝ }
+{
+    let high = q / 0x800_0000;
+    let low = q % 0x800_0000;
+    let square = 4 * (high * high);
+    if m + 2 < square {
+        return false;
+    }
+    let a = m + 2 - square;
+    if a > 0x4000_0000 {
+        return false;
+    }
+    let cross = high * low;
+    if a * 0x100_0000 < cross {
+        return false;
+    }
+    let b = a * 0x100_0000 - cross;
+    if b > 0x8000_0000 {
+        return false;
+    }
+    let left = b * 0x1000_0000 + q;
+    let right = 0x20_0000_0000_0000 + low * low;
+    (right < left) & (left <= right + 2 * q)
+}
+
+// The same root for x, the number with these bits: the guess, where it is the rounded root.
+fn guessed_root(x: f64, bits: u64) -> f64
+    requires { ⌜ (0 < bits) × (bits < 0x7ff0_0000_0000_0000) ⌝ }
+    ensures { λ r. ⌜ r ≡ sqrtOf (ofBits binary64 bits) ⌝ }
+{
+    let s = square_of(bits);
+    let r = guess(x, bits);
+    if r == r {
+        let w = f64::to_bits(r);
+        if w / HIDDEN == s.g + 2 {
+            if is_rounded(s.m, HIDDEN + w % HIDDEN) {
+                return f64::from_bits(w);
+            }
+        }
+    }
+    root_of(bits)
+}
+
+// A normal number above zero comes first, being the usual case. What is left at the end is a zero or plus infinity.
 pub fn sqrt(x: f64) -> f64
     ensures { λ r. ⌜ r ≡ sqrtOf x ⌝ }
 {
@@ -111,14 +182,14 @@ pub fn sqrt(x: f64) -> f64
         return 0.0 / 0.0;
     }
     let bits = f64::to_bits(x);
-    if bits % SIGN == 0 {
-        return x;
+    if (HIDDEN <= bits) & (bits < INFINITY) {
+        return guessed_root(x, bits);
     }
-    if SIGN <= bits {
+    if (0 < bits) & (bits < INFINITY) {
+        return root_of(bits);
+    }
+    if SIGN < bits {
         return 0.0 / 0.0;
     }
-    if bits == INFINITY {
-        return x;
-    }
-    root_of(bits)
+    x
 }

@@ -1,13 +1,15 @@
 -- The root from a number's bit pattern. Assumes nothing.
 use mathlib.Core.Path.{_≡_, refl, sym, ap, _∙_, subst}
-use mathlib.Core.Bool.{Bool, true, false, not, cond, true≢false}
+use mathlib.Core.Logic.{_⊎_, inl, inr}
+use mathlib.Core.Bool.{Bool, true, false, not, _&&_, cond, true≢false}
 use Prim.Native.Nat.{ℕ, zero, suc, _+_, _-_, _*_, _/_, _%_, _^_, _≤_, _<_}
 use native.Mathlib.Nat.{mul-one, mul-pos}
 use native.Mathlib.Omega.{arith}
-use lib.Dec.{T, eqb, ltb}
+use lib.Dec.{T, eqb, leb, ltb, leb→le, ltb→lt, nltb→le}
+use mir.Facts.{and-yes, and-no}
 use lib.Pow.{pow-pos}
 use borrow.Author.Tests.{le-leb, le-ltb, ltb-false}
-use lib.Ieee.{Float, nan, inf, fin, binary64, odd, div, ne, fits, ofFields, ofBits, toBits, isNan, nanBits}
+use lib.Ieee.{Float, nan, inf, fin, binary64, odd, div, eq, ne, fits, ofFields, ofBits, toBits, isNan, nanBits}
 use lib.Ieee.Bits.{ofBits-toBits, toBits-lt, nanBits-is, nanBits-above, is-false}
 use lib.Ieee.Compare.{differs-from-itself, nan-differs}
 use lib.Ieee.Exact.{odd-sign}
@@ -150,6 +152,12 @@ not-a-nan nan h = absurd (true≢false (sym nan-differs ∙ h))
 not-a-nan (inf s) h = tt
 not-a-nan (fin s m e) h = tt
 
+pub equal-number : (x : Float) → eq x x ≡ true → T (not (isNan x))
+unfolding eq isNan
+equal-number nan h = absurd (true≢false (sym h))
+equal-number (inf s) h = tt
+equal-number (fin s m e) h = tt
+
 quotient : div binary64 (ofBits binary64 0) (ofBits binary64 0) ≡ nan
 unfolding ofBits div
 quotient = refl
@@ -166,21 +174,48 @@ module _ (x : Float) (f : T (fits binary64 x)) where
   same : ofBits binary64 (toBits binary64 x) ≡ x
   same = ofBits-toBits binary64 x f
 
-  pub zero-root : toBits binary64 x % 2 ^ 63 ≡ 0 → x ≡ sqrtOf x
+  zero-root : toBits binary64 x % 2 ^ 63 ≡ 0 → x ≡ sqrtOf x
   zero-root h = sym (subst (λ (y : Float). sqrtOf y ≡ y) same (root-of-zero (toBits binary64 x) (toBits-lt binary64 x f) h))
 
-  pub negative-root : (toBits binary64 x % 2 ^ 63 ≡ 0 → ⊥) → 2 ^ 63 ≤ toBits binary64 x → div binary64 (ofBits binary64 0) (ofBits binary64 0) ≡ sqrtOf x
-  negative-root n h = quotient ∙ sym (subst (λ (y : Float). sqrtOf y ≡ nan) same (root-of-negative (toBits binary64 x) h n))
+  pub negative-root : 2 ^ 63 < toBits binary64 x → div binary64 (ofBits binary64 0) (ofBits binary64 0) ≡ sqrtOf x
+  negative-root h =
+      let l = toBits-lt binary64 x f in
+      quotient ∙ sym (subst (λ (y : Float). sqrtOf y ≡ nan) same (root-of-negative (toBits binary64 x) (omega arith) (λ (z : toBits binary64 x % 2 ^ 63 ≡ 0). omega arith)))
 
-  pub infinity-root : toBits binary64 x ≡ 0x7ff0_0000_0000_0000 → x ≡ sqrtOf x
+  infinity-root : toBits binary64 x ≡ 0x7ff0_0000_0000_0000 → x ≡ sqrtOf x
   infinity-root h = sym (subst (λ (y : Float). sqrtOf y ≡ y) (ap (ofBits binary64) (sym h) ∙ same) root-of-infinity)
 
   pub positive-root : (r : Float) → r ≡ sqrtOf (ofBits binary64 (toBits binary64 x)) → r ≡ sqrtOf x
   positive-root r h = h ∙ ap sqrtOf same
 
-  pub positive-bits : ne x x ≡ false → (toBits binary64 x % 2 ^ 63 ≡ 0 → ⊥) → toBits binary64 x < 2 ^ 63 → (toBits binary64 x ≡ 0x7ff0_0000_0000_0000 → ⊥) → (0 < toBits binary64 x) × (toBits binary64 x < 0x7ff0_0000_0000_0000)
-  positive-bits e n l i =
+  -- a number's pattern without its sign is at most infinity's
+  number-bits : ne x x ≡ false → toBits binary64 x % 2 ^ 63 ≤ 0x7ff0_0000_0000_0000
+  number-bits e =
       let b = toBits binary64 x in
-      let t : ltb 0x7ff0_0000_0000_0000 (b % 2 ^ 63) ≡ false = sym (nanBits-above binary64 b) ∙ nanBits-is binary64 b ∙ ap isNan same ∙ is-false (isNan x) (not-a-nan x e) in
-      let m = ltb-false 0x7ff0_0000_0000_0000 (b % 2 ^ 63) t in
-      (omega (arith, n), omega (arith, i))
+      ltb-false 0x7ff0_0000_0000_0000 (b % 2 ^ 63) (sym (nanBits-above binary64 b) ∙ nanBits-is binary64 b ∙ ap isNan same ∙ is-false (isNan x) (not-a-nan x e))
+
+  -- zeros and plus infinity
+  pub other-root : ne x x ≡ false → (ltb 0 (toBits binary64 x) && ltb (toBits binary64 x) 0x7ff0_0000_0000_0000) ≡ false → toBits binary64 x ≤ 2 ^ 63 → x ≡ sqrtOf x
+  other-root e n l = go (and-no (ltb 0 b) (ltb b 0x7ff0_0000_0000_0000) (subst (λ (t : Bool). T (not t)) (sym n) tt))
+    where
+      b : ℕ
+      b = toBits binary64 x
+
+      at : (s : ℕ) → b / 2 ^ 63 ≡ s → 0x7ff0_0000_0000_0000 ≤ b → x ≡ sqrtOf x
+      at zero h k = let m = number-bits e in infinity-root (omega (arith, m, h, k))
+      at (suc s) h k = zero-root (omega (arith, h, k, l))
+
+      go : T (not (ltb 0 b)) ⊎ T (not (ltb b 0x7ff0_0000_0000_0000)) → x ≡ sqrtOf x
+      go (inl h) = zero-root (omega (arith, nltb→le 0 b h))
+      go (inr h) = at (b / 2 ^ 63) refl (nltb→le b 0x7ff0_0000_0000_0000 h)
+
+-- the tests of a pattern
+pub positive-bits : (b : ℕ) → (ltb 0 b && ltb b 0x7ff0_0000_0000_0000) ≡ true → (0 < b) × (b < 0x7ff0_0000_0000_0000)
+positive-bits b h =
+    let p = and-yes (ltb 0 b) (ltb b 0x7ff0_0000_0000_0000) (subst T (sym h) tt) in
+    (ltb→lt 0 b (p .0), ltb→lt b 0x7ff0_0000_0000_0000 (p .1))
+
+pub normal-bits : (b : ℕ) → (leb (2 ^ 52) b && ltb b 0x7ff0_0000_0000_0000) ≡ true → (0 < b) × (b < 0x7ff0_0000_0000_0000)
+normal-bits b h =
+    let p = and-yes (leb (2 ^ 52) b) (ltb b 0x7ff0_0000_0000_0000) (subst T (sym h) tt) in
+    (omega (arith, leb→le (2 ^ 52) b (p .0)), ltb→lt b 0x7ff0_0000_0000_0000 (p .1))

@@ -2,7 +2,7 @@
 use native.Mathlib.Omega.{arith}
 use borrow.Author.Tests.{ne-eqb, eq-eqb}
 use borrow.Author.Needs.{needs}
-use Rattle.numbers.specs.ArrLaws.{wrong-dimension, wrong-length, accepted}
+use Rattle.numbers.specs.ArrLaws.{dimension-least, dimension-most, wrong-dimension, wrong-length, accepted}
 use Rattle.numbers.proofs.arr.Laws.{no-dimension, a-dimension, small, square, no-left, no-right, both}
 use Rattle.numbers.proofs.arr.dot_mv_into.Statement.{statement}
 use Rattle.numbers.proofs.arr.dot_mv_into.Tie as tie
@@ -47,7 +47,8 @@ rows-into-requires : tie.Need-rows-into-requires
 rows-into-requires c κs =
     let n = c .before .before .before .before .before .before .before .before .before .args .n in
     let d = c .before .before .before .before .before .is-dimension in
-    (small n (d .result) (d .ensures) (c .before .before .before .before .if1 .left), search needs, search needs, search needs)
+    let known = a-dimension n (d .result) (d .ensures) (c .before .before .before .before .if1 .left) in
+    (dimension-least n known, dimension-most n known, search needs, search needs, search needs)
 
 same-length : tie.Need-same-length
 same-length c = search needs
