@@ -53,9 +53,21 @@ eq-bits a b fa fb = go (eqb (ofZ w32 a) (ofZ w32 b)) refl
 pub pos-fits : (n : ℕ) → n ≤ 1024 → SFits w32 (pos n)
 pos-fits n h = record { sfits = omega arith }
 
+pub before-fits : (n : ℕ) → n ≤ 1024 → SFits w32 (predℤ (pos n))
+before-fits zero h = record { sfits = omega arith }
+before-fits (suc n) h = record { sfits = omega arith }
+
 -- a number that is not negative, as a `usize`
 pub cast-fits : (z : ℤ) → T (nonNeg z) → SFits w32 z → T (nonNeg (read z)) × Fits w64 (natAbs (read z))
 cast-fits z t f = rw (toZ-ofZ f) (t, fits-natAbs tt f)
+
+-- a row number
+module _ (z : ℤ) (k : ℕ) (e : z ≡ pos k) (f : SFits w32 z) where
+  pub as-row-fits : T (nonNeg (read z)) × Fits w64 (natAbs (read z))
+  as-row-fits = cast-fits z (rw e tt) f
+
+  pub as-row : z ≡ pos (natAbs (read z))
+  as-row = e ∙ ap pos (sym (ap natAbs (toZ-ofZ f ∙ e)))
 
 -- ---- a legal cursor
 
@@ -67,11 +79,7 @@ module _ (c : RoundRobin) (L : Legal c) where
   hi-fits = subst (SFits w32) (sym (L .hi-is)) (pos-fits (L .past) (L .small))
 
   pub cur-fits : SFits w32 (c .cur)
-  cur-fits = subst (SFits w32) (sym (L .cur-is)) (go (L .next) (omega (arith, L .below, L .small)))
-    where
-      go : (n : ℕ) → n ≤ 1024 → SFits w32 (predℤ (pos n))
-      go zero h = record { sfits = omega arith }
-      go (suc n) h = record { sfits = omega arith }
+  cur-fits = subst (SFits w32) (sym (L .cur-is)) (before-fits (L .next) (omega (arith, L .below, L .small)))
 
   pub next-is : c .cur +ℤ pos 1 ≡ pos (L .next)
   next-is = +ℤ-one (c .cur) ∙ ap sucℤ (L .cur-is) ∙ suc-pred (pos (L .next))

@@ -13,6 +13,7 @@ pub mod EllStable
 pub mod RoundRobinLaws
 pub mod FloatOrder
 pub mod ScanLaws
+pub mod ScanRun
 pub mod AssessLaws
 pub mod JudgeLaws
 pub mod CursorRule

@@ -1,10 +1,12 @@
 // The ellipsoid { x | (x − xc)ᵀ mq⁻¹ (x − xc) ≤ kappa } (ell.rs). The caller lends the matrix, the centre and the scratch.
 use crate::ell_common::CutStrategy;
+use crate::ell_common::Outcome;
 use crate::ell_common::Update;
 use crate::ell_common::is_success;
 use crate::ell_common::is_tiny;
 use crate::ell_common::lengths_fit;
 use crate::ell_common::move_centre;
+use crate::ell_common::outcome_of;
 use numbers::arr::dot_mv_into;
 use numbers::arr::dot_zip;
 use numbers::arr::is_dimension;
@@ -18,9 +20,9 @@ ghost use mathlib.Core.Bool.{true};
 ghost use Prim.Native.Nat.{_*_, _≤_, _<_};
 ghost use lib.ListN.{length};
 ghost use Rattle.numbers.specs.Arr.{isDimension};
-ghost use Rattle.oracles.specs.declared.ell_common.Update.the-variants.{Refused};
 ghost use Rattle.oracles.specs.Ell.{new-ell-answer, rank-one, with-tsq, ell-said, ell-updateOf, ell-update-answer};
-ghost use Rattle.oracles.specs.EllLaws.{row-lowered, all-lowered, row-mirrored, mirrored};
+ghost use Rattle.oracles.specs.EllCommonLaws.{answerOf};
+ghost use Rattle.oracles.specs.EllLaws.{updated, row-lowered, all-lowered, row-mirrored, mirrored};
 
 // What is kept beside the matrix mq and the centre xc.
 pub struct Ell {
@@ -33,6 +35,13 @@ pub struct Ell {
 pub enum NewEll {
     Made(Ell),
     Refused(Refusal),
+}
+
+// What an update changes, and what it came to. The outcome lies between the numbers so that they are not read as a pair.
+pub struct Moved {
+    pub kappa: f64,
+    pub outcome: Outcome,
+    pub tsq: f64,
 }
 
 pub struct EllUpdate {
@@ -113,29 +122,38 @@ impl Ell {
         }
     }
 
-    // The same ellipsoid with another kappa and tsq, and a status.
-    fn said(self, kappa: f64, tsq: f64, status: CutStatus) -> EllUpdate
-        ensures { λ r. ⌜ r ≡ ell-said (with-tsq self kappa tsq) status ⌝ }
+    // The same ellipsoid with the kappa and tsq of an update.
+    pub fn after(self, moved: Moved) -> Ell
+        ensures { λ r. ⌜ r ≡ with-tsq self (moved .kappa) (moved .tsq) ⌝ }
     {
         let helper = self.helper;
-        EllUpdate {
-            ell: Ell {
-                ndim: self.ndim,
-                kappa: kappa,
-                helper: helper,
-                tsq: tsq,
-            },
-            answer: Update::Status(status),
+        Ell {
+            ndim: self.ndim,
+            kappa: moved.kappa,
+            helper: helper,
+            tsq: moved.tsq,
         }
     }
 
-    // The same ellipsoid, and why a call is refused.
-    fn refused(self, why: Refusal) -> EllUpdate
-        ensures { λ r. ⌜ r ≡ record { ell = self; answer = Refused why } ⌝ }
+    // Another kappa and tsq, and a status.
+    fn said(self, kappa: f64, tsq: f64, status: CutStatus) -> Moved
+        ensures { λ r. ⌜ updated self r ≡ ell-said (with-tsq self kappa tsq) status ⌝ }
     {
-        EllUpdate {
-            ell: self,
-            answer: Update::Refused(why),
+        Moved {
+            kappa: kappa,
+            outcome: outcome_of(status),
+            tsq: tsq,
+        }
+    }
+
+    // Nothing changed, and why a call is refused.
+    fn refused(self, outcome: Outcome) -> Moved
+        ensures { λ r. ⌜ updated self r ≡ record { ell = self; answer = answerOf outcome } ⌝ }
+    {
+        Moved {
+            kappa: self.kappa,
+            outcome: outcome,
+            tsq: self.tsq,
         }
     }
 
@@ -148,9 +166,9 @@ impl Ell {
         mq: &mut [f64],
         xc: &mut [f64],
         grad_t: &mut [f64],
-    ) -> EllUpdate
+    ) -> Moved
         requires { ⌜ (isDimension (self .ndim) ≡ true) × (length (now grad) ≡ self .ndim) × (length (now mq) ≡ self .ndim * self .ndim) × (length (now xc) ≡ self .ndim) × (length (now «grad_t») ≡ self .ndim) ⌝ }
-        ensures { λ r. ⌜ (r, record { mq = now (mq .exit); xc = now (xc .exit); grad-t = now («grad_t» .exit) }) ≡ ell-updateOf self strategy (now (grad .entry)) beta (record { mq = now (mq .entry); xc = now (xc .entry); grad-t = now («grad_t» .entry) }) ⌝ }
+        ensures { λ r. ⌜ (updated self r, record { mq = now (mq .exit); xc = now (xc .exit); grad-t = now («grad_t» .exit) }) ≡ ell-updateOf self strategy (now (grad .entry)) beta (record { mq = now (mq .entry); xc = now (xc .entry); grad-t = now («grad_t» .entry) }) ⌝ }
     {
         let n = self.ndim;
         dot_mv_into(n, mq, grad, grad_t);
@@ -171,6 +189,31 @@ impl Ell {
         self.said(self.kappa * params.delta, tsq, status)
     }
 
+    // What `update_core` changes. It is called by itself where a run keeps the rest: the ellipsoid is not copied there.
+    pub fn advance(
+        self,
+        strategy: CutStrategy,
+        grad: &[f64],
+        beta: CutChoice,
+        mq: &mut [f64],
+        xc: &mut [f64],
+        grad_t: &mut [f64],
+    ) -> Moved
+        ensures { λ r. ⌜ (updated self r, record { mq = now (mq .exit); xc = now (xc .exit); grad-t = now («grad_t» .exit) }) ≡ ell-update-answer self strategy (now (grad .entry)) beta (record { mq = now (mq .entry); xc = now (xc .entry); grad-t = now («grad_t» .entry) }) ⌝ }
+    {
+        let n = self.ndim;
+        if !is_dimension(n) {
+            return self.refused(Outcome::Dimension);
+        }
+        if !lengths_fit(n, grad.len(), mq.len(), xc.len()) {
+            return self.refused(Outcome::Length);
+        }
+        if grad_t.len() != n {
+            return self.refused(Outcome::Length);
+        }
+        self.update(strategy, grad, beta, mq, xc, grad_t)
+    }
+
     // Cuts the ellipsoid by the half-space of `grad` and `beta`, or by the slab between two; grad_t is scratch.
     pub fn update_core(
         self,
@@ -183,16 +226,11 @@ impl Ell {
     ) -> EllUpdate
         ensures { λ r. ⌜ (r, record { mq = now (mq .exit); xc = now (xc .exit); grad-t = now («grad_t» .exit) }) ≡ ell-update-answer self strategy (now (grad .entry)) beta (record { mq = now (mq .entry); xc = now (xc .entry); grad-t = now («grad_t» .entry) }) ⌝ }
     {
-        let n = self.ndim;
-        if !is_dimension(n) {
-            return self.refused(Refusal::Dimension);
+        let moved = self.advance(strategy, grad, beta, mq, xc, grad_t);
+        let outcome = moved.outcome;
+        EllUpdate {
+            ell: self.after(moved),
+            answer: outcome.answer(),
         }
-        if !lengths_fit(n, grad.len(), mq.len(), xc.len()) {
-            return self.refused(Refusal::Length);
-        }
-        if grad_t.len() != n {
-            return self.refused(Refusal::Length);
-        }
-        self.update(strategy, grad, beta, mq, xc, grad_t)
     }
 }

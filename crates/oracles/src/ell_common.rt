@@ -9,7 +9,9 @@ ghost use mathlib.Core.Bool.{_&&_};
 ghost use Prim.Native.Nat.{_*_, _≤_};
 ghost use lib.Dec.{eqb};
 ghost use lib.ListN.{length};
+ghost use Rattle.oracles.specs.declared.ell_common.Update.the-variants.{Status};
 ghost use Rattle.oracles.specs.EllCommon.{calcOf, is-tiny, is-success, centreOf};
+ghost use Rattle.oracles.specs.EllCommonLaws.{answerOf};
 
 // Which calculator of `EllCalc` an update uses.
 pub enum CutStrategy {
@@ -22,6 +24,39 @@ pub enum CutStrategy {
 pub enum Update {
     Status(CutStatus),
     Refused(Refusal),
+}
+
+// The same in one byte, as the inner functions hand it on.
+pub enum Outcome {
+    Success,
+    NoSoln,
+    NoEffect,
+    Dimension,
+    Length,
+}
+
+impl Outcome {
+    pub fn answer(self) -> Update
+        ensures { λ r. ⌜ r ≡ answerOf self ⌝ }
+    {
+        match self {
+            Outcome::Success => Update::Status(CutStatus::Success),
+            Outcome::NoSoln => Update::Status(CutStatus::NoSoln),
+            Outcome::NoEffect => Update::Status(CutStatus::NoEffect),
+            Outcome::Dimension => Update::Refused(Refusal::Dimension),
+            Outcome::Length => Update::Refused(Refusal::Length),
+        }
+    }
+}
+
+pub(crate) fn outcome_of(status: CutStatus) -> Outcome
+    ensures { λ r. ⌜ answerOf r ≡ Status status ⌝ }
+{
+    match status {
+        CutStatus::Success => Outcome::Success,
+        CutStatus::NoSoln => Outcome::NoSoln,
+        CutStatus::NoEffect => Outcome::NoEffect,
+    }
 }
 
 // `f64::MIN_POSITIVE`, 2⁻¹⁰²².

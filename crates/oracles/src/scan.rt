@@ -1,19 +1,23 @@
 // `scan_band` of lowpass_oracle.rs: the rows of a band in turn, from where its cursor stands.
 use crate::round_robin::RoundRobin;
 use crate::round_robin::is_band;
+use numbers::arr::Four;
+use numbers::arr::dot_four;
 use numbers::arr::dot_zip;
 use numbers::arr::is_dimension;
 use numbers::refusal::Refusal;
 ghost use mathlib.Core.Path.{_≡_};
 ghost use Prim.Native.Nat.{_+_, _*_, _≤_, _<_};
-ghost use lib.Dec.{T, eqb};
+ghost use lib.Dec.{eqb};
 ghost use mathlib.Core.Bool.{_&&_};
-ghost use lib.IntN.{natAbs, _-ℤ_};
-ghost use lib.Signed.{nonNeg};
+ghost use mathlib.Core.Logic.{_⊎_};
+ghost use lib.IntN.{pos, predℤ};
 ghost use lib.ListN.{length};
 ghost use Rattle.oracles.specs.RoundRobin.{moved, Legal};
 ghost use Rattle.oracles.specs.declared.scan.ScanAnswer.the-variants.{Refused};
-ghost use Rattle.oracles.specs.Scan.{valueOf, isOver, isRows, band-fits, scanOf, scan-band-answer, Ready, Scannable};
+ghost use Rattle.numbers.specs.Pick.{pick};
+ghost use Rattle.oracles.specs.ScanRun.{limitOf, isBroken, valuesOf, judgedOf, runOf};
+ghost use Rattle.oracles.specs.Scan.{valueOf, isRows, band-fits, scanOf, scan-band-answer, Ready, Scannable};
 
 // The upper limit of a band, where it has one.
 pub enum Upper {
@@ -41,9 +45,9 @@ pub enum ScanAnswer {
 }
 
 // An answer, and the cursor after it.
-struct ScanEnd {
-    answer: ScanAnswer,
-    cursor: RoundRobin,
+pub struct ScanEnd {
+    pub answer: ScanAnswer,
+    pub cursor: RoundRobin,
 }
 
 // A scan, and the cursor after it.
@@ -59,10 +63,13 @@ pub fn is_rows(rows: usize) -> bool
     (1 <= rows) & (rows <= 1024)
 }
 
-// Whether the table has `rows` rows of n, and the point n numbers. By division, since rows × n may be beyond the machine's numbers.
+// Whether the table has `rows` rows of n, and the point n numbers. By division where rows × n may be beyond the machine's numbers.
 pub fn table_fits(n: usize, rows: usize, table: usize, x: usize) -> bool
     ensures { λ r. ⌜ r ≡ (eqb table (rows * n) && eqb x n) ⌝ }
 {
+    if (n <= 65536) & (rows <= 65536) {
+        return (table == rows * n) & (x == n);
+    }
     if n == 0 {
         return (table == 0) & (x == 0);
     }
@@ -79,14 +86,62 @@ fn band_fits(rows: usize, lo: i32, hi: i32) -> bool
     is_band(lo, hi) & (hi <= rows as i32)
 }
 
-// Whether a value lies above the upper limit.
-fn is_over(upper: Upper, value: f64) -> bool
-    ensures { λ r. ⌜ r ≡ isOver upper value ⌝ }
+// The upper limit as a number: infinity, above which no value lies, where there is none.
+fn limit_of(upper: Upper) -> f64
+    ensures { λ r. ⌜ r ≡ limitOf upper ⌝ }
 {
     match upper {
-        Upper::Absent => false,
-        Upper::At(u) => value > u,
+        Upper::Absent => 1.0 / 0.0,
+        Upper::At(u) => u,
     }
+}
+
+fn is_broken(viol: Violation) -> bool
+    ensures { λ r. ⌜ r ≡ isBroken viol ⌝ }
+{
+    match viol {
+        Violation::Nothing => false,
+        Violation::Broken(_, _, _) => true,
+    }
+}
+
+// The cursor in row numbers: its band's first row.
+fn band_from(rr: RoundRobin) -> usize
+    requires { ⌜ Legal rr ⌝ }
+    ensures { λ r. ⌜ rr .lo ≡ pos r ⌝ }
+{
+    rr.lo as usize
+}
+
+// The row after its band's last.
+fn band_past(rr: RoundRobin) -> usize
+    requires { ⌜ Legal rr ⌝ }
+    ensures { λ r. ⌜ rr .hi ≡ pos r ⌝ }
+{
+    rr.hi as usize
+}
+
+// The row after the one where it stands.
+fn row_after(rr: RoundRobin) -> usize
+    requires { ⌜ Legal rr ⌝ }
+    ensures { λ r. ⌜ rr .cur ≡ predℤ (pos r) ⌝ }
+{
+    (rr.cur + 1) as usize
+}
+
+// Where a cursor stands whose next row is `next`.
+fn row_before(next: usize) -> i32
+    requires { ⌜ next ≤ 1024 ⌝ }
+    ensures { λ r. ⌜ r ≡ predℤ (pos next) ⌝ }
+{
+    next as i32 - 1
+}
+
+// The band's end turns into its start.
+fn turned(next: usize, lo: usize, hi: usize) -> usize
+    ensures { λ r. ⌜ r ≡ pick (eqb next hi) lo next ⌝ }
+{
+    if next == hi { lo } else { next }
 }
 
 // Row i's value: the row is the part of the table that begins at i × n.
@@ -99,20 +154,124 @@ fn row_value(n: usize, table: &[f64], x: &[f64], i: usize) -> f64
     dot_zip(&table[at..end], x)
 }
 
-// The row where the cursor stands.
-fn row_at(rr: RoundRobin) -> usize
-    requires { ⌜ T (nonNeg (rr .cur)) ⌝ }
-    ensures { λ r. ⌜ r ≡ natAbs (rr .cur) ⌝ }
+// The values of the four rows from row i on.
+fn four_values(n: usize, table: &[f64], x: &[f64], i: usize) -> Four
+    requires { ⌜ (i * n + 4 * n ≤ length (now table)) × (length (now x) ≡ n) ⌝ }
+    ensures { λ r. ⌜ r ≡ valuesOf n (now (table .entry)) (now (x .entry)) i ⌝ }
 {
-    rr.cur as usize
+    let at = i * n;
+    let end = at + 4 * n;
+    dot_four(&table[at..end], x)
 }
 
-// How many rows the cursor's band has.
-fn band_rows(rr: RoundRobin) -> usize
-    requires { ⌜ Legal rr ⌝ }
-    ensures { λ r. ⌜ r ≡ natAbs (rr .hi -ℤ rr .lo) ⌝ }
+// A row's value against the limits, and the largest value so far with this one.
+fn judge(row: usize, value: f64, lower: f64, limit: f64, fmax: f64, kmax: i32) -> Scan
+    requires { ⌜ row < 1024 ⌝ }
+    ensures { λ r. ⌜ r ≡ judgedOf lower limit row value fmax kmax ⌝ }
 {
-    (rr.hi - rr.lo) as usize
+    let last = row as i32;
+    if value > limit {
+        return Scan {
+            viol: Violation::Broken(row, value, true),
+            fmax: fmax,
+            kmax: kmax,
+            last: last,
+        };
+    }
+    if value < lower {
+        return Scan {
+            viol: Violation::Broken(row, value, false),
+            fmax: fmax,
+            kmax: kmax,
+            last: last,
+        };
+    }
+    if value > fmax {
+        return Scan {
+            viol: Violation::Nothing,
+            fmax: value,
+            kmax: last,
+            last: last,
+        };
+    }
+    Scan {
+        viol: Violation::Nothing,
+        fmax: fmax,
+        kmax: kmax,
+        last: last,
+    }
+}
+
+// Four rows, whose values are had side by side, judged in turn up to the first that breaks a limit.
+fn look_at_four(
+    n: usize,
+    table: &[f64],
+    x: &[f64],
+    row: usize,
+    lower: f64,
+    limit: f64,
+    fmax: f64,
+    kmax: i32,
+) -> Scan
+    requires { ⌜ (row + 4 ≤ 1024) × (row * n + 4 * n ≤ length (now table)) × (length (now x) ≡ n) ⌝ }
+    ensures { λ r. ⌜ r ≡ runOf n (now (table .entry)) (now (x .entry)) lower limit 4 row fmax kmax ⌝ }
+{
+    let values = four_values(n, table, x, row);
+    let s = judge(row, values.a, lower, limit, fmax, kmax);
+    let sv = s.viol;
+    if is_broken(sv) {
+        return s;
+    }
+    let t = judge(row + 1, values.b, lower, limit, s.fmax, s.kmax);
+    let tv = t.viol;
+    if is_broken(tv) {
+        return t;
+    }
+    let u = judge(row + 2, values.c, lower, limit, t.fmax, t.kmax);
+    let uv = u.viol;
+    if is_broken(uv) {
+        return u;
+    }
+    judge(row + 3, values.d, lower, limit, u.fmax, u.kmax)
+}
+
+// The next row, or the next four.
+fn look_at(
+    n: usize,
+    table: &[f64],
+    x: &[f64],
+    row: usize,
+    many: usize,
+    lower: f64,
+    limit: f64,
+    fmax: f64,
+    kmax: i32,
+) -> Scan
+    requires { ⌜ ((many ≡ 1) ⊎ (many ≡ 4)) × (row + many ≤ 1024) × (row * n + many * n ≤ length (now table)) × (length (now x) ≡ n) ⌝ }
+    ensures { λ r. ⌜ r ≡ runOf n (now (table .entry)) (now (x .entry)) lower limit many row fmax kmax ⌝ }
+{
+    if many == 4 {
+        return look_at_four(n, table, x, row, lower, limit, fmax, kmax);
+    }
+    let value = row_value(n, table, x, row);
+    judge(row, value, lower, limit, fmax, kmax)
+}
+
+// How many rows to look at together, of those left and those before the band's end. The first three singly: a scan that ends there has no use for more.
+fn rows_together(seen: usize, left: usize, ahead: usize) -> usize
+    requires { ⌜ (1 ≤ left) × (1 ≤ ahead) ⌝ }
+    ensures { λ r. ⌜ ((r ≡ 1) ⊎ (r ≡ 4)) × (r ≤ left) × (r ≤ ahead) ⌝ }
+{
+    if seen < 3 {
+        return 1;
+    }
+    if left < 4 {
+        return 1;
+    }
+    if ahead < 4 {
+        return 1;
+    }
+    4
 }
 
 // The rows of the band in turn, each once at most.
@@ -124,38 +283,35 @@ fn scan_rows(
     lower: f64,
     upper: Upper,
 ) -> Scan
-    requires { ⌜ Ready n (now table) (now x) start ⌝ }
+    requires { ⌜ Ready n (now table) (now x) start × (length (now x) ≡ n) ⌝ }
     ensures { λ r. ⌜ r ≡ scanOf n (now (table .entry)) (now (x .entry)) start lower upper ⌝ }
 {
-    let mut rr = start;
+    let limit = limit_of(upper);
+    let lo = band_from(start);
+    let hi = band_past(start);
+    let all = hi - lo;
+    let mut next = row_after(start);
     let mut fmax: f64 = -1.0 / 0.0;
     let mut kmax: i32 = -1;
-    let mut left = band_rows(start);
+    let mut left = all;
     while left > 0 {
-        left -= 1;
-        rr = rr.step();
-        let cur = rr.cur;
-        let row = row_at(rr);
-        let value = row_value(n, table, x, row);
-        let over = is_over(upper, value);
-        if over | (value < lower) {
-            return Scan {
-                viol: Violation::Broken(row, value, over),
-                fmax: fmax,
-                kmax: kmax,
-                last: cur,
-            };
+        let row = turned(next, lo, hi);
+        let many = rows_together(all - left, left, hi - row);
+        let s = look_at(n, table, x, row, many, lower, limit, fmax, kmax);
+        let viol = s.viol;
+        if is_broken(viol) {
+            return s;
         }
-        if value > fmax {
-            fmax = value;
-            kmax = cur;
-        }
+        fmax = s.fmax;
+        kmax = s.kmax;
+        next = row + many;
+        left -= many;
     }
     Scan {
         viol: Violation::Nothing,
         fmax: fmax,
         kmax: kmax,
-        last: rr.cur,
+        last: row_before(next),
     }
 }
 
@@ -224,7 +380,7 @@ pub fn scan_band(
 }
 
 // Lends a local cursor to `scan_band`, so that its callers have plain parameters.
-fn scan_lent(
+pub fn scan_lent(
     n: usize,
     rows: usize,
     table: &[f64],

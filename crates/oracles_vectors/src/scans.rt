@@ -15,41 +15,12 @@ use lists::words::float;
 use lists::words::word;
 use numbers::bits::of_bits;
 use numbers::bits::to_bits;
-use oracles::round_robin::RoundRobin;
 use oracles::scan::Scan;
 use oracles::scan::ScanAnswer;
 use oracles::scan::Upper;
 use oracles::scan::Violation;
-use oracles::scan::scan_band;
+use oracles::scan::scan_lent;
 use std::num::wrapping_add_usize;
-ghost use mathlib.Core.Path.{_≡_};
-ghost use Rattle.oracles.specs.Scan.{scan-band-answer};
-
-// An answer, and the cursor after it.
-struct ScanEnd {
-    answer: ScanAnswer,
-    cursor: RoundRobin,
-}
-
-// The cursor is lent to the call.
-fn scan_lent(
-    n: usize,
-    rows: usize,
-    table: &[f64],
-    x: &[f64],
-    start: RoundRobin,
-    lower: f64,
-    upper: Upper,
-) -> ScanEnd
-    ensures { λ r. ⌜ (r .answer, r .cursor) ≡ scan-band-answer n rows (now (table .entry)) (now (x .entry)) start lower upper ⌝ }
-{
-    let mut c = start;
-    let answer = scan_band(n, rows, table, x, &mut c, lower, upper);
-    ScanEnd {
-        answer: answer,
-        cursor: c,
-    }
-}
 
 // All ones stand for an absent upper limit.
 fn upper_of(w: u64) -> Upper {

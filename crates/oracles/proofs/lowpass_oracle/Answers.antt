@@ -16,7 +16,7 @@ use lib.ListN.{length}
 use lib.Ieee.{Float}
 use Rattle.numbers.specs.Pick.{hit, skip}
 use Rattle.numbers.specs.Arr.{isDimension}
-use Rattle.numbers.specs.ArrLaws.{wrong-dimension, wrong-length, accepted, dimension-most}
+use Rattle.numbers.specs.ArrLaws.{wrong-dimension, wrong-length, accepted, dimension-least, dimension-most}
 use Rattle.numbers.specs.declared.refusal.Refusal.the-variants.{Dimension, Length, Band, Cursor}
 use Rattle.oracles.specs.RoundRobinLaws.{and-parts, legal-band, legal-at}
 use Rattle.oracles.specs.Scan.{isRows, table-fits, Scannable}
@@ -32,7 +32,6 @@ use Rattle.oracles.specs.declared.lowpass_oracle.Verdict.the-variants.{F
 use Rattle.oracles.specs.declared.lowpass_oracle.Assessed.{Assessed}
 use Rattle.oracles.specs.declared.lowpass_oracle.AssessedOptim.{AssessedOptim}
 use Rattle.oracles.proofs.lowpass_oracle.Verdict as Y
-use Rattle.oracles.proofs.scan.Tests.{dimension-least}
 
 module _ (o : LowpassOracle) (n rows : ℕ) (table x grad : List Float) where
   abbrev Answer : Type 0

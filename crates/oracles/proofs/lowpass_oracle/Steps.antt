@@ -17,7 +17,7 @@ use mir.Val.{SFits}
 use mir.Facts.{toZ-ofZ}
 use Rattle.numbers.specs.F64.{0ᶠ}
 use Rattle.numbers.specs.declared.cut.CutChoice.{CutChoice}
-use Rattle.numbers.specs.ArrLaws.{dimension-most}
+use Rattle.numbers.specs.ArrLaws.{dimension-least, dimension-most}
 use Rattle.oracles.specs.RoundRobin.{moved}
 use Rattle.oracles.specs.RoundRobinLaws.{and-parts}
 use Rattle.oracles.specs.Scan.{−∞, none, scanOf, violated, band-beta, band-gradient, Scannable}
@@ -35,7 +35,7 @@ use Rattle.oracles.specs.declared.scan.Violation.the-variants.{Nothing, 
 use Rattle.oracles.specs.declared.scan.Scan.{Scan}
 use Rattle.oracles.proofs.scan.Violation as Y
 use Rattle.oracles.proofs.Signed.{read}
-use Rattle.oracles.proofs.scan.Tests.{dimension-least, ready-of}
+use Rattle.oracles.proofs.scan.Tests.{ready-of}
 
 -- a violation with the key 0 is none
 pub nothing-of : (v : Violation) → OneOf (0 ∷ []) (tagOf Y.the-type v) → v ≡ Nothing

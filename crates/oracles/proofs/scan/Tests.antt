@@ -23,10 +23,6 @@ use Rattle.oracles.specs.declared.scan.Upper.{Upper}
 use Rattle.oracles.specs.declared.scan.Scan.{Scan}
 use Rattle.oracles.specs.declared.scan.ScanAnswer.the-variants.{Scanned, Refused}
 
--- the dimension is at least 2
-pub dimension-least : (n : ℕ) → isDimension n ≡ true → 2 ≤ n
-dimension-least n h = leb-true 2 n (and-parts (leb 2 n) (leb n 32) h .0)
-
 -- rows that the tests allow can be read
 pub ready-of : (n rows : ℕ) (table x : List Float) (c : RoundRobin) → Scannable n rows table x c → Ready n table x c
 ready-of n rows table x c S =
@@ -36,6 +32,9 @@ ready-of n rows table x c S =
     let h : L .past ≤ rows = leb-true (L .past) rows (ap (λ (z : ℤ). leZ z (pos rows)) (sym (L .hi-is)) ∙ p .1) in
     let e : length table ≡ rows * n = eqb-true (length table) (rows * n) (and-parts (eqb (length table) (rows * n)) (eqb (length x) n) (S .long) .0) in
     record { legal = L; high = le-trans (mul-le-mul-right n h) (le-of-eq (sym e)) }
+
+pub point-long : (n rows : ℕ) (table x : List Float) (c : RoundRobin) → Scannable n rows table x c → length x ≡ n
+point-long n rows table x c S = eqb-true (length x) n (and-parts (eqb (length table) (rows * n)) (eqb (length x) n) (S .long) .1)
 
 -- with nothing to refuse, the answer is the scan
 pub scanned : (n rows : ℕ) (table x : List Float) (c : RoundRobin) (lower : Float) (upper : Upper) → Scannable n rows table x c

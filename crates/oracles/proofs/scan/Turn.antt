@@ -1,111 +1,124 @@
--- The turn of the scan's loop: where the cursor goes, and what each way through leaves to be found. Assumes nothing.
+-- The turn of the scan's loop: where the cursor goes, and what the rows that are looked at leave to be found. Assumes nothing.
 use mathlib.Core.Path.{_≡_, refl, sym, ap, _∙_, subst}
-use mathlib.Core.Bool.{Bool, true, false, _||_}
+use mathlib.Core.Bool.{Bool, true, false}
+use mathlib.Core.Logic.{_⊎_, inl, inr}
 use mathlib.Core.List.{List}
 use Prim.Native.Nat.{ℕ, suc, _≤_, _<_, _+_, _*_, _-_}
-use native.Mathlib.Nat.{suc-mul, le-trans, le-of-eq, mul-le-mul-right}
+use native.Mathlib.Nat.{le-trans, mul-le-mul-right}
 use native.Mathlib.Omega.{arith}
-use lib.IntN.{ℤ, pos, natAbs, _-ℤ_}
-use lib.Signed.{nonNeg}
-use lib.Dec.{T}
+use borrow.Author.Tests.{eqb-true, eqb-false}
+use lib.Dec.{eqb}
+use lib.IntN.{ℤ, pos, predℤ, sucℤ, natAbs, _-ℤ_, suc-pred}
 use lib.ListN.{length}
-use lib.Ieee.{Float, lt}
-use mir.Syntax.{w32}
-use mir.Val.{SFits}
+use lib.Ieee.{Float}
 use Rattle.numbers.specs.Pick.{pick, hit, skip}
 use Rattle.oracles.specs.RoundRobin.{advanced, Legal}
-use Rattle.oracles.specs.RoundRobinLaws.{or-parts, canon, legal-canon, band-is}
-use Rattle.oracles.specs.ScanLaws.{NextRow, next-row}
-use Rattle.oracles.specs.Scan.{valueOf, isOver, scanFrom, Ready}
+use Rattle.oracles.specs.RoundRobinLaws.{canon, adv-next, adv-wrap}
+use Rattle.oracles.specs.ScanLaws.{band-count}
+use Rattle.oracles.specs.Scan.{−∞, none, scanFrom, scanOf, Ready}
+use Rattle.oracles.specs.ScanRun.{limitOf, isBroken, runOf}
 use Rattle.oracles.specs.declared.round_robin.RoundRobin.{RoundRobin}
 use Rattle.oracles.specs.declared.scan.Upper.{Upper}
-use Rattle.oracles.specs.declared.scan.Violation.the-variants.{Nothing, Broken}
+use Rattle.oracles.specs.declared.scan.Upper.the-variants.{At}
+use Rattle.oracles.specs.declared.scan.Violation.the-variants.{Nothing}
 use Rattle.oracles.specs.declared.scan.Scan.{Scan}
-use Rattle.oracles.proofs.Signed.{pos-fits}
+use Rattle.oracles.proofs.scan.Run.{after, after-broken, after-whole, by-limit, by-run}
 
--- a scan with rows left: where there are some, the band has one
-pub record Going (n : ℕ) (table : List Float) (c : RoundRobin) (left : ℕ) : Type 0 where
-  pub legal : Legal c
-  pub room : 0 < left → legal .from < legal .past
-  pub high : legal .past * n ≤ length table
+-- a scan of the band lo .. hi − 1 with rows left, the next of them `next`, where the band's end stands for its start
+pub record Going (n : ℕ) (table : List Float) (lo hi next left : ℕ) : Type 0 where
+  pub above : lo ≤ next
+  pub below : next ≤ hi
+  pub room : left ≤ hi - lo
+  pub small : hi ≤ 1024
+  pub high : hi * n ≤ length table
 
-pub starts : (n : ℕ) (table x : List Float) (c : RoundRobin) (left : ℕ) → Ready n table x c → left ≡ natAbs (c .hi -ℤ c .lo) → Going n table c left
-starts n table x c left R e =
-    let q : left ≡ R .legal .past - R .legal .from = e ∙ ap natAbs (band-is c (R .legal)) in
-    record { legal = R .legal; room = λ p. omega (arith, p, q); high = R .high }
+-- ---- the start
 
-module _ {n : ℕ} {table : List Float} {c : RoundRobin} {left : ℕ} (G : Going n table c left) (some : 0 < left) (d : RoundRobin) (ed : d ≡ advanced c) where
-  abbrev m : NextRow (G .legal .from) (G .legal .past) (G .legal .next)
-  m = next-row (G .legal .from) (G .legal .past) (G .legal .next) (G .legal .above) (G .legal .below) (G .room some)
+module _ (n : ℕ) (table x : List Float) (c : RoundRobin) (R : Ready n table x c) (lo hi : ℕ) (el : c .lo ≡ pos lo) (eh : c .hi ≡ pos hi) where
+  from-is : R .legal .from ≡ lo
+  from-is = ap natAbs (sym (R .legal .lo-is) ∙ el)
 
-  moved-to : d ≡ canon (G .legal .from) (G .legal .past) (suc (m .row))
-  moved-to = ed ∙ ap advanced (legal-canon c (G .legal)) ∙ m .goes
+  past-is : R .legal .past ≡ hi
+  past-is = ap natAbs (sym (R .legal .hi-is) ∙ eh)
 
-  at-is : d .cur ≡ pos (m .row)
-  at-is = ap (λ (e : RoundRobin). e .cur) moved-to
+  pub ordered : lo ≤ hi
+  ordered = omega (arith, from-is, past-is, R .legal .above, R .legal .below)
 
-  pub at-nonNeg : T (nonNeg (d .cur))
-  at-nonNeg = rw at-is tt
+  module _ (next : ℕ) (ec : c .cur ≡ predℤ (pos next)) where
+    next-is : R .legal .next ≡ next
+    next-is = ap natAbs (sym (suc-pred (pos (R .legal .next))) ∙ ap sucℤ (sym (R .legal .cur-is) ∙ ec) ∙ suc-pred (pos next))
 
-  pub at-fits : SFits w32 (d .cur)
-  at-fits = rw at-is (pos-fits (m .row) (omega (arith, m .high, G .legal .small)))
+    pub starts : Going n table lo hi next (hi - lo)
+    starts = record {
+      above = omega (arith, from-is, next-is, R .legal .above);
+      below = omega (arith, past-is, next-is, R .legal .below);
+      room = omega arith;
+      small = omega (arith, past-is, R .legal .small);
+      high = subst (λ (h : ℕ). h * n ≤ length table) past-is (R .high);
+    }
 
-  pub at-within : natAbs (d .cur) * n + n ≤ length table
-  at-within = rw at-is (le-trans (le-of-eq (sym (suc-mul (m .row) n))) (le-trans (mul-le-mul-right n (m .high)) (G .high)))
+    pub start-is : (lower : Float) (upper : Upper) (limit : Float) → limit ≡ limitOf upper
+        → scanFrom n table x lower (At limit) (hi - lo) (canon lo hi next) −∞ none ≡ scanOf n table x c lower upper
+    unfolding scanOf
+    start-is lower upper limit e =
+        let count : natAbs (c .hi -ℤ c .lo) ≡ hi - lo = band-count c (R .legal) ∙ (λ i. past-is i - from-is i) in
+        rw e
+        (by-limit n table x lower upper (hi - lo) (canon lo hi next) −∞ none
+        ∙ sym (λ i. scanFrom n table x lower upper (count i) (record { cur = ec i; lo = el i; hi = eh i }) −∞ none))
 
-  pub goes-on : Going n table d (left - 1)
-  goes-on = subst (λ (e : RoundRobin). Going n table e (left - 1)) (sym moved-to) (record {
-    legal = record {
-      from = G .legal .from;
-      past = G .legal .past;
-      next = suc (m .row);
-      lo-is = refl;
-      hi-is = refl;
-      cur-is = refl;
-      above = omega (arith, m .low);
-      below = m .high;
-      small = G .legal .small;
-    };
-    room = λ _. G .room some;
-    high = G .high;
-  })
+-- ---- a turn
 
--- ---- what a turn finds
-
-module _ (n : ℕ) (table x : List Float) (lower : Float) (upper : Upper) (left : ℕ) (c : RoundRobin) (fmax : Float) (k : ℤ) (whole : Scan)
-    (inv : scanFrom n table x lower upper left c fmax k ≡ whole) where
-  pub clear : left ≤ 0 → record { viol = Nothing; fmax = fmax; kmax = k; last = c .cur } ≡ whole
+module _ (n : ℕ) (table x : List Float) (lower limit : Float) (lo hi next left : ℕ) (f : Float) (k : ℤ) {whole : Scan} (G : Going n table lo hi next left)
+    (inv : scanFrom n table x lower (At limit) left (canon lo hi next) f k ≡ whole) where
+  pub clear : left ≤ 0 → record { viol = Nothing; fmax = f; kmax = k; last = predℤ (pos next) } ≡ whole
   unfolding scanFrom
   clear h = let e : left ≡ 0 = omega arith in rw e at inv
 
-  module _ (some : 0 < left) (d : RoundRobin) (i : ℕ) (v : Float) (ed : d ≡ advanced c) (ei : i ≡ natAbs (d .cur)) (ev : v ≡ valueOf n table x i) where
-    opened : pick (isOver upper v) (record { viol = Broken i v true; fmax = fmax; kmax = k; last = d .cur })
-        (pick (lt v lower) (record { viol = Broken i v false; fmax = fmax; kmax = k; last = d .cur })
-        (scanFrom n table x lower upper (left - 1) d (pick (lt fmax v) v fmax) (pick (lt fmax v) (d .cur) k))) ≡ whole
-    unfolding scanFrom
-    opened = rw (ev, ei, ed) (subst (λ (l : ℕ). scanFrom n table x lower upper l c fmax k ≡ whole) e inv)
+  module _ (some : 0 < left) (row : ℕ) (er : row ≡ pick (eqb next hi) lo next) where
+    -- the row, by where the cursor stands
+    turned-to : ((next ≡ hi) × (row ≡ lo)) ⊎ ((next ≡ hi → ⊥) × (row ≡ next))
+    unfolding pick
+    turned-to = go (eqb next hi) refl er
       where
-        e : left ≡ suc (left - 1)
-        e = omega arith
+        go : (t : Bool) → eqb next hi ≡ t → row ≡ pick t lo next → ((next ≡ hi) × (row ≡ lo)) ⊎ ((next ≡ hi → ⊥) × (row ≡ next))
+        go true e q = inl (eqb-true next hi e, q)
+        go false e q = inr (eqb-false next hi e, q)
 
-    module _ {over : Bool} (eo : over ≡ isOver upper v) where
-      pub turn-broken : (over || lt v lower) ≡ true → record { viol = Broken i v over; fmax = fmax; kmax = k; last = d .cur } ≡ whole
-      turn-broken h = go over eo h
-        where
-          go : (t : Bool) → t ≡ isOver upper v → (t || lt v lower) ≡ true → record { viol = Broken i v t; fmax = fmax; kmax = k; last = d .cur } ≡ whole
-          go true e h = hit _ _ _ _ (sym e) refl ∙ opened
-          go false e h = skip _ _ _ _ (sym e) (hit _ _ _ _ h refl) ∙ opened
+    pub row-low : lo ≤ row
+    row-low = elim turned-to [ inl p ↦ omega (arith, p .1) | inr p ↦ omega (arith, p .1, G .above) ]
 
-      passed : (over || lt v lower) ≡ false
-          → scanFrom n table x lower upper (left - 1) d (pick (lt fmax v) v fmax) (pick (lt fmax v) (d .cur) k) ≡ whole
-      passed h =
-          let p = or-parts over (lt v lower) h in
-          skip _ _ _ _ (sym eo ∙ p .0) (skip _ _ _ _ (p .1) refl) ∙ opened
+    pub row-high : row < hi
+    row-high = elim turned-to [ inl p ↦ omega (arith, p .1, G .room) | inr p ↦ omega (arith, p .0, p .1, G .below) ]
 
-      pub turn-more : (over || lt v lower) ≡ false → lt fmax v ≡ true → scanFrom n table x lower upper (left - 1) d v (d .cur) ≡ whole
-      unfolding pick
-      turn-more h t = rw t at (passed h)
+    -- the scan goes on as from the band's start where the cursor stands at its end
+    at-row : scanFrom n table x lower (At limit) left (canon lo hi row) f k ≡ whole
+    unfolding scanFrom
+    at-row = elim turned-to [ inl p ↦ rw (p .1) (from-start (p .0)) | inr p ↦ rw (p .1) inv ]
+      where
+        from-start : next ≡ hi → scanFrom n table x lower (At limit) left (canon lo hi lo) f k ≡ whole
+        from-start e =
+            let l : left ≡ suc (left - 1) = omega arith in
+            let q : advanced (canon lo hi lo) ≡ advanced (canon lo hi hi) = adv-next lo hi lo (λ z. omega (arith, G .room)) ∙ sym (adv-wrap lo hi) in
+            rw (l, q) (rw (e, l) at inv)
 
-      pub turn-same : (over || lt v lower) ≡ false → lt fmax v ≡ false → scanFrom n table x lower upper (left - 1) d fmax k ≡ whole
-      unfolding pick
-      turn-same h t = rw t at (passed h)
+    module _ (many : ℕ) (within : many ≤ left) (ahead : many ≤ hi - row) where
+      pub rows-in : row * n + many * n ≤ length table
+      rows-in =
+          let e : (row + many) * n ≡ row * n + many * n = omega arith in
+          let h : (row + many) * n ≤ hi * n = mul-le-mul-right n (let l : row + many ≤ hi = omega (arith, row-high) in l) in
+          omega (arith, e, h, G .high)
+
+      pub still : Going n table lo hi (row + many) (left - many)
+      still = record { above = omega (arith, row-low); below = omega (arith, row-high); room = omega (arith, G .room); small = G .small; high = G .high }
+
+      module _ {s : Scan} (es : s ≡ runOf n table x lower limit many row f k) where
+        opened : after s (scanFrom n table x lower (At limit) (left - many) (canon lo hi (row + many)) (s .fmax) (s .kmax)) ≡ whole
+        opened =
+            let l : many + (left - many) ≡ left = omega arith in
+            rw es (sym (by-run n table x lower limit lo hi many (left - many) row f k (omega (arith, row-high))) ∙ rw l at-row)
+
+        pub ends : isBroken (s .viol) ≡ true → s ≡ whole
+        ends b = after-broken s _ b ∙ opened
+
+        pub goes-on : isBroken (s .viol) ≡ false → scanFrom n table x lower (At limit) (left - many) (canon lo hi (row + many)) (s .fmax) (s .kmax) ≡ whole
+        goes-on b = after-whole s _ b ∙ opened

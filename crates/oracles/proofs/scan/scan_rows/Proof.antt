@@ -1,113 +1,202 @@
 -- `oracles::scan::scan_rows` meets its contract: at each turn what is left computes the answer. Assumes nothing.
-use mathlib.Core.Path.{_≡_}
+use mathlib.Core.Path.{_≡_, refl, sym, _∙_}
+use mathlib.Core.Logic.{_⊎_, inl, inr}
+use Prim.Native.Nat.{ℕ, _≤_}
 use native.Mathlib.Omega.{arith}
 use borrow.Author.Needs.{needs}
 use mir.Syntax.{w32}
 use mir.Val.{toZ}
 use mir.Facts.{toZ-ofZ}
 use lib.Ieee
-use Rattle.oracles.specs.Scan.{scanFrom, scanOf}
-use Rattle.oracles.proofs.Signed.{cur-fits}
-use Rattle.oracles.proofs.scan.Turn.{Going, starts, at-nonNeg, at-fits, at-within, goes-on, clear, turn-broken, turn-more, turn-same}
+use Rattle.oracles.specs.RoundRobinLaws.{canon}
+use Rattle.oracles.specs.Scan.{scanFrom}
+use Rattle.oracles.specs.declared.scan.Upper.the-variants.{At}
+use Rattle.oracles.proofs.Signed.{before-fits}
+use Rattle.oracles.proofs.scan.Turn.{Going, ordered, starts, start-is, clear, row-high, rows-in, still, ends, goes-on}
 use Rattle.oracles.proofs.scan.scan_rows.Statement.{statement}
 use Rattle.oracles.proofs.scan.scan_rows.Tie as tie
 
 abbrev Inv-loop : tie.InvT-loop
-Inv-loop n table x lower upper rr₀ fmax₀ kmax₀ left₀ rr fmax kmax left =
-    Going n table rr left × (scanFrom n table x lower upper left rr fmax (toZ w32 kmax) ≡ scanOf n table x rr₀ lower upper)
+Inv-loop n table x lower limit lo hi all next₀ fmax₀ kmax₀ left₀ next fmax kmax left =
+    Going n table lo hi next left
+    × (scanFrom n table x lower (At limit) left (canon lo hi next) fmax (toZ w32 kmax) ≡ scanFrom n table x lower (At limit) left₀ (canon lo hi next₀) fmax₀ (toZ w32 kmax₀))
 
 abbrev μ-loop : tie.MeasureT-loop
-μ-loop n table x lower upper rr₀ fmax₀ kmax₀ left₀ rr fmax kmax left = left
+μ-loop n table x lower limit lo hi all next₀ fmax₀ kmax₀ left₀ next fmax kmax left = left
 
-band-rows-requires : tie.Need-band-rows-requires Inv-loop μ-loop
-band-rows-requires c κs = c .before .before .pre .legal
+-- at least one row
+some : {many : ℕ} → (many ≡ 1) ⊎ (many ≡ 4) → 1 ≤ many
+some (inl e) = omega arith
+some (inr e) = omega arith
+
+limit-of-requires : tie.Need-limit-of-requires Inv-loop μ-loop
+limit-of-requires c κs = tt
+
+band-from-requires : tie.Need-band-from-requires Inv-loop μ-loop
+band-from-requires c κs = c .before .before .before .pre .0 .legal
+
+band-past-requires : tie.Need-band-past-requires Inv-loop μ-loop
+band-past-requires c κs = c .before .before .before .before .pre .0 .legal
+
+sub-all : tie.Need-sub-all Inv-loop μ-loop
+sub-all c =
+    let st = c .before .before .before .before .before in
+    let a = st .args in
+    ordered (a .n) (a .table .now) (a .x .now) (a .start) (st .pre .0) _ _ (c .before .band-from .ensures) (c .band-past .ensures)
+
+row-after-requires : tie.Need-row-after-requires Inv-loop μ-loop
+row-after-requires c κs = c .before .before .before .before .before .pre .0 .legal
 
 loop-holds : tie.Need-loop-holds Inv-loop μ-loop
-unfolding scanOf Ieee.div Ieee.neg Ieee.ofBits
 loop-holds c =
-    let s = c .before .before .before in
-    let a = s .args in
-    (starts (a .n) (a .table .now) (a .x .now) (a .start) _ (s .pre) (c .band-rows .ensures), rw (c .band-rows .ensures))
+    let st = c .before .before .before .before .before .before in
+    let a = st .args in
+    (starts (a .n) (a .table .now) (a .x .now) (a .start) (st .pre .0) _ _ (c .before .before .band-from .ensures) (c .before .band-past .ensures) _ (c .row-after .ensures), refl)
 
-sub-left : tie.Need-sub-left Inv-loop μ-loop
-sub-left c = search needs
+turned-requires : tie.Need-turned-requires Inv-loop μ-loop
+turned-requires c κs = tt
 
-step-requires : tie.Need-step-requires Inv-loop μ-loop
-step-requires c κs = c .before .loop .inv .0 .legal
+sub-rows-together : tie.Need-sub-rows-together Inv-loop μ-loop
+sub-rows-together c = c .before .before .loop .inv .0 .room
 
-row-at-requires : tie.Need-row-at-requires Inv-loop μ-loop
-row-at-requires c κs =
-    let s = c .before in
-    at-nonNeg (s .before .before .loop .inv .0) (s .before .loop-test .taken) (s .step .result) (s .step .ensures)
+sub-rows-together-2 : tie.Need-sub-rows-together-2 Inv-loop μ-loop
+sub-rows-together-2 c =
+    let i = c .before in
+    let l = i .before .loop in
+    let w = i .before .before in
+    let st = w .before .before .before .before .before .before in
+    let a = st .args in
+    let lo = w .before .before .band-from .result in
+    let hi = w .before .band-past .result in
+    let limit = w .before .before .before .limit-of .result in
+    omega (arith, row-high (a .n) (a .table .now) (a .x .now) (a .lower) limit lo hi (l .next) (l .left) (l .fmax) (toZ w32 (l .kmax)) (l .inv .0) (l .inv .1) (i .loop-test .taken) (c .turned .result) (c .turned .ensures))
 
-row-value-requires : tie.Need-row-value-requires Inv-loop μ-loop
-row-value-requires c κs =
-    let s = c .before .before in
-    rw (c .row-at .ensures) (at-within (s .before .before .loop .inv .0) (s .before .loop-test .taken) (s .step .result) (s .step .ensures))
+rows-together-requires : tie.Need-rows-together-requires Inv-loop μ-loop
+rows-together-requires c κs =
+    let i = c .before in
+    let l = i .before .loop in
+    let w = i .before .before in
+    let st = w .before .before .before .before .before .before in
+    let a = st .args in
+    let lo = w .before .before .band-from .result in
+    let hi = w .before .band-past .result in
+    let limit = w .before .before .before .limit-of .result in
+    (i .loop-test .taken, omega (arith, row-high (a .n) (a .table .now) (a .x .now) (a .lower) limit lo hi (l .next) (l .left) (l .fmax) (toZ w32 (l .kmax)) (l .inv .0) (l .inv .1) (i .loop-test .taken) (c .turned .result) (c .turned .ensures)))
 
-is-over-requires : tie.Need-is-over-requires Inv-loop μ-loop
-is-over-requires c κs = tt
+look-at-requires : tie.Need-look-at-requires Inv-loop μ-loop
+look-at-requires c κs =
+    let i = c .before .before in
+    let l = i .before .loop in
+    let w = i .before .before in
+    let st = w .before .before .before .before .before .before in
+    let a = st .args in
+    let lo = w .before .before .band-from .result in
+    let hi = w .before .band-past .result in
+    let limit = w .before .before .before .limit-of .result in
+    let t = c .before .turned in
+    let m = c .rows-together .ensures in (
+      m .0,
+      omega (arith, m .2, row-high (a .n) (a .table .now) (a .x .now) (a .lower) limit lo hi (l .next) (l .left) (l .fmax) (toZ w32 (l .kmax)) (l .inv .0) (l .inv .1) (i .loop-test .taken) (t .result) (t .ensures), l .inv .0 .small),
+      rows-in (a .n) (a .table .now) (a .x .now) (a .lower) limit lo hi (l .next) (l .left) (l .fmax) (toZ w32 (l .kmax)) (l .inv .0) (l .inv .1) (i .loop-test .taken) (t .result) (t .ensures) (c .rows-together .result) (m .1) (m .2),
+      st .pre .1,
+    )
+
+is-broken-requires : tie.Need-is-broken-requires Inv-loop μ-loop
+is-broken-requires c κs = tt
 
 returns : tie.Need-returns Inv-loop μ-loop
+unfolding Ieee.div Ieee.neg Ieee.ofBits
 returns c =
-    let o = c .before in
-    let v = o .before in
-    let r = v .before in
-    let s = r .before .before in
-    let i = s .before in
+    let i = c .before .before .before .before .before in
     let l = i .before .loop in
-    let a = i .before .before .before .before .before .args in
-    rw (toZ-ofZ (at-fits (l .inv .0) (i .loop-test .taken) (s .step .result) (s .step .ensures)))
-    (turn-broken (a .n) (a .table .now) (a .x .now) (a .lower) (a .upper) (l .left) (l .rr) (l .fmax) (toZ w32 (l .kmax)) _ (l .inv .1) (i .loop-test .taken) (s .step .result) (r .row-at .result) (v .row-value .result)
-    (s .step .ensures) (r .row-at .ensures) (v .row-value .ensures) (o .is-over .ensures) (c .if1 .taken))
+    let w = i .before .before in
+    let st = w .before .before .before .before .before .before in
+    let a = st .args in
+    let lo = w .before .before .band-from .result in
+    let hi = w .before .band-past .result in
+    let limit = w .before .before .before .limit-of .result in
+    let t = c .before .before .before .before .turned in
+    let m = c .before .before .before .rows-together in
+    ends (a .n) (a .table .now) (a .x .now) (a .lower) limit lo hi (l .next) (l .left) (l .fmax) (toZ w32 (l .kmax)) (l .inv .0) (l .inv .1) (i .loop-test .taken) (t .result) (t .ensures) (m .result) (m .ensures .1) (m .ensures .2) (c .before .before .look-at .ensures) (sym (c .before .is-broken .ensures) ∙ c .if1 .taken)
+    ∙ start-is (a .n) (a .table .now) (a .x .now) (a .start) (st .pre .0) lo hi (w .before .before .band-from .ensures) (w .before .band-past .ensures) (w .row-after .result) (w .row-after .ensures) (a .lower) (a .upper) limit (w .before .before .before .limit-of .ensures)
+
+add-next : tie.Need-add-next Inv-loop μ-loop
+add-next c =
+    let i = c .before .before .before .before .before .before in
+    let l = i .before .loop in
+    let w = i .before .before in
+    let st = w .before .before .before .before .before .before in
+    let a = st .args in
+    let lo = w .before .before .band-from .result in
+    let hi = w .before .band-past .result in
+    let limit = w .before .before .before .limit-of .result in
+    let t = c .before .before .before .before .before .turned in
+    let m = c .before .before .before .before .rows-together .ensures in
+    omega (arith, m .2, row-high (a .n) (a .table .now) (a .x .now) (a .lower) limit lo hi (l .next) (l .left) (l .fmax) (toZ w32 (l .kmax)) (l .inv .0) (l .inv .1) (i .loop-test .taken) (t .result) (t .ensures), l .inv .0 .small)
+
+sub-left : tie.Need-sub-left Inv-loop μ-loop
+sub-left c = c .before .before .before .before .rows-together .ensures .1
 
 loop-less : tie.Need-loop-less Inv-loop μ-loop
-loop-less c = omega (arith, c .before .before .before .before .before .before .before .loop-test .taken)
+loop-less c = omega (arith, c .before .before .before .before .before .before .loop-test .taken, c .before .before .before .before .rows-together .ensures .1, some (c .before .before .before .before .rows-together .ensures .0))
 
 loop-again : tie.Need-loop-again Inv-loop μ-loop
 loop-again c =
-    let e = c .before in
-    let o = e .before in
-    let v = o .before in
-    let r = v .before in
-    let s = r .before .before in
-    let i = s .before in
+    let i = c .before .before .before .before .before .before in
     let l = i .before .loop in
-    let a = i .before .before .before .before .before .args in (
-      goes-on (l .inv .0) (i .loop-test .taken) (s .step .result) (s .step .ensures),
-      rw (toZ-ofZ (at-fits (l .inv .0) (i .loop-test .taken) (s .step .result) (s .step .ensures)))
-          (turn-more (a .n) (a .table .now) (a .x .now) (a .lower) (a .upper) (l .left) (l .rr) (l .fmax) (toZ w32 (l .kmax)) _ (l .inv .1) (i .loop-test .taken) (s .step .result) (r .row-at .result) (v .row-value .result)
-          (s .step .ensures) (r .row-at .ensures) (v .row-value .ensures) (o .is-over .ensures) (e .if1 .left) (c .if2 .taken)),
+    let w = i .before .before in
+    let st = w .before .before .before .before .before .before in
+    let a = st .args in
+    let lo = w .before .before .band-from .result in
+    let hi = w .before .band-past .result in
+    let limit = w .before .before .before .limit-of .result in
+    let t = c .before .before .before .before .before .turned in
+    let m = c .before .before .before .before .rows-together in (
+      still (a .n) (a .table .now) (a .x .now) (a .lower) limit lo hi (l .next) (l .left) (l .fmax) (toZ w32 (l .kmax)) (l .inv .0) (l .inv .1) (i .loop-test .taken) (t .result) (t .ensures) (m .result) (m .ensures .1) (m .ensures .2),
+      rw (toZ-ofZ (record { sfits = c .struct-told .given .1 .1 .0 .1 }))
+          (goes-on (a .n) (a .table .now) (a .x .now) (a .lower) limit lo hi (l .next) (l .left) (l .fmax) (toZ w32 (l .kmax)) (l .inv .0) (l .inv .1) (i .loop-test .taken) (t .result) (t .ensures) (m .result) (m .ensures .1) (m .ensures .2) (c .before .before .before .look-at .ensures) (sym (c .before .before .is-broken .ensures) ∙ c .before .if1 .left)),
     )
 
-loop-less-2 : tie.Need-loop-less-2 Inv-loop μ-loop
-loop-less-2 c = omega (arith, c .before .before .before .before .before .before .before .loop-test .taken)
-
-loop-again-2 : tie.Need-loop-again-2 Inv-loop μ-loop
-loop-again-2 c =
-    let e = c .before in
-    let o = e .before in
-    let v = o .before in
-    let r = v .before in
-    let s = r .before .before in
-    let i = s .before in
-    let l = i .before .loop in
-    let a = i .before .before .before .before .before .args in (
-      goes-on (l .inv .0) (i .loop-test .taken) (s .step .result) (s .step .ensures),
-      turn-same (a .n) (a .table .now) (a .x .now) (a .lower) (a .upper) (l .left) (l .rr) (l .fmax) (toZ w32 (l .kmax)) _ (l .inv .1) (i .loop-test .taken) (s .step .result) (r .row-at .result) (v .row-value .result)
-          (s .step .ensures) (r .row-at .ensures) (v .row-value .ensures) (o .is-over .ensures) (e .if1 .left) (c .if2 .left),
-    )
+row-before-requires : tie.Need-row-before-requires Inv-loop μ-loop
+row-before-requires c κs = let l = c .before .loop in omega (arith, l .inv .0 .below, l .inv .0 .small)
 
 returns-2 : tie.Need-returns-2 Inv-loop μ-loop
+unfolding Ieee.div Ieee.neg Ieee.ofBits
 returns-2 c =
-    let b = c .before in
-    let l = b .before .loop in
-    let a = b .before .before .before .before .before .args in
-    rw (toZ-ofZ (cur-fits (l .rr) (l .inv .0 .legal)))
-    (clear (a .n) (a .table .now) (a .x .now) (a .lower) (a .upper) (l .left) (l .rr) (l .fmax) (toZ w32 (l .kmax)) _ (l .inv .1) (b .loop-test .left))
+    let e = c .before in
+    let l = e .before .loop in
+    let w = e .before .before in
+    let st = w .before .before .before .before .before .before in
+    let a = st .args in
+    let lo = w .before .before .band-from .result in
+    let hi = w .before .band-past .result in
+    let limit = w .before .before .before .limit-of .result in
+    rw (c .row-before .ensures, toZ-ofZ (before-fits (l .next) (omega (arith, l .inv .0 .below, l .inv .0 .small))))
+    (clear (a .n) (a .table .now) (a .x .now) (a .lower) limit lo hi (l .next) (l .left) (l .fmax) (toZ w32 (l .kmax)) (l .inv .0) (l .inv .1) (e .loop-test .left)
+    ∙ start-is (a .n) (a .table .now) (a .x .now) (a .start) (st .pre .0) lo hi (w .before .before .band-from .ensures) (w .before .band-past .ensures) (w .row-after .result) (w .row-after .ensures) (a .lower) (a .upper) limit (w .before .before .before .limit-of .ensures))
 
 pub scan-rows-spec : {M : Type 1} → statement M
 scan-rows-spec =
     tie.close
-    (tie.spec Inv-loop μ-loop band-rows-requires loop-holds sub-left step-requires row-at-requires row-value-requires is-over-requires returns
-    loop-less loop-again loop-less-2 loop-again-2 returns-2)
+    (tie.spec
+    Inv-loop
+    μ-loop
+    limit-of-requires
+    band-from-requires
+    band-past-requires
+    sub-all
+    row-after-requires
+    loop-holds
+    turned-requires
+    sub-rows-together
+    sub-rows-together-2
+    rows-together-requires
+    look-at-requires
+    is-broken-requires
+    returns
+    add-next
+    sub-left
+    loop-less
+    loop-again
+    row-before-requires
+    returns-2)

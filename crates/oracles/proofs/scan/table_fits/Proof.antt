@@ -1,11 +1,13 @@
 -- `oracles::scan::table_fits` meets its contract: the quotient is rows and the remainder 0 exactly where the length is rows × n. Assumes nothing.
 use mathlib.Core.Path.{_≡_, refl, sym, ap, _∙_}
 use mathlib.Core.Bool.{Bool, true, false, _&&_}
-use Prim.Native.Nat.{ℕ, _<_, _+_, _*_, _/_, _%_}
-use native.Mathlib.Nat.{mul-div-cancel, mul-mod-left, div-add-mod'}
+use Prim.Native.Nat.{ℕ, _≤_, _<_, _+_, _*_, _/_, _%_}
+use native.Mathlib.Nat.{mul-le-mul, mul-div-cancel, mul-mod-left, div-add-mod'}
 use native.Mathlib.Omega.{arith}
-use borrow.Author.Tests.{eqb-true, eqb-false, eq-eqb, ne-eqb}
-use lib.Dec.{eqb}
+use borrow.Author.Tests.{leb-true, eqb-true, eqb-false, eq-eqb, ne-eqb}
+use borrow.Author.Needs.{needs}
+use lib.Dec.{leb, eqb}
+use Rattle.oracles.specs.RoundRobinLaws.{and-parts}
 use Rattle.oracles.proofs.scan.table_fits.Statement.{statement}
 use Rattle.oracles.proofs.scan.table_fits.Tie as tie
 
@@ -28,6 +30,12 @@ divides t n rows p = go (eqb t (rows * n)) refl
             let w : t / n * n ≡ rows * n = ap (λ (z : ℕ). z * n) d in
             absurd (eqb-false t (rows * n) e (omega (arith, q, m, w)))
 
+-- a product that the machine has
+small : (n rows : ℕ) → (leb n 65536 && leb rows 65536) ≡ true → rows * n ≤ 4294967296
+small n rows h =
+    let p = and-parts (leb n 65536) (leb rows 65536) h in
+    omega (arith, mul-le-mul (leb-true rows 65536 (p .1)) (leb-true n 65536 (p .0)))
+
 -- n is not 0
 above : (n : ℕ) → (n ≡ 0 → ⊥) → 0 < n
 above n h = omega (arith, h)
@@ -36,17 +44,23 @@ above n h = omega (arith, h)
 none : (t x n rows : ℕ) → n ≡ 0 → (eqb t 0 && eqb x 0) ≡ (eqb t (rows * n) && eqb x n)
 none t x n rows e = let z : rows * 0 ≡ 0 = omega arith in rw (e, z)
 
+mul-result : tie.Need-mul-result
+mul-result c = let a = c .before .args in omega (arith, small (a .n) (a .rows) (c .if1 .taken))
+
 returns : tie.Need-returns
-returns c = let a = c .before .args in none (a .table) (a .x) (a .n) (a .rows) (c .if1 .taken)
-
-div-result : tie.Need-div-result
-div-result c = above (c .before .args .n) (c .if1 .left)
-
-rem-result : tie.Need-rem-result
-rem-result c = above (c .before .args .n) (c .if1 .left)
+returns c = search needs
 
 returns-2 : tie.Need-returns-2
-returns-2 c = let a = c .before .args in ap (λ (b : Bool). b && eqb (a .x) (a .n)) (divides (a .table) (a .n) (a .rows) (above (a .n) (c .if1 .left)))
+returns-2 c = let a = c .before .before .args in none (a .table) (a .x) (a .n) (a .rows) (c .if2 .taken)
+
+div-result : tie.Need-div-result
+div-result c = above (c .before .before .args .n) (c .if2 .left)
+
+rem-result : tie.Need-rem-result
+rem-result c = above (c .before .before .args .n) (c .if2 .left)
+
+returns-3 : tie.Need-returns-3
+returns-3 c = let a = c .before .before .args in ap (λ (b : Bool). b && eqb (a .x) (a .n)) (divides (a .table) (a .n) (a .rows) (above (a .n) (c .if2 .left)))
 
 pub table-fits-spec : {M : Type 1} → statement M
-table-fits-spec = tie.close (tie.spec returns div-result rem-result returns-2)
+table-fits-spec = tie.close (tie.spec mul-result returns returns-2 div-result rem-result returns-3)

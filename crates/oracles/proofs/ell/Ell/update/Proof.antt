@@ -2,6 +2,7 @@
 use mathlib.Core.Path.{_∙_}
 use borrow.Author.Needs.{needs}
 use Rattle.numbers.specs.ArrLaws.{dimension-most}
+use Rattle.oracles.specs.EllLaws.{updated}
 use Rattle.oracles.proofs.ell_common.Laws.{multiplied}
 use Rattle.oracles.proofs.ell.Laws.{no-effect, fails, succeeds}
 use Rattle.oracles.proofs.ell.Ell.update.Statement.{statement}
@@ -34,7 +35,7 @@ returns c =
     let g = multiplied (a .self .ndim) (a .mq .now) (a .grad .now) (a .grad-t .now) (m .result, m .last .1 .1 .1 .0) (m .ensures) (i .pre .0) (i .pre .2) (i .pre .1) (i .pre .4) in
     no-effect (a .self) (a .strategy) (a .grad .now) (a .beta) (record { mq = a .mq .now; xc = a .xc .now; grad-t = a .grad-t .now }) _ (z .dot-zip .result) _
     g (z .dot-zip .ensures) (c .before .before .is-tiny .ensures)
-    (c .said .result) (c .before .if1 .taken) (c .said .ensures)
+    (updated (a .self) (c .said .result)) (c .before .if1 .taken) (c .said .ensures)
 
 calc-requires : tie.Need-calc-requires
 calc-requires c κs = search needs
@@ -60,7 +61,7 @@ returns-2 c =
     let g = multiplied (a .self .ndim) (a .mq .now) (a .grad .now) (a .grad-t .now) (m .result, m .last .1 .1 .1 .0) (m .ensures) (i .pre .0) (i .pre .2) (i .pre .1) (i .pre .4) in
     fails (a .self) (a .strategy) (a .grad .now) (a .beta) (record { mq = a .mq .now; xc = a .xc .now; grad-t = a .grad-t .now }) _ (z .dot-zip .result) _
     g (z .dot-zip .ensures) (c .before .before .before .before .before .before .before .is-tiny .ensures)
-    (c .before .before .before .calc .result) _ (c .before .before .before .calc .ensures) (c .before .before .is-success .ensures) (c .before .before .before .before .before .before .if1 .left) (c .said2 .result) (c .before .if2 .taken) (c .said2 .ensures)
+    (c .before .before .before .calc .result) _ (c .before .before .before .calc .ensures) (c .before .before .is-success .ensures) (c .before .before .before .before .before .before .if1 .left) (updated (a .self) (c .said2 .result)) (c .before .if2 .taken) (c .said2 .ensures)
 
 move-centre-requires : tie.Need-move-centre-requires
 move-centre-requires c κs = search needs
@@ -92,7 +93,7 @@ returns-3 c =
     let k = c .before .before .before .before .before .before .before .before .before .before .before .before .before .before .before .before .before .before in
     succeeds (a .self) (a .strategy) (a .grad .now) (a .beta) (record { mq = a .mq .now; xc = a .xc .now; grad-t = a .grad-t .now }) _ (z .dot-zip .result) _
     g (z .dot-zip .ensures) (c .before .before .before .before .before .before .before .before .before .before .before .before .before .before .before .before .before .before .before .before .before .before .is-tiny .ensures)
-    (k .calc .result) _ (k .calc .ensures) (c .before .before .before .before .before .before .before .before .before .before .before .before .before .before .before .before .before .is-success .ensures) (c .before .before .before .before .before .before .before .before .before .before .before .before .before .before .before .before .before .before .before .before .before .if1 .left) (c .said3 .result) _ _ (c .before .before .before .before .before .before .before .before .before .before .before .before .before .before .before .before .if2 .left)
+    (k .calc .result) _ (k .calc .ensures) (c .before .before .before .before .before .before .before .before .before .before .before .before .before .before .before .before .before .is-success .ensures) (c .before .before .before .before .before .before .before .before .before .before .before .before .before .before .before .before .before .before .before .before .before .if1 .left) (updated (a .self) (c .said3 .result)) _ _ (c .before .before .before .before .before .before .before .before .before .before .before .before .before .before .before .before .if2 .left)
     (c .before .before .before .before .before .shrink .ensures) (c .before .before .before .before .before .before .before .before .before .before .before .move-centre .ensures) (c .said3 .ensures)
 
 pub update-spec : {M : Type 1} → statement M

@@ -1,47 +1,16 @@
 -- `oracles::ell::Ell::update_core` meets its contract. Assumes nothing.
-use mathlib.Core.Path.{_∙_}
 use borrow.Author.Needs.{needs}
-use borrow.Author.Tests.{eq-eqb, ne-eqb}
-use Rattle.numbers.specs.ArrLaws.{dimension-most, wrong-dimension, wrong-length, accepted}
-use Rattle.oracles.specs.LoopLaws.{says-no, says-yes}
-use Rattle.oracles.proofs.ell_common.Laws.{no-left, no-right, both, lengths}
 use Rattle.oracles.proofs.ell.Ell.update_core.Statement.{statement}
 use Rattle.oracles.proofs.ell.Ell.update_core.Tie as tie
 
-is-dimension-requires : tie.Need-is-dimension-requires
-is-dimension-requires c κs = search needs
+advance-requires : tie.Need-advance-requires
+advance-requires c κs = search needs
 
-refused-requires : tie.Need-refused-requires
-refused-requires c κs = search needs
+after-requires : tie.Need-after-requires
+after-requires c κs = tt
 
-returns : tie.Need-returns
-returns c = rw (c .refused .ensures) (wrong-dimension _ _ _ _ _ (says-no _ _ (c .before .before .is-dimension .ensures) (c .before .if1 .taken)))
-
-lengths-fit-requires : tie.Need-lengths-fit-requires
-lengths-fit-requires c κs = dimension-most _ (says-yes _ _ (c .before .is-dimension .ensures) (c .if1 .left))
-
-refused-requires-2 : tie.Need-refused-requires-2
-refused-requires-2 c κs = search needs
-
-returns-2 : tie.Need-returns-2
-returns-2 c =
-    rw (c .refused2 .ensures)
-    (wrong-length _ _ _ _ _ (says-yes _ _ (c .before .before .before .before .is-dimension .ensures) (c .before .before .before .if1 .left))
-    (no-left _ _ (says-no _ _ (c .before .before .lengths-fit .ensures) (c .before .if2 .taken))))
-
-refused-requires-3 : tie.Need-refused-requires-3
-refused-requires-3 c κs = search needs
-
-returns-3 : tie.Need-returns-3
-returns-3 c =
-    rw (c .refused3 .ensures)
-    (wrong-length _ _ _ _ _ (says-yes _ _ (c .before .before .before .before .before .is-dimension .ensures) (c .before .before .before .before .if1 .left))
-    (no-right _ _ (says-yes _ _ (c .before .before .before .lengths-fit .ensures) (c .before .before .if2 .left)) (ne-eqb _ _ (c .before .if3 .taken))))
-
-update-requires : tie.Need-update-requires
-update-requires c κs =
-    let l = lengths _ _ _ _ (says-yes _ _ (c .before .before .before .before .before .lengths-fit .ensures) (c .before .before .before .before .if2 .left)) in
-    (says-yes _ _ (c .before .before .before .before .before .before .before .is-dimension .ensures) (c .before .before .before .before .before .before .if1 .left), l .0, l .1, l .2, c .before .before .before .if3 .left)
+answer-requires : tie.Need-answer-requires
+answer-requires c κs = tt
 
 same-length : tie.Need-same-length
 same-length c = search needs
@@ -52,28 +21,17 @@ same-length-2 c = search needs
 same-length-3 : tie.Need-same-length-3
 same-length-3 c = search needs
 
-returns-4 : tie.Need-returns-4
-returns-4 c =
-    c .before .before .before .before .before .before .update .ensures
-    ∙ accepted _ _ _ _ _
-    (says-yes _ _ (c .before .before .before .before .before .before .before .before .before .before .before .before .before .before .is-dimension .ensures) (c .before .before .before .before .before .before .before .before .before .before .before .before .before .if1 .left))
-    (both _ _ (says-yes _ _ (c .before .before .before .before .before .before .before .before .before .before .before .before .lengths-fit .ensures) (c .before .before .before .before .before .before .before .before .before .before .before .if2 .left))
-    (eq-eqb _ _ (c .before .before .before .before .before .before .before .before .before .before .if3 .left)))
+returns : tie.Need-returns
+returns c = rw (c .answer .ensures, c .before .after .ensures) (c .before .before .before .before .before .before .before .before .advance .ensures)
 
 pub update-core-spec : {M : Type 1} → statement M
 update-core-spec =
     tie.close
     (tie.spec
-    is-dimension-requires
-    refused-requires
-    returns
-    lengths-fit-requires
-    refused-requires-2
-    returns-2
-    refused-requires-3
-    returns-3
-    update-requires
+    advance-requires
+    after-requires
+    answer-requires
     same-length
     same-length-2
     same-length-3
-    returns-4)
+    returns)

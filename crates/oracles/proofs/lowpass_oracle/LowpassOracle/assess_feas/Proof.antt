@@ -5,7 +5,7 @@ use native.Mathlib.Omega.{arith}
 use borrow.Author.Needs.{needs}
 use lib.Dec.{eqb}
 use lib.ListN.{length}
-use Rattle.oracles.proofs.scan.Tests.{dimension-least, passed, failed}
+use Rattle.oracles.proofs.scan.Tests.{passed, failed}
 use Rattle.oracles.proofs.lowpass_oracle.Answers.{with-rule, refused-as, no-dimension, no-length, no-bands, no-cursors, all-passed, all-scannable}
 use Rattle.oracles.proofs.lowpass_oracle.LowpassOracle.assess_feas.Statement.{statement}
 use Rattle.oracles.proofs.lowpass_oracle.LowpassOracle.assess_feas.Tie as tie

@@ -1,0 +1,130 @@
+-- Rows looked at one after the other: a run by its first row, and a scan by its first run. Assumes nothing.
+use mathlib.Core.Path.{_≡_, refl, sym, ap, _∙_}
+use mathlib.Core.Bool.{Bool, true, false, true≢false}
+use mathlib.Core.List.{List}
+use Prim.Native.Nat.{ℕ, zero, suc, _≤_, _+_}
+use native.Mathlib.Nat.{zero-add, add-zero, suc-add}
+use native.Mathlib.Omega.{arith}
+use lib.IntN.{ℤ, pos, natAbs}
+use lib.Ieee.{Float, nan, inf, fin, lt}
+use Rattle.numbers.specs.Pick.{pick, hit, skip}
+use Rattle.oracles.specs.RoundRobin.{advanced}
+use Rattle.oracles.specs.RoundRobinLaws.{canon, adv-next}
+use Rattle.oracles.specs.Scan.{valueOf, isOver, scanFrom}
+use Rattle.oracles.specs.ScanRun.{limitOf, isBroken, judgedOf, runOf}
+use Rattle.oracles.specs.declared.round_robin.RoundRobin.{RoundRobin}
+use Rattle.oracles.specs.declared.scan.Upper.{Upper}
+use Rattle.oracles.specs.declared.scan.Upper.the-variants.{Absent, At}
+use Rattle.oracles.specs.declared.scan.Violation.the-variants.{Nothing, Broken}
+use Rattle.oracles.specs.declared.scan.Scan.{Scan}
+
+-- the scan s, or where it is not broken what the rows after it give
+abbrev pub after : Scan → Scan → Scan
+after s rest = pick (isBroken (s .viol)) s rest
+
+pub after-broken : (s rest : Scan) → isBroken (s .viol) ≡ true → s ≡ after s rest
+after-broken s rest b = hit _ _ _ _ b refl
+
+pub after-whole : (s rest : Scan) → isBroken (s .viol) ≡ false → rest ≡ after s rest
+after-whole s rest b = skip _ _ _ _ b refl
+
+-- after one scan and then another
+after-after : (s t : Scan) (g : Scan → Scan) (rest : Scan) → rest ≡ after t (g t) → after s rest ≡ after (after s t) (g (after s t))
+unfolding pick
+after-after s t g rest e = go (isBroken (s .viol)) refl
+  where
+    go : (b : Bool) → isBroken (s .viol) ≡ b → pick b s rest ≡ after (pick b s t) (g (pick b s t))
+    go true h = after-broken s (g s) h
+    go false h = e
+
+-- a row's judgement, by its two tests
+abbrev way : ℕ → Float → Float → ℤ → Bool → Bool → Scan
+way i v f k over under =
+    pick over (record { viol = Broken i v true; fmax = f; kmax = k; last = pos i })
+    (pick under (record { viol = Broken i v false; fmax = f; kmax = k; last = pos i })
+    (record { viol = Nothing; fmax = pick (lt f v) v f; kmax = pick (lt f v) (pos i) k; last = pos i }))
+
+module _ (n : ℕ) (table x : List Float) (lower limit : Float) where
+  abbrev judged : ℕ → Float → ℤ → Scan
+  judged i f k = judgedOf lower limit i (valueOf n table x i) f k
+
+  -- a judgement of row j with the value v, where they are row i and its value
+  pub as-judged : (f : Float) {i j : ℕ} {v : Float} {k h : ℤ} {s : Scan} → j ≡ i → v ≡ valueOf n table x j → h ≡ k → s ≡ judgedOf lower limit j v f h → s ≡ judged i f k
+  as-judged f ej ev eh e = rw (ev, ej, eh) at e
+
+  module _ (i : ℕ) (f : Float) (k : ℤ) {s : Scan} (e : s ≡ judged i f k) where
+    -- a run that ends at its first row
+    pub run-ends : (m : ℕ) → isBroken (s .viol) ≡ true → s ≡ runOf n table x lower limit (suc m) i f k
+    unfolding runOf
+    run-ends m b = e ∙ after-broken (judged i f k) _ (ap (λ (z : Scan). isBroken (z .viol)) (sym e) ∙ b)
+
+    -- one that goes on
+    pub run-on : (m : ℕ) → isBroken (s .viol) ≡ false → runOf n table x lower limit m (suc i) (s .fmax) (s .kmax) ≡ runOf n table x lower limit (suc m) i f k
+    unfolding runOf
+    run-on m b =
+        ap (λ (z : Scan). runOf n table x lower limit m (suc i) (z .fmax) (z .kmax)) e
+        ∙ after-whole (judged i f k) _ (ap (λ (z : Scan). isBroken (z .viol)) (sym e) ∙ b)
+
+    -- one row
+    pub run-one : s ≡ runOf n table x lower limit 1 i f k
+    unfolding runOf pick
+    run-one = e ∙ go (lt limit (valueOf n table x i)) (lt (valueOf n table x i) lower)
+      where
+        go : (t u : Bool) → way i (valueOf n table x i) f k t u
+            ≡ after (way i (valueOf n table x i) f k t u) (record { viol = Nothing; fmax = way i (valueOf n table x i) f k t u .fmax; kmax = way i (valueOf n table x i) f k t u .kmax; last = pos i })
+        go true u = refl
+        go false true = refl
+        go false false = refl
+
+-- ---- a scan with the upper limit as a number
+
+-- nothing lies above infinity
+over-limit : (upper : Upper) (v : Float) → isOver upper v ≡ lt (limitOf upper) v
+unfolding lt
+over-limit Absent nan = refl
+over-limit Absent (inf s) = refl
+over-limit Absent (fin s m e) = refl
+over-limit (At u) v = refl
+
+pub by-limit : (n : ℕ) (table x : List Float) (lower : Float) (upper : Upper) (left : ℕ) (c : RoundRobin) (f : Float) (k : ℤ)
+    → scanFrom n table x lower (At (limitOf upper)) left c f k ≡ scanFrom n table x lower upper left c f k
+unfolding scanFrom
+by-limit n table x lower upper zero c f k = refl
+by-limit n table x lower upper (suc left) c f k =
+    rw (over-limit upper (valueOf n table x (natAbs (advanced c .cur))), by-limit n table x lower upper left (advanced c))
+
+-- one of m rows and more, the m rows before the band's end
+module _ (n : ℕ) (table x : List Float) (lower limit : Float) (from past : ℕ) where
+  abbrev first : ℕ → Float → ℤ → Scan
+  first i f k = judgedOf lower limit i (valueOf n table x i) f k
+
+  abbrev scan : ℕ → ℕ → Float → ℤ → Scan
+  scan left i f k = scanFrom n table x lower (At limit) left (canon from past i) f k
+
+  scan-first : (left i : ℕ) (f : Float) (k : ℤ) → (i ≡ past → ⊥) → scan (suc left) i f k ≡ after (first i f k) (scan left (suc i) (first i f k .fmax) (first i f k .kmax))
+  unfolding scanFrom pick
+  scan-first left i f k h = rw (adv-next from past i h) (go (lt limit (valueOf n table x i)) (lt (valueOf n table x i) lower))
+    where
+      v : Float
+      v = valueOf n table x i
+
+      go : (t u : Bool) → pick t (record { viol = Broken i v true; fmax = f; kmax = k; last = pos i }) (pick u (record { viol = Broken i v false; fmax = f; kmax = k; last = pos i })
+          (scan left (suc i) (pick (lt f v) v f) (pick (lt f v) (pos i) k)))
+          ≡ after (way i v f k t u) (scan left (suc i) (way i v f k t u .fmax) (way i v f k t u .kmax))
+      go true u = refl
+      go false true = refl
+      go false false = refl
+
+  abbrev run : ℕ → ℕ → Float → ℤ → Scan
+  run m i f k = runOf n table x lower limit m i f k
+
+  pub by-run : (m left i : ℕ) (f : Float) (k : ℤ) → i + m ≤ past → scan (m + left) i f k ≡ after (run m i f k) (scan left (i + m) (run m i f k .fmax) (run m i f k .kmax))
+  unfolding runOf pick
+  by-run zero left i f k h = rw (zero-add left, add-zero i)
+  by-run (suc m) left i f k h =
+      let q : suc i + m ≡ i + suc m = omega arith in
+      let s = first i f k in
+      rw (suc-add m left)
+      (scan-first (m + left) i f k (λ e. omega arith)
+      ∙ after-after s (run m (suc i) (s .fmax) (s .kmax)) (λ (z : Scan). scan left (i + suc m) (z .fmax) (z .kmax)) _
+      (rw q at (by-run m left (suc i) (s .fmax) (s .kmax) (omega arith))))
