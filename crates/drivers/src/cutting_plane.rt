@@ -5,7 +5,7 @@ use numbers::cut::CutChoice;
 use numbers::cut::CutStatus;
 use numbers::refusal::Refusal;
 use oracles::ell::Ell;
-use oracles::ell::EllUpdate;
+use oracles::ell::Moved;
 use oracles::ell_common::CutStrategy;
 use oracles::ell_common::Update;
 use oracles::lowpass_oracle::Group;
@@ -16,6 +16,7 @@ use oracles::scan::table_fits;
 ghost use mathlib.Core.Path.{_≡_};
 ghost use mathlib.Core.Bool.{false};
 ghost use lib.ListN.{length};
+ghost use Rattle.oracles.specs.EllLaws.{updated};
 ghost use Rattle.drivers.specs.CuttingPlane.{default-options, checkOf, said-of, goes-on, proceeds, feas-ended, is-found, kept, feas-step, feas-run, feas-answer, optim-step, optim-goes-on, optim-ended, optim-left, optim-run, optim-answer};
 
 // How many steps a run may take, and the tsq below which it ends.
@@ -186,13 +187,12 @@ pub(crate) fn feas_step(
             said: Said::Feasible,
         },
         Verdict::Cut(group, beta) => {
-            let updated = ell.update_core(CutStrategy::BiasCut, grad, beta, mq, xc, grad_t);
-            let moved = updated.ell;
-            let answer = updated.answer;
+            let moved = ell.advance(CutStrategy::BiasCut, grad, beta, mq, xc, grad_t);
+            let outcome = moved.outcome;
             FeasStep {
                 oracle: after,
-                ell: moved,
-                said: said_of(group, beta, answer),
+                ell: ell.after(moved),
+                said: said_of(group, beta, outcome.answer()),
             }
         }
         Verdict::Refused(why) => FeasStep {
@@ -332,17 +332,22 @@ pub fn cutting_plane_feas(
 // ---- cutting_plane_optim
 
 // A step that ends with this update.
-fn optim_stepped(oracle: LowpassOracle, updated: EllUpdate, gamma: f64, found: bool) -> OptimStep
-    ensures { λ r. ⌜ r ≡ record { oracle = oracle; ell = updated .ell; gamma = gamma; found = «found»; answer = updated .answer } ⌝ }
+fn optim_stepped(
+    oracle: LowpassOracle,
+    ell: Ell,
+    moved: Moved,
+    gamma: f64,
+    found: bool,
+) -> OptimStep
+    ensures { λ r. ⌜ r ≡ record { oracle = oracle; ell = updated ell moved .ell; gamma = gamma; found = «found»; answer = updated ell moved .answer } ⌝ }
 {
-    let ell = updated.ell;
-    let answer = updated.answer;
+    let outcome = moved.outcome;
     OptimStep {
         oracle: oracle,
-        ell: ell,
+        ell: ell.after(moved),
         gamma: gamma,
         found: found,
-        answer: answer,
+        answer: outcome.answer(),
     }
 }
 
@@ -370,12 +375,12 @@ fn optim_step(
     match verdict {
         OptimVerdict::Improved(beta) => {
             keep(true, xc, x_best);
-            let updated = ell.update_core(CutStrategy::CentralCut, grad, beta, mq, xc, grad_t);
-            optim_stepped(after, updated, offer, true)
+            let moved = ell.advance(CutStrategy::CentralCut, grad, beta, mq, xc, grad_t);
+            optim_stepped(after, ell, moved, offer, true)
         }
         OptimVerdict::Cut(_, beta) => {
-            let updated = ell.update_core(CutStrategy::BiasCut, grad, beta, mq, xc, grad_t);
-            optim_stepped(after, updated, offer, found)
+            let moved = ell.advance(CutStrategy::BiasCut, grad, beta, mq, xc, grad_t);
+            optim_stepped(after, ell, moved, offer, found)
         }
         OptimVerdict::Refused(why) => OptimStep {
             oracle: after,

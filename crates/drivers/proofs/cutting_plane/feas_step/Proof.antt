@@ -1,5 +1,8 @@
 -- `drivers::cutting_plane::feas_step` meets its contract. Assumes nothing.
+use mathlib.Core.Path.{ap, _∙_}
 use borrow.Author.Needs.{needs}
+use Rattle.oracles.specs.EllLaws.{updated}
+use Rattle.drivers.specs.CuttingPlane.{said-of}
 use Rattle.drivers.proofs.cutting_plane.Steps.{step-feasible, step-refused, step-cut}
 use Rattle.drivers.proofs.cutting_plane.feas_step.Statement.{statement}
 use Rattle.drivers.proofs.cutting_plane.feas_step.Tie as tie
@@ -13,8 +16,14 @@ enum-told c = search needs
 enum-known-verdict : tie.Need-enum-known-verdict
 enum-known-verdict c = search needs
 
-update-core-requires : tie.Need-update-core-requires
-update-core-requires c κs = tt
+advance-requires : tie.Need-advance-requires
+advance-requires c κs = tt
+
+after-requires : tie.Need-after-requires
+after-requires c κs = tt
+
+answer-requires : tie.Need-answer-requires
+answer-requires c κs = tt
 
 said-of-requires : tie.Need-said-of-requires
 said-of-requires c κs = tt
@@ -42,19 +51,21 @@ same-length-4 : tie.Need-same-length-4
 same-length-4 c = search needs
 
 same-length-5 : tie.Need-same-length-5
-same-length-5 c = search needs
+same-length-5 c = c .before .before .before .before .before .before .before .before .before .before .before .before .before .before .before .before .before .before .before .before .assess-feas .kept .1 .1 .1 .1 .1 .0
 
 same-length-6 : tie.Need-same-length-6
 same-length-6 c = search needs
 
 returns-2 : tie.Need-returns-2
 returns-2 c =
-    let u = c .before .before .before .before .before .before .before .before .update-core in
-    let k = c .before .before .before .before .before .before .before .before .before .before .before .before .before .before .verdict .given in
-    let d = c .before .before .before .before .before .before .before .before .before .before .before .before .before .before .before .before .before .before .before in
+    let u = c .before .before .before .before .before .before .before .before .before .advance in
+    let k = c .before .before .before .before .before .before .before .before .before .before .before .before .before .before .before .verdict .given in
+    let d = c .before .before .before .before .before .before .before .before .before .before .before .before .before .before .before .before .before .before .before .before in
     let a = d .before .before .before .before .before .before .before .before .args in
-    step-cut (a .rows) (a .table .now) (record { oracle = a .oracle; ell = a .ell; buffers = record { mq = a .mq .now; xc = a .xc .now; grad-t = a .grad-t .now }; grad = a .grad .now })
-    (d .assess-feas .result) _ (d .assess-feas .ensures .0) (k .0 .0) (k .0 .1 .0) (k .1) (u .result) _ (u .ensures) (c .said-of .result) (c .said-of .ensures)
+    rw (c .before .before .after2 .ensures)
+    (step-cut (a .rows) (a .table .now) (record { oracle = a .oracle; ell = a .ell; buffers = record { mq = a .mq .now; xc = a .xc .now; grad-t = a .grad-t .now }; grad = a .grad .now })
+    (d .assess-feas .result) _ (d .assess-feas .ensures .0) (k .0 .0) (k .0 .1 .0) (k .1) (updated (a .ell) (u .result)) _ (u .ensures)
+    (c .said-of .result) (c .said-of .ensures ∙ ap (said-of (k .0 .0) (k .0 .1 .0)) (c .before .answer .ensures)))
 
 same-length-7 : tie.Need-same-length-7
 same-length-7 c = search needs
@@ -73,5 +84,5 @@ returns-3 c =
 pub feas-step-spec : {M : Type 1} → statement M
 feas-step-spec =
     tie.close
-    (tie.spec assess-feas-requires enum-told enum-known-verdict update-core-requires said-of-requires enum-known-verdict-2 same-length same-length-2 returns same-length-3 same-length-4
+    (tie.spec assess-feas-requires enum-told enum-known-verdict advance-requires after-requires answer-requires said-of-requires enum-known-verdict-2 same-length same-length-2 returns same-length-3 same-length-4
     same-length-5 same-length-6 returns-2 same-length-7 same-length-8 returns-3)
