@@ -1,0 +1,46 @@
+-- `ponduvizh::ellipsoids::ell_made` meets its contract. Assumes nothing.
+use Rattle.ponduvizh.proofs.ellipsoids.Laws.{ell-updated}
+use borrow.Author.Needs.{needs}
+use Rattle.ponduvizh.proofs.ellipsoids.ell_made.Statement.{statement}
+use Rattle.ponduvizh.proofs.ellipsoids.ell_made.Tie as tie
+
+strategy-of-requires : tie.Need-strategy-of-requires
+strategy-of-requires c κs = search needs
+
+beta-of-requires : tie.Need-beta-of-requires
+beta-of-requires c κs = search needs
+
+update-core-requires : tie.Need-update-core-requires
+update-core-requires c κs = search needs
+
+status-or-requires : tie.Need-status-or-requires
+status-or-requires c κs = search needs
+
+update-code-requires : tie.Need-update-code-requires
+update-code-requires c κs = search needs
+
+same-length : tie.Need-same-length
+same-length c = search needs
+
+same-length-2 : tie.Need-same-length-2
+same-length-2 c = search needs
+
+same-length-3 : tie.Need-same-length-3
+same-length-3 c = search needs
+
+returns : tie.Need-returns
+returns c = search (needs, ell-updated)
+
+pub ell-made-spec : {M : Type 1} → statement M
+ell-made-spec =
+    tie.close
+    (tie.spec
+    strategy-of-requires
+    beta-of-requires
+    update-core-requires
+    status-or-requires
+    update-code-requires
+    same-length
+    same-length-2
+    same-length-3
+    returns)

@@ -1,0 +1,34 @@
+-- `ponduvizh::jobs::ponduvizh_read_job` meets its contract. Assumes nothing.
+use Rattle.ponduvizh.proofs.jobs.Laws.{read-law}
+use borrow.Author.Needs.{needs}
+use Rattle.ponduvizh.proofs.jobs.ponduvizh_read_job.Statement.{statement}
+use Rattle.ponduvizh.proofs.jobs.ponduvizh_read_job.Tie as tie
+
+read-job-requires : tie.Need-read-job-requires
+read-job-requires c κs = search needs
+
+put-answer-requires : tie.Need-put-answer-requires
+put-answer-requires c κs = search needs
+
+same-length : tie.Need-same-length
+same-length c = search needs
+
+same-length-2 : tie.Need-same-length-2
+same-length-2 c = search needs
+
+same-length-3 : tie.Need-same-length-3
+same-length-3 c = search needs
+
+returns : tie.Need-returns
+returns c = search (needs, read-law)
+
+pub ponduvizh-read-job-spec : {M : Type 1} → statement M
+ponduvizh-read-job-spec =
+    tie.close
+    (tie.spec
+    read-job-requires
+    put-answer-requires
+    same-length
+    same-length-2
+    same-length-3
+    returns)

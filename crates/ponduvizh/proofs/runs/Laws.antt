@@ -1,0 +1,90 @@
+-- A run told by its parts is the run told. Assumes nothing.
+use mathlib.Core.Path.{_≡_, refl}
+use mathlib.Core.List.{List}
+use Prim.Native.Nat.{ℕ}
+use lib.IntN.{ℤ}
+use lib.Ieee.{Float}
+use mathlib.Core.Bool.{false}
+use Rattle.numbers.specs.Refusal.{refusalNumber}
+use Rattle.numbers.specs.declared.refusal.Refusal.{Refusal}
+use Rattle.oracles.specs.Ell.{EllBuffers}
+use Rattle.oracles.specs.declared.ell.Ell.{Ell}
+use Rattle.oracles.specs.declared.ell.NewEll.{NewEll}
+use Rattle.oracles.specs.declared.ell.NewEll.the-variants.{Made, Refused as NotMade}
+use Rattle.oracles.specs.declared.lowpass_oracle.LowpassOracle.{LowpassOracle}
+use Rattle.drivers.specs.CuttingPlane.{Space, OptimLeft, feas-answer, optim-answer, optim-number, optim-left}
+use Rattle.drivers.specs.declared.cutting_plane.Options.{Options}
+use Rattle.drivers.specs.declared.answer.Answer.{Answer}
+use Rattle.drivers.specs.declared.cutting_plane.FeasAnswer.{FeasAnswer}
+use Rattle.drivers.specs.declared.cutting_plane.FeasAnswer.the-variants.{Refused}
+use Rattle.drivers.specs.declared.cutting_plane.OptimAnswer.{OptimAnswer}
+use Rattle.drivers.specs.declared.cutting_plane.OptimAnswer.the-variants.{Refused as RefusedOptim}
+use Rattle.ponduvizh.specs.ToldRuns.{RunLeft, oracle-of, flagOf, answer-of, marks-of, values-of, no-answer, feas-code, feas-ended, optim-ended, feas-left, optim-left-told, feas-told, optim-told}
+
+pub no-feas : (a : FeasAnswer) (why : Refusal) → a ≡ Refused why → no-answer ≡ feas-ended a
+no-feas a why e = rw e refl
+
+pub no-optim : (a : OptimAnswer) (why : Refusal) → a ≡ RefusedOptim why → no-answer ≡ optim-ended a
+no-optim a why e = rw e refl
+
+pub feas-law : (a : FeasAnswer) (ended : Answer) (o : LowpassOracle) (e : Ell) (b : EllBuffers) (grad best : List Float) (code : ℕ) (answer : List ℕ) (marks : List ℤ) (values : List Float) (r : FeasAnswer × Space × List Float)
+    → (a, record { oracle = o; ell = e; buffers = b; grad = grad }, best) ≡ r
+    → ended ≡ feas-ended a
+    → answer ≡ answer-of ended o
+    → marks ≡ marks-of o
+    → values ≡ values-of o e
+    → code ≡ feas-code a
+    → _≡_ {A = RunLeft} (record { code = code; answer = answer; marks = marks; values = values; buffers = b; grad = grad; best = best }) (feas-left r)
+unfolding feas-left
+feas-law a ended o e b grad best code answer marks values r d h₁ h₂ h₃ h₄ h₅ = rw (h₅, h₄, h₃, h₂, h₁, ← d) refl
+
+pub optim-law : (a : OptimAnswer) (ended : Answer) (o : LowpassOracle) (e : Ell) (gamma : Float) (b : EllBuffers) (grad best : List Float) (code : ℕ) (answer : List ℕ) (marks : List ℤ) (values : List Float) (r : OptimLeft)
+    → optim-left a o e gamma b grad best ≡ r
+    → ended ≡ optim-ended a
+    → answer ≡ answer-of ended o
+    → marks ≡ marks-of o
+    → values ≡ values-of o e
+    → code ≡ optim-number a
+    → _≡_ {A = RunLeft × Float} (record { code = code; answer = answer; marks = marks; values = values; buffers = b; grad = grad; best = best }, gamma) (optim-left-told r)
+unfolding optim-left-told
+optim-law a ended o e gamma b grad best code answer marks values r d h₁ h₂ h₃ h₄ h₅ = rw (h₅, h₄, h₃, h₂, h₁, ← d) refl
+
+-- an oracle of numbers that were handed on
+pub handed : (a b d e f g a′ b′ d′ e′ f′ g′ : ℤ) (lp up sp : Float) (o : LowpassOracle) → a ≡ a′ → b ≡ b′ → d ≡ d′ → e ≡ e′ → f ≡ f′ → g ≡ g′
+    → o ≡ oracle-of a b d e f g lp up sp
+    → o ≡ oracle-of a′ b′ d′ e′ f′ g′ lp up sp
+handed a b d e f g a′ b′ d′ e′ f′ g′ lp up sp o ha hb hd he hf hg h = rw (← ha, ← hb, ← hd, ← he, ← hf, ← hg) h
+
+-- what is made is run, and a refusal leaves all as it was
+module _ (x : NewEll) (o : LowpassOracle) (p : Options) (rows k : ℕ) (table : List Float) (ans : List ℕ) (marks : List ℤ) (values : List Float) (b : EllBuffers) (grad best : List Float) where
+  abbrev was : ℕ → RunLeft
+  was code = record { code = code; answer = ans; marks = marks; values = values; buffers = b; grad = grad; best = best }
+
+  pub feas-made : (e : Ell) (r : RunLeft) → x ≡ Made e
+      → r ≡ feas-left (feas-answer p rows table (record { oracle = o; ell = e; buffers = b; grad = grad }) best)
+      → r ≡ feas-told x o p rows table (was k)
+  unfolding feas-told
+  feas-made e r m h = rw m h
+
+  pub feas-not-made : (why : Refusal) (code : ℕ) → x ≡ NotMade why → code ≡ refusalNumber why → was code ≡ feas-told x o p rows table (was k)
+  unfolding feas-told
+  feas-not-made why code m h = rw (m, h) refl
+
+  pub optim-made : (gamma : Float) (e : Ell) (r : RunLeft × Float) → x ≡ Made e
+      → r ≡ optim-left-told (optim-answer p rows table (record { oracle = o; ell = e; buffers = b; grad = grad; gamma = gamma; found = false; best = best }))
+      → r ≡ optim-told x o p rows table gamma (was k)
+  unfolding optim-told
+  optim-made gamma e r m h = rw m h
+
+  pub optim-not-made : (gamma : Float) (why : Refusal) (code : ℕ) → x ≡ NotMade why → code ≡ refusalNumber why
+      → (was code, gamma) ≡ optim-told x o p rows table gamma (was k)
+  unfolding optim-told
+  optim-not-made gamma why code m h = rw (m, h) refl
+
+  -- with what was handed on
+  module _ (x′ : NewEll) (o′ : LowpassOracle) (p′ : Options) (dx : x ≡ x′) (dl : o ≡ o′) (dp : p ≡ p′) where
+    pub feas-handed : (r : RunLeft) → r ≡ feas-told x o p rows table (was k) → r ≡ feas-told x′ o′ p′ rows table (was k)
+    feas-handed r h = rw (← dx, ← dl, ← dp) h
+
+    pub optim-handed : (gamma : Float) (r : RunLeft × Float) → r ≡ optim-told x o p rows table gamma (was k) → r ≡ optim-told x′ o′ p′ rows table gamma (was k)
+    optim-handed gamma r h = rw (← dx, ← dl, ← dp) h

@@ -1,0 +1,54 @@
+-- `ponduvizh::runs::feas_of` meets its contract. Assumes nothing.
+use Rattle.ponduvizh.proofs.runs.Laws.{feas-made, feas-not-made}
+use borrow.Author.Needs.{needs}
+use Rattle.ponduvizh.proofs.runs.feas_of.Statement.{statement}
+use Rattle.ponduvizh.proofs.runs.feas_of.Tie as tie
+
+enum-known-new : tie.Need-enum-known-new
+enum-known-new c = search needs
+
+code-requires : tie.Need-code-requires
+code-requires c κs = search needs
+
+enum-known-new-2 : tie.Need-enum-known-new-2
+enum-known-new-2 c = search needs
+
+feas-made-requires : tie.Need-feas-made-requires
+feas-made-requires c κs = search needs
+
+returns : tie.Need-returns
+returns c = search (needs, feas-not-made)
+
+same-length : tie.Need-same-length
+same-length c = search needs
+
+same-length-2 : tie.Need-same-length-2
+same-length-2 c = search needs
+
+same-length-3 : tie.Need-same-length-3
+same-length-3 c = search needs
+
+same-length-4 : tie.Need-same-length-4
+same-length-4 c = search needs
+
+same-length-5 : tie.Need-same-length-5
+same-length-5 c = search needs
+
+returns-2 : tie.Need-returns-2
+returns-2 c = search (needs, feas-made)
+
+pub feas-of-spec : {M : Type 1} → statement M
+feas-of-spec =
+    tie.close
+    (tie.spec
+    enum-known-new
+    code-requires
+    enum-known-new-2
+    feas-made-requires
+    returns
+    same-length
+    same-length-2
+    same-length-3
+    same-length-4
+    same-length-5
+    returns-2)

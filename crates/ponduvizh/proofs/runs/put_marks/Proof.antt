@@ -1,0 +1,12 @@
+-- `ponduvizh::runs::put_marks` meets its contract. Assumes nothing.
+use Rattle.ponduvizh.specs.ToldRuns.{marks-of}
+use borrow.Author.Needs.{needs}
+use Rattle.ponduvizh.proofs.runs.put_marks.Statement.{statement}
+use Rattle.ponduvizh.proofs.runs.put_marks.Tie as tie
+
+returns : tie.Need-returns
+unfolding marks-of
+returns c = search needs
+
+pub put-marks-spec : {M : Type 1} → statement M
+put-marks-spec = tie.close (tie.spec returns)

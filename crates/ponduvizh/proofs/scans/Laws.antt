@@ -1,0 +1,50 @@
+-- A scan told by its parts is the scan told. Assumes nothing.
+use mathlib.Core.Path.{_≡_, refl}
+use mathlib.Core.Bool.{Bool, true, false}
+use mathlib.Core.List.{List, [], _∷_}
+use Prim.Native.Nat.{ℕ}
+use lib.IntN.{ℤ}
+use lib.Ieee.{Float}
+use Rattle.numbers.specs.Pick.{hit, skip}
+use Rattle.numbers.specs.Refusal.{refusalNumber}
+use Rattle.numbers.specs.declared.refusal.Refusal.{Refusal}
+use Rattle.oracles.specs.declared.round_robin.RoundRobin.{RoundRobin}
+use Rattle.oracles.specs.Scan.{scan-band-answer}
+use Rattle.oracles.specs.declared.scan.Upper.{Upper}
+use Rattle.oracles.specs.declared.scan.Violation.{Violation}
+use Rattle.oracles.specs.declared.scan.Violation.the-variants.{Broken}
+use Rattle.oracles.specs.declared.scan.Scan.{Scan}
+use Rattle.oracles.specs.declared.scan.ScanAnswer.{ScanAnswer}
+use Rattle.oracles.specs.declared.scan.ScanAnswer.the-variants.{Scanned, Refused}
+use Rattle.ponduvizh.specs.ToldScan.{ScanLeft, sideOf, rowOf, valueOf, scan-left, scan-told, scan-ended}
+
+pub is-above : (v : Violation) (row : ℕ) (value : Float) (over : Bool) → v ≡ Broken row value over → over ≡ true → _≡_ {A = ℕ} 2 (sideOf v)
+is-above v row value over e h = rw e (hit _ _ _ _ h refl)
+
+pub is-below : (v : Violation) (row : ℕ) (value : Float) (over : Bool) → v ≡ Broken row value over → over ≡ false → _≡_ {A = ℕ} 1 (sideOf v)
+is-below v row value over e h = rw e (skip _ _ _ _ h refl)
+
+pub scan-law : (s : Scan) (side row : ℕ) (value : Float) (kmax : ℤ) → side ≡ sideOf (s .viol) → row ≡ rowOf (s .viol) → value ≡ valueOf (s .viol) → kmax ≡ s .kmax
+    → _≡_ {A = ScanLeft} (record { found = side ∷ row ∷ []; values = value ∷ s .fmax ∷ []; kmax = kmax }) (scan-left s)
+unfolding scan-left
+scan-law s side row value kmax a b d e = rw (a, b, d, e) refl
+
+pub was-scanned : (a : ScanAnswer) (s : Scan) (l l′ : ScanLeft) → a ≡ Scanned s → l′ ≡ scan-left s → _≡_ {A = ℕ × ScanLeft} (0, l′) (scan-told a l)
+was-scanned a s l l′ m h = rw (m, h) refl
+
+pub was-refused : (a : ScanAnswer) (why : Refusal) (code : ℕ) (l : ScanLeft) → a ≡ Refused why → code ≡ refusalNumber why → _≡_ {A = ℕ × ScanLeft} (code, l) (scan-told a l)
+was-refused a why code l m h = rw (m, h) refl
+
+pub ended-law : (a : ScanAnswer) (rr : RoundRobin) (r : ScanAnswer × RoundRobin) (t : ℕ × ScanLeft) (cur : ℤ) (l : ScanLeft) → (a, rr) ≡ r → t ≡ scan-told a l → cur ≡ rr .cur
+    → _≡_ {A = (ℕ × ScanLeft) × ℤ} (t, cur) (scan-ended r l)
+unfolding scan-ended
+ended-law a rr r t cur l d h e = rw (h, e, ← d) refl
+
+-- with a cursor and a limit that were handed on
+pub cursor-handed : (s : RoundRobin) (cur a b a′ b′ : ℤ) → s ≡ record { cur = cur; lo = a; hi = b } → a ≡ a′ → b ≡ b′ → s ≡ record { cur = cur; lo = a′; hi = b′ }
+cursor-handed s cur a b a′ b′ d h k = rw (← h, ← k) d
+
+pub handed : (n rows : ℕ) (table x : List Float) (s s′ : RoundRobin) (lower : Float) (u u′ : Upper) (l : ScanLeft) (r : (ℕ × ScanLeft) × ℤ) → s ≡ s′ → u ≡ u′
+    → r ≡ scan-ended (scan-band-answer n rows table x s lower u) l
+    → r ≡ scan-ended (scan-band-answer n rows table x s′ lower u′) l
+handed n rows table x s s′ lower u u′ l r d e h = rw (← d, ← e) h

@@ -1,0 +1,17 @@
+-- `ponduvizh::scans::scan_from` meets its contract. Assumes nothing.
+use Rattle.ponduvizh.proofs.scans.Laws.{ended-law}
+use borrow.Author.Needs.{needs}
+use Rattle.ponduvizh.proofs.scans.scan_from.Statement.{statement}
+use Rattle.ponduvizh.proofs.scans.scan_from.Tie as tie
+
+scan-lent-requires : tie.Need-scan-lent-requires
+scan-lent-requires c κs = search needs
+
+put-answer-requires : tie.Need-put-answer-requires
+put-answer-requires c κs = search needs
+
+returns : tie.Need-returns
+returns c = search (needs, ended-law)
+
+pub scan-from-spec : {M : Type 1} → statement M
+scan-from-spec = tie.close (tie.spec scan-lent-requires put-answer-requires returns)

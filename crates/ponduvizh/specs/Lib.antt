@@ -1,0 +1,4 @@
+-- Definitions, which a reader has to believe.
+pub mod Told
+pub mod ToldRuns
+pub mod ToldScan

@@ -1,0 +1,127 @@
+-- What the exported calls answer: the definitions of the three layers, told in numbers. Each call gives 0 or the refusal's number, and the rest through
+-- slices and numbers that it is lent; a refused call leaves those as they were. Definitions only.
+use Prim.Native.Nat.{ℕ}
+use mathlib.Core.Bool.{Bool}
+use mathlib.Core.List.{List, [], _∷_}
+use lib.Dec.{eqb}
+use lib.ListN.{getD}
+use lib.IntN.{ℤ, pos}
+use lib.Ieee.{Float, nan}
+use Rattle.numbers.specs.Pick.{pick}
+use Rattle.numbers.specs.Refusal.{refusalNumber}
+use Rattle.numbers.specs.declared.arr.Number.{Number}
+use Rattle.numbers.specs.declared.arr.Number.the-variants.{Value, Refused as NoNumber}
+use Rattle.numbers.specs.declared.arr.Written.{Written}
+use Rattle.numbers.specs.declared.arr.Written.the-variants.{Done, Refused as NotWritten}
+use Rattle.numbers.specs.declared.cut.CutStatus.{CutStatus}
+use Rattle.numbers.specs.declared.cut.CutStatus.the-variants.{Success, NoSoln, NoEffect}
+use Rattle.numbers.specs.declared.cut.CutChoice.{CutChoice}
+use Rattle.numbers.specs.declared.cut.CutChoice.the-variants.{Single, Parallel}
+use Rattle.oracles.specs.Ell.{EllBuffers, with-tsq, ell-update-answer}
+use Rattle.oracles.specs.EllStable.{StableBuffers, stable-update-answer, with-tsq as with-stable-tsq}
+use Rattle.oracles.specs.declared.ldlt_mgr.Factored.{Factored}
+use Rattle.oracles.specs.declared.ldlt_mgr.Factored.the-variants.{Definite, Stopped, Refused as NotFactored}
+use Rattle.oracles.specs.declared.ell.Ell.{Ell}
+use Rattle.oracles.specs.declared.ell.EllUpdate.{EllUpdate}
+use Rattle.oracles.specs.declared.ell.NewEll.{NewEll}
+use Rattle.oracles.specs.declared.ell.NewEll.the-variants.{Made, Refused as NotMade}
+use Rattle.oracles.specs.declared.ell_stable.EllStable.{EllStable}
+use Rattle.oracles.specs.declared.ell_stable.EllStableUpdate.{EllStableUpdate}
+use Rattle.oracles.specs.declared.ell_stable.NewEllStable.{NewEllStable}
+use Rattle.oracles.specs.declared.ell_stable.NewEllStable.the-variants.{Made as MadeStable, Refused as NotMadeStable}
+use Rattle.oracles.specs.declared.ell_common.CutStrategy.{CutStrategy}
+use Rattle.oracles.specs.declared.ell_common.CutStrategy.the-variants.{BiasCut, CentralCut, Q}
+use Rattle.oracles.specs.declared.ell_common.Update.{Update}
+use Rattle.oracles.specs.declared.ell_common.Update.the-variants.{Status, Refused as NotUpdated}
+
+-- ---- the first layer, and the factorization
+
+abbrev pub number-code : Number → ℕ
+number-code (Value x) = 0
+number-code (NoNumber why) = refusalNumber why
+
+-- the number that is found
+abbrev pub value-or : Number → Float → Float
+value-or (Value x) old = x
+value-or (NoNumber why) old = old
+
+abbrev pub number-told : Number → Float → ℕ × Float
+number-told a old = (number-code a, value-or a old)
+
+abbrev pub written-code : Written → ℕ
+written-code Done = 0
+written-code (NotWritten why) = refusalNumber why
+
+abbrev pub written-told : Written × List Float → ℕ × List Float
+written-told a = (written-code (a .0), a .1)
+
+abbrev pub factored-code : Factored → ℕ
+factored-code Definite = 0
+factored-code (Stopped p) = 0
+factored-code (NotFactored why) = refusalNumber why
+
+-- the rows of the leading block that is not positive definite; 0 where there is none
+abbrev pub factored-end : Factored → ℕ → ℕ
+factored-end Definite old = 0
+factored-end (Stopped p) old = p .end
+factored-end (NotFactored why) old = old
+
+abbrev pub factored-told : Factored × List Float → ℕ → ℕ × ℕ × List Float
+factored-told a old = (factored-code (a .0), factored-end (a .0) old, a .1)
+
+-- ---- updates
+
+-- 0 a bias cut, 1 a central one, any other number the q form
+abbrev pub strategyOf : ℕ → CutStrategy
+strategyOf k = pick (eqb k 0) BiasCut (pick (eqb k 1) CentralCut Q)
+
+-- one bound or two
+abbrev pub betaOf : Bool → Float → Float → CutChoice
+betaOf parallel beta0 beta1 = pick parallel (Parallel beta0 beta1) (Single beta0)
+
+-- Success 0, NoSoln 1, NoEffect 2
+abbrev pub statusNumber : CutStatus → ℕ
+statusNumber Success = 0
+statusNumber NoSoln = 1
+statusNumber NoEffect = 2
+
+abbrev pub update-code : Update → ℕ
+update-code (Status status) = 0
+update-code (NotUpdated why) = refusalNumber why
+
+abbrev pub status-or : Update → ℕ → ℕ
+status-or (Status status) old = statusNumber status
+status-or (NotUpdated why) old = old
+
+-- what an update leaves: its number, its status, kappa and tsq, and the slices
+pub record Left (Buffers : Type 0) : Type 0 where
+  pub code : ℕ
+  pub status : ℕ
+  pub kappa : Float
+  pub tsq : Float
+  pub buffers : Buffers
+
+-- after the update of an ellipsoid that was made
+abbrev pub ell-left : EllUpdate × EllBuffers → ℕ → Left EllBuffers
+ell-left u status =
+    record { code = update-code (u .0 .answer); status = status-or (u .0 .answer) status; kappa = u .0 .ell .kappa; tsq = u .0 .ell .tsq; buffers = u .1 }
+
+unfoldable pub ell-made : Ell → CutStrategy → List Float → CutChoice → Float → ℕ → EllBuffers → Left EllBuffers
+ell-made e strategy grad beta tsq status b = ell-left (ell-update-answer (with-tsq e (e .kappa) tsq) strategy grad beta b) status
+
+-- the ellipsoid of n and kappa is made first; refusal 1 where it cannot be
+unfoldable pub ell-told : NewEll → CutStrategy → List Float → CutChoice → Float → Float → ℕ → EllBuffers → Left EllBuffers
+ell-told (Made e) strategy grad beta kappa tsq status b = ell-made e strategy grad beta tsq status b
+ell-told (NotMade why) strategy grad beta kappa tsq status b = record { code = refusalNumber why; status = status; kappa = kappa; tsq = tsq; buffers = b }
+
+-- the same of `EllStable`
+abbrev pub stable-left : EllStableUpdate × StableBuffers → ℕ → Left StableBuffers
+stable-left u status =
+    record { code = update-code (u .0 .answer); status = status-or (u .0 .answer) status; kappa = u .0 .ell .kappa; tsq = u .0 .ell .tsq; buffers = u .1 }
+
+unfoldable pub stable-made : EllStable → CutStrategy → List Float → CutChoice → Float → ℕ → StableBuffers → Left StableBuffers
+stable-made e strategy grad beta tsq status b = stable-left (stable-update-answer (with-stable-tsq e (e .kappa) tsq) strategy grad beta b) status
+
+unfoldable pub stable-told : NewEllStable → CutStrategy → List Float → CutChoice → Float → Float → ℕ → StableBuffers → Left StableBuffers
+stable-told (MadeStable e) strategy grad beta kappa tsq status b = stable-made e strategy grad beta tsq status b
+stable-told (NotMadeStable why) strategy grad beta kappa tsq status b = record { code = refusalNumber why; status = status; kappa = kappa; tsq = tsq; buffers = b }

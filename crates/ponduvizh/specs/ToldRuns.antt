@@ -1,0 +1,138 @@
+-- What the exported drivers and the exported reader answer. Definitions only.
+use Prim.Native.Nat.{ℕ}
+use mathlib.Core.Bool.{Bool, true, false}
+use mathlib.Core.List.{List, [], _∷_}
+use lib.IntN.{ℤ, pos}
+use lib.Ieee.{Float}
+use Rattle.numbers.specs.Pick.{pick}
+use Rattle.numbers.specs.Refusal.{refusalNumber}
+use Rattle.oracles.specs.Scan.{−∞, none}
+use Rattle.oracles.specs.Ell.{EllBuffers}
+use Rattle.oracles.specs.declared.ell.Ell.{Ell}
+use Rattle.oracles.specs.declared.ell.NewEll.{NewEll}
+use Rattle.oracles.specs.declared.ell.NewEll.the-variants.{Made, Refused as NotMade}
+use Rattle.oracles.specs.declared.lowpass_oracle.LowpassOracle.{LowpassOracle}
+use Rattle.drivers.specs.CuttingPlane.{Space, OptimSpace, OptimLeft, feas-answer, optim-answer, optim-number}
+use Rattle.drivers.specs.declared.answer.Answer.{Answer}
+use Rattle.drivers.specs.declared.cutting_plane.Options.{Options}
+use Rattle.drivers.specs.declared.cutting_plane.FeasAnswer.{FeasAnswer}
+use Rattle.drivers.specs.declared.cutting_plane.FeasAnswer.the-variants.{Ended, Refused as NotRun}
+use Rattle.drivers.specs.declared.cutting_plane.OptimAnswer.{OptimAnswer}
+use Rattle.drivers.specs.declared.cutting_plane.OptimAnswer.the-variants.{Ended as EndedOptim, Halted, Refused as NotRunOptim}
+use Rattle.drivers.specs.declared.job.Job.{Job}
+use Rattle.drivers.specs.declared.job.JobAnswer.{JobAnswer}
+use Rattle.drivers.specs.declared.job.JobAnswer.the-variants.{Read, Refused as NotRead}
+
+-- an oracle that has assessed nothing yet, its cursors anywhere, each idx at its cursor's cur
+unfoldable pub oracle-of : ℤ → ℤ → ℤ → ℤ → ℤ → ℤ → Float → Float → Float → LowpassOracle
+oracle-of nwpass nwstop mdim cur1 cur2 cur3 lp-sq up-sq sp-sq =
+    record {
+      «more_alt» = true;
+      idx1 = cur1;
+      nwpass = nwpass;
+      nwstop = nwstop;
+      «lp_sq» = lp-sq;
+      «up_sq» = up-sq;
+      «sp_sq» = sp-sq;
+      idx2 = cur2;
+      idx3 = cur3;
+      fmax = −∞;
+      kmax = none;
+      rr1 = record { cur = cur1; lo = pos 0; hi = nwpass };
+      rr2 = record { cur = cur2; lo = nwpass; hi = nwstop };
+      rr3 = record { cur = cur3; lo = nwstop; hi = mdim };
+    }
+
+-- what an oracle was left with: cur of the cursors of pass, middle and stop, idx1 to idx3, kmax
+unfoldable pub marks-of : LowpassOracle → List ℤ
+marks-of o = o .rr1 .cur ∷ o .rr2 .cur ∷ o .rr3 .cur ∷ o .idx1 ∷ o .idx2 ∷ o .idx3 ∷ o .kmax ∷ []
+
+-- and its numbers, with those of the ellipsoid: sp_sq, fmax, kappa, tsq
+unfoldable pub values-of : LowpassOracle → Ell → List Float
+values-of o e = o .«sp_sq» ∷ o .fmax ∷ e .kappa ∷ e .tsq ∷ []
+
+abbrev pub flagOf : Bool → ℕ
+flagOf b = pick b 1 0
+
+-- found, the steps, and the oracle's more_alt
+unfoldable pub answer-of : Answer → LowpassOracle → List ℕ
+answer-of a o = flagOf (a .found) ∷ a .steps ∷ flagOf (o .«more_alt») ∷ []
+
+-- none after no step, for a run that did not begin
+abbrev pub no-answer : Answer
+no-answer = record { found = false; steps = 0 }
+
+abbrev pub feas-code : FeasAnswer → ℕ
+feas-code (Ended a) = 0
+feas-code (NotRun why) = refusalNumber why
+
+abbrev pub feas-ended : FeasAnswer → Answer
+feas-ended (Ended a) = a
+feas-ended (NotRun why) = no-answer
+
+abbrev pub optim-ended : OptimAnswer → Answer
+optim-ended (EndedOptim a) = a
+optim-ended (Halted a) = a
+optim-ended (NotRunOptim why) = no-answer
+
+-- what a run leaves: its number, its answer, the numbers of the oracle and the ellipsoid, gamma, the slices
+pub record RunLeft : Type 0 where
+  pub code : ℕ
+  pub answer : List ℕ
+  pub marks : List ℤ
+  pub values : List Float
+  pub buffers : EllBuffers
+  pub grad : List Float
+  pub best : List Float
+
+abbrev pub run-left : ℕ → Answer → Space → List Float → RunLeft
+run-left code a s best =
+    record { code = code; answer = answer-of a (s .oracle); marks = marks-of (s .oracle); values = values-of (s .oracle) (s .ell); buffers = s .buffers; grad = s .grad; best = best }
+
+unfoldable pub feas-left : FeasAnswer × Space × List Float → RunLeft
+feas-left r = run-left (feas-code (r .0)) (feas-ended (r .0)) (r .1) (r .2)
+
+unfoldable pub optim-left-told : OptimLeft → RunLeft × Float
+optim-left-told r = (run-left (optim-number (r .answer)) (optim-ended (r .answer)) (r .space) (r .best), r .gamma)
+
+-- the ellipsoid of n and kappa is made first; refusal 1 where it cannot be, and then nothing is written
+unfoldable pub feas-told : NewEll → LowpassOracle → Options → ℕ → List Float → RunLeft → RunLeft
+feas-told (Made e) o options rows table l = feas-left (feas-answer options rows table (record { oracle = o; ell = e; buffers = l .buffers; grad = l .grad }) (l .best))
+feas-told (NotMade why) o options rows table l =
+    record { code = refusalNumber why; answer = l .answer; marks = l .marks; values = l .values; buffers = l .buffers; grad = l .grad; best = l .best }
+
+unfoldable pub optim-told : NewEll → LowpassOracle → Options → ℕ → List Float → Float → RunLeft → RunLeft × Float
+optim-told (Made e) o options rows table gamma l =
+    optim-left-told (optim-answer options rows table (record { oracle = o; ell = e; buffers = l .buffers; grad = l .grad; gamma = gamma; found = false; best = l .best }))
+optim-told (NotMade why) o options rows table gamma l =
+    (record { code = refusalNumber why; answer = l .answer; marks = l .marks; values = l .values; buffers = l .buffers; grad = l .grad; best = l .best }, gamma)
+
+-- ---- a job that was read: n, the rows and the step limit; nwpass and nwstop; the marks; lp_sq, up_sq, sp_sq, kappa and the tolerance
+pub record JobLeft : Type 0 where
+  pub sizes : List ℕ
+  pub bands : List ℤ
+  pub marks : List ℤ
+  pub numbers : List Float
+
+abbrev pub bands-of : LowpassOracle → List ℤ
+bands-of o = o .nwpass ∷ o .nwstop ∷ []
+
+abbrev pub numbers-of : LowpassOracle → Float → Float → List Float
+numbers-of o kappa tolerance = o .«lp_sq» ∷ o .«up_sq» ∷ o .«sp_sq» ∷ kappa ∷ tolerance ∷ []
+
+unfoldable pub job-left : Job → JobLeft
+job-left j =
+    record {
+      sizes = j .n ∷ j .rows ∷ j .options .«max_iters» ∷ [];
+      bands = bands-of (j .oracle);
+      marks = marks-of (j .oracle);
+      numbers = numbers-of (j .oracle) (j .kappa) (j .options .tolerance);
+    }
+
+-- the number, the place of a refusal, and what was read
+abbrev pub job-told : JobAnswer → ℕ → JobLeft → ℕ × ℕ × JobLeft
+job-told (Read j) place l = (0, place, job-left j)
+job-told (NotRead why at) place l = (refusalNumber why, at, l)
+
+unfoldable pub read-told : JobAnswer × List Float × List Float × List Float → ℕ → JobLeft → (ℕ × ℕ × JobLeft) × List Float × List Float × List Float
+read-told r place l = (job-told (r .0) place l, r .1, r .2, r .3)

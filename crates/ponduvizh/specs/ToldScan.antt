@@ -1,0 +1,50 @@
+-- What the exported scan answers. Definitions only.
+use Prim.Native.Nat.{ℕ}
+use mathlib.Core.Bool.{Bool}
+use mathlib.Core.List.{List, [], _∷_}
+use lib.IntN.{ℤ}
+use lib.Ieee.{Float}
+use Rattle.numbers.specs.F64.{0ᶠ}
+use Rattle.numbers.specs.Pick.{pick}
+use Rattle.numbers.specs.Refusal.{refusalNumber}
+use Rattle.oracles.specs.declared.round_robin.RoundRobin.{RoundRobin}
+use Rattle.oracles.specs.declared.scan.Upper.{Upper}
+use Rattle.oracles.specs.declared.scan.Upper.the-variants.{Absent, At}
+use Rattle.oracles.specs.declared.scan.Violation.{Violation}
+use Rattle.oracles.specs.declared.scan.Violation.the-variants.{Nothing, Broken}
+use Rattle.oracles.specs.declared.scan.Scan.{Scan}
+use Rattle.oracles.specs.declared.scan.ScanAnswer.{ScanAnswer}
+use Rattle.oracles.specs.declared.scan.ScanAnswer.the-variants.{Scanned, Refused}
+
+abbrev pub upperOf : Bool → Float → Upper
+upperOf bounded u = pick bounded (At u) Absent
+
+-- nothing 0, below a limit 1, above one 2
+abbrev pub sideOf : Violation → ℕ
+sideOf Nothing = 0
+sideOf (Broken row value over) = pick over 2 1
+
+abbrev pub rowOf : Violation → ℕ
+rowOf Nothing = 0
+rowOf (Broken row value over) = row
+
+abbrev pub valueOf : Violation → Float
+valueOf Nothing = 0ᶠ
+valueOf (Broken row value over) = value
+
+-- the side and the row; the value and the largest one before it; the row of that
+pub record ScanLeft : Type 0 where
+  pub found : List ℕ
+  pub values : List Float
+  pub kmax : ℤ
+
+unfoldable pub scan-left : Scan → ScanLeft
+scan-left s = record { found = sideOf (s .viol) ∷ rowOf (s .viol) ∷ []; values = valueOf (s .viol) ∷ s .fmax ∷ []; kmax = s .kmax }
+
+abbrev pub scan-told : ScanAnswer → ScanLeft → ℕ × ScanLeft
+scan-told (Scanned s) l = (0, scan-left s)
+scan-told (Refused why) l = (refusalNumber why, l)
+
+-- and where the cursor stands
+unfoldable pub scan-ended : ScanAnswer × RoundRobin → ScanLeft → (ℕ × ScanLeft) × ℤ
+scan-ended a l = (scan-told (a .0) l, a .1 .cur)

@@ -1,0 +1,217 @@
+// The updates of both ellipsoids. `status` becomes the update's status, `kappa` and `tsq` those of the ellipsoid after it.
+use crate::numeric::code;
+use numbers::cut::CutChoice;
+use numbers::cut::CutStatus;
+use oracles::ell::Ell;
+use oracles::ell::NewEll;
+use oracles::ell_common::CutStrategy;
+use oracles::ell_common::Update;
+use oracles::ell_stable::EllStable;
+use oracles::ell_stable::NewEllStable;
+ghost use mathlib.Core.Path.{_≡_};
+ghost use Rattle.oracles.specs.Ell.{new-ell-answer};
+ghost use Rattle.oracles.specs.EllStable.{new-ell-stable-answer};
+ghost use Rattle.ponduvizh.specs.Told.{strategyOf, betaOf, statusNumber, update-code, status-or, ell-made, ell-told, stable-made, stable-told};
+
+fn strategy_of(k: u64) -> CutStrategy
+    ensures { λ r. ⌜ r ≡ strategyOf k ⌝ }
+{
+    if k == 0 {
+        return CutStrategy::BiasCut;
+    }
+    if k == 1 {
+        return CutStrategy::CentralCut;
+    }
+    CutStrategy::Q
+}
+
+fn beta_of(parallel: bool, beta0: f64, beta1: f64) -> CutChoice
+    ensures { λ r. ⌜ r ≡ betaOf parallel beta0 beta1 ⌝ }
+{
+    if parallel {
+        return CutChoice::Parallel(beta0, beta1);
+    }
+    CutChoice::Single(beta0)
+}
+
+fn status_number(status: CutStatus) -> u64
+    ensures { λ r. ⌜ r ≡ statusNumber status ⌝ }
+{
+    match status {
+        CutStatus::Success => 0,
+        CutStatus::NoSoln => 1,
+        CutStatus::NoEffect => 2,
+    }
+}
+
+fn update_code(answer: Update) -> u64
+    ensures { λ r. ⌜ r ≡ update-code answer ⌝ }
+{
+    match answer {
+        Update::Status(_) => 0,
+        Update::Refused(why) => code(why),
+    }
+}
+
+fn status_or(answer: Update, old: u64) -> u64
+    ensures { λ r. ⌜ r ≡ status-or answer old ⌝ }
+{
+    match answer {
+        Update::Status(status) => status_number(status),
+        Update::Refused(_) => old,
+    }
+}
+
+// The update of an ellipsoid that was made, with this tsq.
+fn ell_made(
+    made: Ell,
+    strategy: u64,
+    parallel: bool,
+    beta0: f64,
+    beta1: f64,
+    status: &mut u64,
+    kappa: &mut f64,
+    tsq: &mut f64,
+    grad: &[f64],
+    mq: &mut [f64],
+    xc: &mut [f64],
+    grad_t: &mut [f64],
+) -> u64
+    ensures { λ r. ⌜ record { code = r; status = now (status .exit); kappa = now (kappa .exit); tsq = now (tsq .exit); buffers = record { mq = now (mq .exit); xc = now (xc .exit); grad-t = now («grad_t» .exit) } } ≡ ell-made made (strategyOf strategy) (now (grad .entry)) (betaOf parallel beta0 beta1) (now (tsq .entry)) (now (status .entry)) (record { mq = now (mq .entry); xc = now (xc .entry); grad-t = now («grad_t» .entry) }) ⌝ }
+{
+    let mut ell = made;
+    ell.tsq = *tsq;
+    let updated = ell.update_core(
+        strategy_of(strategy),
+        grad,
+        beta_of(parallel, beta0, beta1),
+        mq,
+        xc,
+        grad_t,
+    );
+    let after = updated.ell;
+    let answer = updated.answer;
+    *kappa = after.kappa;
+    *tsq = after.tsq;
+    *status = status_or(answer, *status);
+    update_code(answer)
+}
+
+#[no_mangle]
+pub extern "C" fn ponduvizh_ell_update(
+    n: usize,
+    strategy: u64,
+    parallel: bool,
+    beta0: f64,
+    beta1: f64,
+    status: &mut u64,
+    kappa: &mut f64,
+    tsq: &mut f64,
+    grad: &[f64],
+    mq: &mut [f64],
+    xc: &mut [f64],
+    grad_t: &mut [f64],
+) -> u64
+    ensures { λ r. ⌜ record { code = r; status = now (status .exit); kappa = now (kappa .exit); tsq = now (tsq .exit); buffers = record { mq = now (mq .exit); xc = now (xc .exit); grad-t = now («grad_t» .exit) } } ≡ ell-told (new-ell-answer n (now (kappa .entry))) (strategyOf strategy) (now (grad .entry)) (betaOf parallel beta0 beta1) (now (kappa .entry)) (now (tsq .entry)) (now (status .entry)) (record { mq = now (mq .entry); xc = now (xc .entry); grad-t = now («grad_t» .entry) }) ⌝ }
+{
+    match Ell::new_with_matrix(n, *kappa) {
+        NewEll::Refused(why) => code(why),
+        NewEll::Made(made) => ell_made(
+            made,
+            strategy,
+            parallel,
+            beta0,
+            beta1,
+            status,
+            kappa,
+            tsq,
+            grad,
+            mq,
+            xc,
+            grad_t,
+        ),
+    }
+}
+
+// The update of an ellipsoid that was made, with this tsq.
+fn ell_stable_made(
+    made: EllStable,
+    strategy: u64,
+    parallel: bool,
+    beta0: f64,
+    beta1: f64,
+    status: &mut u64,
+    kappa: &mut f64,
+    tsq: &mut f64,
+    grad: &[f64],
+    mq: &mut [f64],
+    xc: &mut [f64],
+    inv_ml_g: &mut [f64],
+    inv_md_inv_ml_g: &mut [f64],
+    gg_t: &mut [f64],
+    g_t: &mut [f64],
+) -> u64
+    ensures { λ r. ⌜ record { code = r; status = now (status .exit); kappa = now (kappa .exit); tsq = now (tsq .exit); buffers = record { mq = now (mq .exit); xc = now (xc .exit); inv-ml-g = now («inv_ml_g» .exit); inv-md-inv-ml-g = now («inv_md_inv_ml_g» .exit); gg-t = now («gg_t» .exit); g-t = now («g_t» .exit) } } ≡ stable-made made (strategyOf strategy) (now (grad .entry)) (betaOf parallel beta0 beta1) (now (tsq .entry)) (now (status .entry)) (record { mq = now (mq .entry); xc = now (xc .entry); inv-ml-g = now («inv_ml_g» .entry); inv-md-inv-ml-g = now («inv_md_inv_ml_g» .entry); gg-t = now («gg_t» .entry); g-t = now («g_t» .entry) }) ⌝ }
+{
+    let mut ell = made;
+    ell.tsq = *tsq;
+    let updated = ell.update_core(
+        strategy_of(strategy),
+        grad,
+        beta_of(parallel, beta0, beta1),
+        mq,
+        xc,
+        inv_ml_g,
+        inv_md_inv_ml_g,
+        gg_t,
+        g_t,
+    );
+    let after = updated.ell;
+    let answer = updated.answer;
+    *kappa = after.kappa;
+    *tsq = after.tsq;
+    *status = status_or(answer, *status);
+    update_code(answer)
+}
+
+#[no_mangle]
+pub extern "C" fn ponduvizh_ell_stable_update(
+    n: usize,
+    strategy: u64,
+    parallel: bool,
+    beta0: f64,
+    beta1: f64,
+    status: &mut u64,
+    kappa: &mut f64,
+    tsq: &mut f64,
+    grad: &[f64],
+    mq: &mut [f64],
+    xc: &mut [f64],
+    inv_ml_g: &mut [f64],
+    inv_md_inv_ml_g: &mut [f64],
+    gg_t: &mut [f64],
+    g_t: &mut [f64],
+) -> u64
+    ensures { λ r. ⌜ record { code = r; status = now (status .exit); kappa = now (kappa .exit); tsq = now (tsq .exit); buffers = record { mq = now (mq .exit); xc = now (xc .exit); inv-ml-g = now («inv_ml_g» .exit); inv-md-inv-ml-g = now («inv_md_inv_ml_g» .exit); gg-t = now («gg_t» .exit); g-t = now («g_t» .exit) } } ≡ stable-told (new-ell-stable-answer n (now (kappa .entry))) (strategyOf strategy) (now (grad .entry)) (betaOf parallel beta0 beta1) (now (kappa .entry)) (now (tsq .entry)) (now (status .entry)) (record { mq = now (mq .entry); xc = now (xc .entry); inv-ml-g = now («inv_ml_g» .entry); inv-md-inv-ml-g = now («inv_md_inv_ml_g» .entry); gg-t = now («gg_t» .entry); g-t = now («g_t» .entry) }) ⌝ }
+{
+    match EllStable::new_with_matrix(n, *kappa) {
+        NewEllStable::Refused(why) => code(why),
+        NewEllStable::Made(made) => ell_stable_made(
+            made,
+            strategy,
+            parallel,
+            beta0,
+            beta1,
+            status,
+            kappa,
+            tsq,
+            grad,
+            mq,
+            xc,
+            inv_ml_g,
+            inv_md_inv_ml_g,
+            gg_t,
+            g_t,
+        ),
+    }
+}

@@ -1,0 +1,80 @@
+// The reading of a job. `sizes` becomes n, the rows and the step limit, `bands` nwpass and nwstop, `marks` what `runs` says, `numbers` lp_sq, up_sq, sp_sq, kappa and the tolerance; or `place` where the record is refused.
+use crate::numeric::code;
+use crate::runs::put_marks;
+use drivers::job::Job;
+use drivers::job::JobAnswer;
+use drivers::job::read_job;
+use oracles::lowpass_oracle::LowpassOracle;
+ghost use mathlib.Core.Path.{_≡_};
+ghost use Rattle.drivers.specs.Job.{read-job-answer};
+ghost use Rattle.ponduvizh.specs.ToldRuns.{bands-of, numbers-of, job-left, job-told, read-told};
+
+fn put_bands(oracle: LowpassOracle, bands: &mut [i32; 2])
+    ensures { λ _. ⌜ now (bands .exit) ≡ bands-of oracle ⌝ }
+{
+    *bands = [oracle.nwpass, oracle.nwstop];
+}
+
+fn put_numbers(oracle: LowpassOracle, kappa: f64, tolerance: f64, numbers: &mut [f64; 5])
+    ensures { λ _. ⌜ now (numbers .exit) ≡ numbers-of oracle kappa tolerance ⌝ }
+{
+    *numbers = [oracle.lp_sq, oracle.up_sq, oracle.sp_sq, kappa, tolerance];
+}
+
+fn put_job(
+    job: Job,
+    sizes: &mut [usize; 3],
+    bands: &mut [i32; 2],
+    marks: &mut [i32; 7],
+    numbers: &mut [f64; 5],
+)
+    ensures { λ _. ⌜ record { sizes = now (sizes .exit); bands = now (bands .exit); marks = now (marks .exit); numbers = now (numbers .exit) } ≡ job-left job ⌝ }
+{
+    let oracle = job.oracle;
+    let options = job.options;
+    *sizes = [job.n, job.rows, options.max_iters as usize];
+    put_bands(oracle, bands);
+    put_marks(oracle, marks);
+    put_numbers(oracle, job.kappa, options.tolerance, numbers);
+}
+
+// What an answer says, in numbers.
+fn put_answer(
+    answer: JobAnswer,
+    sizes: &mut [usize; 3],
+    place: &mut usize,
+    bands: &mut [i32; 2],
+    marks: &mut [i32; 7],
+    numbers: &mut [f64; 5],
+) -> u64
+    ensures { λ r. ⌜ (r, now (place .exit), record { sizes = now (sizes .exit); bands = now (bands .exit); marks = now (marks .exit); numbers = now (numbers .exit) }) ≡ job-told answer (now (place .entry)) (record { sizes = now (sizes .entry); bands = now (bands .entry); marks = now (marks .entry); numbers = now (numbers .entry) }) ⌝ }
+{
+    match answer {
+        JobAnswer::Refused(why, at) => {
+            *place = at;
+            code(why)
+        }
+        JobAnswer::Read(job) => {
+            put_job(job, sizes, bands, marks, numbers);
+            0
+        }
+    }
+}
+
+#[no_mangle]
+pub extern "C" fn ponduvizh_read_job(
+    bytes: &[u8],
+    sizes: &mut [usize; 3],
+    place: &mut usize,
+    bands: &mut [i32; 2],
+    marks: &mut [i32; 7],
+    numbers: &mut [f64; 5],
+    table: &mut [f64],
+    xc: &mut [f64],
+    mq: &mut [f64],
+) -> u64
+    ensures { λ r. ⌜ ((r, now (place .exit), record { sizes = now (sizes .exit); bands = now (bands .exit); marks = now (marks .exit); numbers = now (numbers .exit) }), now (table .exit), now (xc .exit), now (mq .exit)) ≡ read-told (read-job-answer (now (bytes .entry)) (now (table .entry)) (now (xc .entry)) (now (mq .entry))) (now (place .entry)) (record { sizes = now (sizes .entry); bands = now (bands .entry); marks = now (marks .entry); numbers = now (numbers .entry) }) ⌝ }
+{
+    let answer = read_job(bytes, table, xc, mq);
+    put_answer(answer, sizes, place, bands, marks, numbers)
+}

@@ -1,0 +1,399 @@
+// The drivers. `answer` becomes found, the steps and the oracle's more_alt; `marks` the cursors of pass, middle and stop, idx1 to idx3 and kmax; `values` sp_sq, fmax, kappa and tsq.
+use crate::numeric::code;
+use drivers::answer::Answer;
+use drivers::cutting_plane::FeasAnswer;
+use drivers::cutting_plane::OptimAnswer;
+use drivers::cutting_plane::Options;
+use drivers::cutting_plane::cutting_plane_feas;
+use drivers::cutting_plane::cutting_plane_optim;
+use oracles::ell::Ell;
+use oracles::ell::NewEll;
+use oracles::lowpass_oracle::LowpassOracle;
+use oracles::round_robin::RoundRobin;
+ghost use mathlib.Core.Path.{_≡_};
+ghost use Rattle.oracles.specs.Ell.{new-ell-answer};
+ghost use Rattle.drivers.specs.CuttingPlane.{feas-answer, optim-answer, optim-left, optim-number};
+ghost use mathlib.Core.Bool.{false};
+ghost use Rattle.ponduvizh.specs.ToldRuns.{oracle-of, marks-of, values-of, flagOf, answer-of, no-answer, feas-code, feas-ended, optim-ended, feas-left, feas-told, optim-left-told, optim-told};
+
+// An oracle that has assessed nothing yet.
+fn oracle_of(
+    nwpass: i32,
+    nwstop: i32,
+    mdim: i32,
+    cur1: i32,
+    cur2: i32,
+    cur3: i32,
+    lp_sq: f64,
+    up_sq: f64,
+    sp_sq: f64,
+) -> LowpassOracle
+    ensures { λ r. ⌜ r ≡ oracle-of nwpass nwstop mdim cur1 cur2 cur3 «lp_sq» «up_sq» «sp_sq» ⌝ }
+{
+    LowpassOracle {
+        more_alt: true,
+        idx1: cur1,
+        nwpass: nwpass,
+        nwstop: nwstop,
+        lp_sq: lp_sq,
+        up_sq: up_sq,
+        sp_sq: sp_sq,
+        idx2: cur2,
+        idx3: cur3,
+        fmax: -1.0 / 0.0,
+        kmax: -1,
+        rr1: RoundRobin {
+            cur: cur1,
+            lo: 0,
+            hi: nwpass,
+        },
+        rr2: RoundRobin {
+            cur: cur2,
+            lo: nwpass,
+            hi: nwstop,
+        },
+        rr3: RoundRobin {
+            cur: cur3,
+            lo: nwstop,
+            hi: mdim,
+        },
+    }
+}
+
+pub(crate) fn put_marks(oracle: LowpassOracle, marks: &mut [i32; 7])
+    ensures { λ _. ⌜ now (marks .exit) ≡ marks-of oracle ⌝ }
+{
+    let rr1 = oracle.rr1;
+    let rr2 = oracle.rr2;
+    let rr3 = oracle.rr3;
+    *marks = [
+        rr1.cur,
+        rr2.cur,
+        rr3.cur,
+        oracle.idx1,
+        oracle.idx2,
+        oracle.idx3,
+        oracle.kmax,
+    ];
+}
+
+fn put_values(oracle: LowpassOracle, ell: Ell, values: &mut [f64; 4])
+    ensures { λ _. ⌜ now (values .exit) ≡ values-of oracle ell ⌝ }
+{
+    *values = [oracle.sp_sq, oracle.fmax, ell.kappa, ell.tsq];
+}
+
+fn flag(b: bool) -> u64
+    ensures { λ r. ⌜ r ≡ flagOf b ⌝ }
+{
+    if b {
+        return 1;
+    }
+    0
+}
+
+fn put_answer(ended: Answer, oracle: LowpassOracle, answer: &mut [u64; 3])
+    ensures { λ _. ⌜ now (answer .exit) ≡ answer-of ended oracle ⌝ }
+{
+    *answer = [flag(ended.found), ended.steps as u64, flag(oracle.more_alt)];
+}
+
+fn feas_code(answer: FeasAnswer) -> u64
+    ensures { λ r. ⌜ r ≡ feas-code answer ⌝ }
+{
+    match answer {
+        FeasAnswer::Ended(_) => 0,
+        FeasAnswer::Refused(why) => code(why),
+    }
+}
+
+fn feas_ended(answer: FeasAnswer) -> Answer
+    ensures { λ r. ⌜ r ≡ feas-ended answer ⌝ }
+{
+    match answer {
+        FeasAnswer::Ended(ended) => ended,
+        FeasAnswer::Refused(_) => Answer {
+            found: false,
+            steps: 0,
+        },
+    }
+}
+
+fn optim_code(answer: OptimAnswer) -> u64
+    ensures { λ r. ⌜ r ≡ optim-number answer ⌝ }
+{
+    match answer {
+        OptimAnswer::Ended(_) => 0,
+        OptimAnswer::Halted(_) => 6,
+        OptimAnswer::Refused(why) => code(why),
+    }
+}
+
+fn optim_ended(answer: OptimAnswer) -> Answer
+    ensures { λ r. ⌜ r ≡ optim-ended answer ⌝ }
+{
+    match answer {
+        OptimAnswer::Ended(ended) => ended,
+        OptimAnswer::Halted(ended) => ended,
+        OptimAnswer::Refused(_) => Answer {
+            found: false,
+            steps: 0,
+        },
+    }
+}
+
+// The run over an ellipsoid that was made.
+fn feas_made(
+    oracle: LowpassOracle,
+    ell: Ell,
+    options: Options,
+    rows: usize,
+    answer: &mut [u64; 3],
+    marks: &mut [i32; 7],
+    values: &mut [f64; 4],
+    table: &[f64],
+    mq: &mut [f64],
+    xc: &mut [f64],
+    grad: &mut [f64],
+    grad_t: &mut [f64],
+    x_best: &mut [f64],
+) -> u64
+    ensures { λ r. ⌜ record { code = r; answer = now (answer .exit); marks = now (marks .exit); values = now (values .exit); buffers = record { mq = now (mq .exit); xc = now (xc .exit); grad-t = now («grad_t» .exit) }; grad = now (grad .exit); best = now («x_best» .exit) } ≡ feas-left (feas-answer options rows (now (table .entry)) (record { oracle = oracle; ell = ell; buffers = record { mq = now (mq .entry); xc = now (xc .entry); grad-t = now («grad_t» .entry) }; grad = now (grad .entry) }) (now («x_best» .entry))) ⌝ }
+{
+    let run = cutting_plane_feas(
+        oracle,
+        ell,
+        options,
+        rows,
+        table,
+        mq,
+        xc,
+        grad,
+        grad_t,
+        x_best,
+    );
+    let after = run.oracle;
+    let space = run.ell;
+    let said = run.answer;
+    put_answer(feas_ended(said), after, answer);
+    put_marks(after, marks);
+    put_values(after, space, values);
+    feas_code(said)
+}
+
+fn optim_made(
+    oracle: LowpassOracle,
+    ell: Ell,
+    options: Options,
+    rows: usize,
+    gamma: &mut f64,
+    answer: &mut [u64; 3],
+    marks: &mut [i32; 7],
+    values: &mut [f64; 4],
+    table: &[f64],
+    mq: &mut [f64],
+    xc: &mut [f64],
+    grad: &mut [f64],
+    grad_t: &mut [f64],
+    x_best: &mut [f64],
+) -> u64
+    ensures { λ r. ⌜ (record { code = r; answer = now (answer .exit); marks = now (marks .exit); values = now (values .exit); buffers = record { mq = now (mq .exit); xc = now (xc .exit); grad-t = now («grad_t» .exit) }; grad = now (grad .exit); best = now («x_best» .exit) }, now (gamma .exit)) ≡ optim-left-told (optim-answer options rows (now (table .entry)) (record { oracle = oracle; ell = ell; buffers = record { mq = now (mq .entry); xc = now (xc .entry); grad-t = now («grad_t» .entry) }; grad = now (grad .entry); gamma = now (gamma .entry); found = false; best = now («x_best» .entry) })) ⌝ }
+{
+    let run = cutting_plane_optim(
+        oracle,
+        ell,
+        *gamma,
+        options,
+        rows,
+        table,
+        mq,
+        xc,
+        grad,
+        grad_t,
+        x_best,
+    );
+    let after = run.oracle;
+    let space = run.ell;
+    let said = run.answer;
+    *gamma = run.gamma;
+    put_answer(optim_ended(said), after, answer);
+    put_marks(after, marks);
+    put_values(after, space, values);
+    optim_code(said)
+}
+
+// The run over the ellipsoid, if it was made.
+fn feas_of(
+    new: NewEll,
+    oracle: LowpassOracle,
+    options: Options,
+    rows: usize,
+    answer: &mut [u64; 3],
+    marks: &mut [i32; 7],
+    values: &mut [f64; 4],
+    table: &[f64],
+    mq: &mut [f64],
+    xc: &mut [f64],
+    grad: &mut [f64],
+    grad_t: &mut [f64],
+    x_best: &mut [f64],
+) -> u64
+    ensures { λ r. ⌜ record { code = r; answer = now (answer .exit); marks = now (marks .exit); values = now (values .exit); buffers = record { mq = now (mq .exit); xc = now (xc .exit); grad-t = now («grad_t» .exit) }; grad = now (grad .exit); best = now («x_best» .exit) } ≡ feas-told new oracle options rows (now (table .entry)) (record { code = 0; answer = now (answer .entry); marks = now (marks .entry); values = now (values .entry); buffers = record { mq = now (mq .entry); xc = now (xc .entry); grad-t = now («grad_t» .entry) }; grad = now (grad .entry); best = now («x_best» .entry) }) ⌝ }
+{
+    match new {
+        NewEll::Refused(why) => code(why),
+        NewEll::Made(ell) => feas_made(
+            oracle,
+            ell,
+            options,
+            rows,
+            answer,
+            marks,
+            values,
+            table,
+            mq,
+            xc,
+            grad,
+            grad_t,
+            x_best,
+        ),
+    }
+}
+
+#[no_mangle]
+pub extern "C" fn ponduvizh_cutting_plane_feas(
+    n: usize,
+    rows: usize,
+    nwpass: i32,
+    nwstop: i32,
+    mdim: i32,
+    cur1: i32,
+    cur2: i32,
+    cur3: i32,
+    lp_sq: f64,
+    up_sq: f64,
+    sp_sq: f64,
+    kappa: f64,
+    max_iters: u16,
+    tolerance: f64,
+    answer: &mut [u64; 3],
+    marks: &mut [i32; 7],
+    values: &mut [f64; 4],
+    table: &[f64],
+    mq: &mut [f64],
+    xc: &mut [f64],
+    grad: &mut [f64],
+    grad_t: &mut [f64],
+    x_best: &mut [f64],
+) -> u64
+    ensures { λ r. ⌜ record { code = r; answer = now (answer .exit); marks = now (marks .exit); values = now (values .exit); buffers = record { mq = now (mq .exit); xc = now (xc .exit); grad-t = now («grad_t» .exit) }; grad = now (grad .exit); best = now («x_best» .exit) } ≡ feas-told (new-ell-answer n kappa) (oracle-of nwpass nwstop mdim cur1 cur2 cur3 «lp_sq» «up_sq» «sp_sq») (record { «max_iters» = «max_iters»; tolerance = tolerance }) rows (now (table .entry)) (record { code = 0; answer = now (answer .entry); marks = now (marks .entry); values = now (values .entry); buffers = record { mq = now (mq .entry); xc = now (xc .entry); grad-t = now («grad_t» .entry) }; grad = now (grad .entry); best = now («x_best» .entry) }) ⌝ }
+{
+    let new = Ell::new_with_matrix(n, kappa);
+    let oracle = oracle_of(nwpass, nwstop, mdim, cur1, cur2, cur3, lp_sq, up_sq, sp_sq);
+    let options = Options::new(max_iters, tolerance);
+    feas_of(
+        new,
+        oracle,
+        options,
+        rows,
+        answer,
+        marks,
+        values,
+        table,
+        mq,
+        xc,
+        grad,
+        grad_t,
+        x_best,
+    )
+}
+
+// The run over the ellipsoid, if it was made.
+fn optim_of(
+    new: NewEll,
+    oracle: LowpassOracle,
+    options: Options,
+    rows: usize,
+    gamma: &mut f64,
+    answer: &mut [u64; 3],
+    marks: &mut [i32; 7],
+    values: &mut [f64; 4],
+    table: &[f64],
+    mq: &mut [f64],
+    xc: &mut [f64],
+    grad: &mut [f64],
+    grad_t: &mut [f64],
+    x_best: &mut [f64],
+) -> u64
+    ensures { λ r. ⌜ (record { code = r; answer = now (answer .exit); marks = now (marks .exit); values = now (values .exit); buffers = record { mq = now (mq .exit); xc = now (xc .exit); grad-t = now («grad_t» .exit) }; grad = now (grad .exit); best = now («x_best» .exit) }, now (gamma .exit)) ≡ optim-told new oracle options rows (now (table .entry)) (now (gamma .entry)) (record { code = 0; answer = now (answer .entry); marks = now (marks .entry); values = now (values .entry); buffers = record { mq = now (mq .entry); xc = now (xc .entry); grad-t = now («grad_t» .entry) }; grad = now (grad .entry); best = now («x_best» .entry) }) ⌝ }
+{
+    match new {
+        NewEll::Refused(why) => code(why),
+        NewEll::Made(ell) => optim_made(
+            oracle,
+            ell,
+            options,
+            rows,
+            gamma,
+            answer,
+            marks,
+            values,
+            table,
+            mq,
+            xc,
+            grad,
+            grad_t,
+            x_best,
+        ),
+    }
+}
+
+#[no_mangle]
+pub extern "C" fn ponduvizh_cutting_plane_optim(
+    n: usize,
+    rows: usize,
+    nwpass: i32,
+    nwstop: i32,
+    mdim: i32,
+    cur1: i32,
+    cur2: i32,
+    cur3: i32,
+    lp_sq: f64,
+    up_sq: f64,
+    sp_sq: f64,
+    kappa: f64,
+    max_iters: u16,
+    tolerance: f64,
+    gamma: &mut f64,
+    answer: &mut [u64; 3],
+    marks: &mut [i32; 7],
+    values: &mut [f64; 4],
+    table: &[f64],
+    mq: &mut [f64],
+    xc: &mut [f64],
+    grad: &mut [f64],
+    grad_t: &mut [f64],
+    x_best: &mut [f64],
+) -> u64
+    ensures { λ r. ⌜ (record { code = r; answer = now (answer .exit); marks = now (marks .exit); values = now (values .exit); buffers = record { mq = now (mq .exit); xc = now (xc .exit); grad-t = now («grad_t» .exit) }; grad = now (grad .exit); best = now («x_best» .exit) }, now (gamma .exit)) ≡ optim-told (new-ell-answer n kappa) (oracle-of nwpass nwstop mdim cur1 cur2 cur3 «lp_sq» «up_sq» «sp_sq») (record { «max_iters» = «max_iters»; tolerance = tolerance }) rows (now (table .entry)) (now (gamma .entry)) (record { code = 0; answer = now (answer .entry); marks = now (marks .entry); values = now (values .entry); buffers = record { mq = now (mq .entry); xc = now (xc .entry); grad-t = now («grad_t» .entry) }; grad = now (grad .entry); best = now («x_best» .entry) }) ⌝ }
+{
+    let new = Ell::new_with_matrix(n, kappa);
+    let oracle = oracle_of(nwpass, nwstop, mdim, cur1, cur2, cur3, lp_sq, up_sq, sp_sq);
+    let options = Options::new(max_iters, tolerance);
+    optim_of(
+        new,
+        oracle,
+        options,
+        rows,
+        gamma,
+        answer,
+        marks,
+        values,
+        table,
+        mq,
+        xc,
+        grad,
+        grad_t,
+        x_best,
+    )
+}

@@ -1,0 +1,150 @@
+// The scan of a band. `found` becomes 0 and 0 where nothing is broken, else 1 for a value below its limit or 2 for one above, and the row; `values` the broken row's value, or 0, and the largest value before it;
+// kmax the row of that; cur where the scan ended.
+use crate::numeric::code;
+use oracles::round_robin::RoundRobin;
+use oracles::scan::Scan;
+use oracles::scan::ScanAnswer;
+use oracles::scan::Upper;
+use oracles::scan::Violation;
+use oracles::scan::scan_lent;
+ghost use mathlib.Core.Path.{_≡_};
+ghost use Rattle.oracles.specs.Scan.{scan-band-answer};
+ghost use Rattle.ponduvizh.specs.ToldScan.{upperOf, sideOf, rowOf, valueOf, scan-left, scan-told, scan-ended};
+
+fn upper_of(bounded: bool, upper: f64) -> Upper
+    ensures { λ r. ⌜ r ≡ upperOf bounded upper ⌝ }
+{
+    if bounded {
+        return Upper::At(upper);
+    }
+    Upper::Absent
+}
+
+fn side_of(viol: Violation) -> usize
+    ensures { λ r. ⌜ r ≡ sideOf viol ⌝ }
+{
+    match viol {
+        Violation::Nothing => 0,
+        Violation::Broken(_, _, over) => {
+            if over {
+                return 2;
+            }
+            1
+        }
+    }
+}
+
+fn row_of(viol: Violation) -> usize
+    ensures { λ r. ⌜ r ≡ rowOf viol ⌝ }
+{
+    match viol {
+        Violation::Nothing => 0,
+        Violation::Broken(row, _, _) => row,
+    }
+}
+
+fn value_of(viol: Violation) -> f64
+    ensures { λ r. ⌜ r ≡ valueOf viol ⌝ }
+{
+    match viol {
+        Violation::Nothing => 0.0,
+        Violation::Broken(_, value, _) => value,
+    }
+}
+
+fn put_scan(scan: Scan, found: &mut [usize; 2], values: &mut [f64; 2], kmax: &mut i32)
+    ensures { λ _. ⌜ record { found = now (found .exit); values = now (values .exit); kmax = now (kmax .exit) } ≡ scan-left scan ⌝ }
+{
+    let viol = scan.viol;
+    *found = [side_of(viol), row_of(viol)];
+    *values = [value_of(viol), scan.fmax];
+    let peak = scan.kmax;
+    *kmax = peak;
+}
+
+// What an answer says, in numbers.
+fn put_answer(
+    answer: ScanAnswer,
+    found: &mut [usize; 2],
+    values: &mut [f64; 2],
+    kmax: &mut i32,
+) -> u64
+    ensures { λ r. ⌜ (r, record { found = now (found .exit); values = now (values .exit); kmax = now (kmax .exit) }) ≡ scan-told answer (record { found = now (found .entry); values = now (values .entry); kmax = now (kmax .entry) }) ⌝ }
+{
+    match answer {
+        ScanAnswer::Refused(why) => code(why),
+        ScanAnswer::Scanned(scan) => {
+            put_scan(scan, found, values, kmax);
+            0
+        }
+    }
+}
+
+fn cursor_at(cur: &i32, lo: i32, hi: i32) -> RoundRobin
+    ensures { λ r. ⌜ r ≡ record { cur = now (cur .entry); lo = lo; hi = hi } ⌝ }
+{
+    RoundRobin {
+        cur: *cur,
+        lo: lo,
+        hi: hi,
+    }
+}
+
+// The scan from a cursor.
+fn scan_from(
+    n: usize,
+    rows: usize,
+    table: &[f64],
+    x: &[f64],
+    start: RoundRobin,
+    lower: f64,
+    upper: Upper,
+    cur: &mut i32,
+    found: &mut [usize; 2],
+    values: &mut [f64; 2],
+    kmax: &mut i32,
+) -> u64
+    ensures { λ r. ⌜ ((r, record { found = now (found .exit); values = now (values .exit); kmax = now (kmax .exit) }), now (cur .exit)) ≡ scan-ended (scan-band-answer n rows (now (table .entry)) (now (x .entry)) start lower upper) (record { found = now (found .entry); values = now (values .entry); kmax = now (kmax .entry) }) ⌝ }
+{
+    let end = scan_lent(n, rows, table, x, start, lower, upper);
+    let cursor = end.cursor;
+    let answer = end.answer;
+    let last = cursor.cur;
+    *cur = last;
+    put_answer(answer, found, values, kmax)
+}
+
+#[no_mangle]
+pub extern "C" fn ponduvizh_scan_band(
+    n: usize,
+    rows: usize,
+    table: &[f64],
+    x: &[f64],
+    cur: &mut i32,
+    lo: i32,
+    hi: i32,
+    lower: f64,
+    bounded: bool,
+    upper: f64,
+    found: &mut [usize; 2],
+    values: &mut [f64; 2],
+    kmax: &mut i32,
+) -> u64
+    ensures { λ r. ⌜ ((r, record { found = now (found .exit); values = now (values .exit); kmax = now (kmax .exit) }), now (cur .exit)) ≡ scan-ended (scan-band-answer n rows (now (table .entry)) (now (x .entry)) (record { cur = now (cur .entry); lo = lo; hi = hi }) lower (upperOf bounded upper)) (record { found = now (found .entry); values = now (values .entry); kmax = now (kmax .entry) }) ⌝ }
+{
+    let start = cursor_at(cur, lo, hi);
+    let limit = upper_of(bounded, upper);
+    scan_from(
+        n,
+        rows,
+        table,
+        x,
+        start,
+        lower,
+        limit,
+        cur,
+        found,
+        values,
+        kmax,
+    )
+}
