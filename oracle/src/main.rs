@@ -2,6 +2,7 @@
 
 mod draw;
 mod drivers;
+mod layers;
 mod lengths;
 mod lists;
 mod numbers;
@@ -14,9 +15,9 @@ mod testing;
 mod words;
 
 use ellalgo_rs::arr::Arr;
-use lists::Case;
+use layers::{Layer, LAYERS};
 use std::env;
-use std::io::{self, BufReader, BufWriter, ErrorKind, Write};
+use std::io::{self, BufReader, BufWriter, ErrorKind};
 use std::process::ExitCode;
 
 const USAGE: &str = "usage:
@@ -31,36 +32,6 @@ const USAGE: &str = "usage:
   oracle example lowpass --n N [--rows R] ..               a real filter's job, see examples/README.md
   oracle answer                                            run a job and write its answer record
 layers: numbers, oracles, drivers";
-
-/// A layer of the project: its operations, and what fills a case of one.
-struct Layer {
-    name: &'static str,
-    ops: &'static [(u64, &'static str, usize)],
-    fill: fn(u64, &mut words::Source, &mut Case),
-    /// Cases that every list begins with.
-    fixed: fn() -> Vec<Case>,
-}
-
-const LAYERS: &[Layer] = &[
-    Layer {
-        name: "numbers",
-        ops: numbers::OPS,
-        fill: numbers::fill,
-        fixed: Vec::new,
-    },
-    Layer {
-        name: "oracles",
-        ops: oracles::OPS,
-        fill: oracles::fill,
-        fixed: Vec::new,
-    },
-    Layer {
-        name: "drivers",
-        ops: drivers::OPS,
-        fill: drivers::fill,
-        fixed: drivers::fixed,
-    },
-];
 
 fn main() -> ExitCode {
     let args: Vec<String> = env::args().skip(1).collect();
@@ -125,7 +96,7 @@ fn gen(name: &str, args: &[&str]) -> io::Result<bool> {
             "this Rust library begins a sum at plus zero: use Rust 1.95",
         ));
     }
-    write_list(layer, &wheel(layer, &only)?, seed, count)
+    write_list(layer, &layer.wheel(&only)?, seed, count)
 }
 
 fn whole(text: &str) -> io::Result<u64> {
@@ -138,25 +109,7 @@ fn sum_begins_at_minus_zero() -> bool {
     zeros.dot(&Arr::ones(2)).is_sign_negative()
 }
 
-/// The operations in the order in which a list takes them, again and again. Each stands as
-/// often as its weight, the first round has all of them, and `only` narrows the choice.
-fn wheel(layer: &Layer, only: &[u64]) -> io::Result<Vec<u64>> {
-    for op in only {
-        if !layer.ops.iter().any(|known| known.0 == *op) {
-            return Err(wrong("no such operation in this layer"));
-        }
-    }
-    if !only.is_empty() {
-        return Ok(only.to_vec());
-    }
-    let most = layer.ops.iter().map(|op| op.2).max().unwrap_or(0);
-    let rounds = (0..most).flat_map(|round| layer.ops.iter().filter(move |op| op.2 > round));
-    Ok(rounds.map(|op| op.0).collect())
-}
-
 fn write_list(layer: &Layer, wheel: &[u64], seed: u64, count: u64) -> io::Result<bool> {
-    let mut src = words::Source::new(seed);
-    let mut case = Case::default();
     let mut to = output();
     let mut fixed = (layer.fixed)();
     fixed.retain(|case| wheel.contains(&case.op));
@@ -164,11 +117,6 @@ fn write_list(layer: &Layer, wheel: &[u64], seed: u64, count: u64) -> io::Result
     for case in &fixed {
         case.write(&mut to)?;
     }
-    for at in 0..count - fixed.len() as u64 {
-        let op = wheel[(at % wheel.len() as u64) as usize];
-        (layer.fill)(op, &mut src, &mut case);
-        case.write(&mut to)?;
-    }
-    to.flush()?;
+    layer.write_drawn(wheel, seed, count - fixed.len() as u64, &mut to)?;
     Ok(true)
 }

@@ -1,8 +1,8 @@
 //! What the tests of every layer use to read cases and to count what they meet.
 
+use crate::layers::LAYERS;
 use crate::lists::{Case, ABSENT};
 use crate::words::Source;
-use crate::LAYERS;
 
 /// A part of a case, read from the front.
 pub struct Reader<'a>(pub &'a [u64]);

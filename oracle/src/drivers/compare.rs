@@ -15,13 +15,13 @@ use std::process::{Command, Stdio};
 use std::thread;
 
 /// A job as it is handed to the program.
-struct Question {
-    bytes: Vec<u8>,
-    kind: &'static str,
+pub struct Question {
+    pub bytes: Vec<u8>,
+    pub kind: &'static str,
 }
 
 /// The jobs in the order in which they are made.
-struct Questions {
+pub struct Questions {
     src: Source,
     fixed: Vec<Vec<u8>>,
     /// The record that is damaged at every byte, and the next damage.
@@ -31,7 +31,7 @@ struct Questions {
 }
 
 impl Questions {
-    fn new(seed: u64) -> Self {
+    pub fn new(seed: u64) -> Self {
         let texts = fixed().into_iter().filter(|case| case.op == 160);
         Questions {
             src: Source::new(seed),
@@ -42,7 +42,7 @@ impl Questions {
         }
     }
 
-    fn next(&mut self) -> Question {
+    pub fn next(&mut self) -> Question {
         let at = self.made;
         self.made += 1;
         if let Some(bytes) = self.fixed.get(at) {
@@ -129,7 +129,7 @@ fn asked(program: &str, bytes: &[u8]) -> io::Result<Vec<u8>> {
 }
 
 /// Where two texts part, for a person.
-fn difference(expected: &[u8], got: &[u8]) -> String {
+pub fn difference(expected: &[u8], got: &[u8]) -> String {
     let same = expected.iter().zip(got).take_while(|(a, b)| a == b).count();
     let line = expected[..same].iter().filter(|b| **b == b'\n').count();
     let shown = |text: &[u8]| {
@@ -179,10 +179,10 @@ impl Report {
     }
 }
 
-type Answer = io::Result<(String, Vec<u8>)>;
+pub type Answer = io::Result<(String, Vec<u8>)>;
 
 /// The Rust's text and the program's, for two questions at a time at most.
-fn answers(program: &str, questions: &[Question]) -> Vec<Answer> {
+pub fn answers(program: &str, questions: &[Question]) -> Vec<Answer> {
     thread::scope(|scope| {
         let ask = |q: &Question| Ok((text(&q.bytes), asked(program, &q.bytes)?));
         let asking = questions.iter().map(|q| scope.spawn(move || ask(q)));

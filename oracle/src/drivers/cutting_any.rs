@@ -31,7 +31,7 @@ impl AnyRun {
         }
     }
 
-    fn draw(src: &mut Source, optim: bool) -> Self {
+    pub fn draw(src: &mut Source, optim: bool) -> Self {
         let run = Run::draw(src, optim);
         let best = vector(src, run.filter.n);
         let mut any = AnyRun::new(run, best);

@@ -1,0 +1,56 @@
+//! `bench table`: both on the same inputs, for five n.
+
+use crate::pairs::{by_n, Jobs, Roots, BY_N};
+use crate::race::{race, Pair, Times};
+
+const NS: [usize; 5] = [2, 4, 8, 16, 32];
+/// The published Rust has no reader.
+const READER: &str = "read_job, 65,000 bytes (the generator's reader)";
+
+/// A call's times at one n; the root has none.
+pub struct Row {
+    pub call: String,
+    pub n: Option<usize>,
+    pub times: Times,
+}
+
+pub fn measure(rounds: usize) -> Result<Vec<Row>, String> {
+    let mut rows = Vec::new();
+    let mut add = |call: &str, n: Option<usize>, pair: &mut dyn Pair| {
+        let of = n.map_or(String::new(), |n| format!(", n {n}"));
+        let times = race(pair, rounds).map_err(|what| format!("{call}{of}: {what}"))?;
+        let call = call.to_string();
+        rows.push(Row { call, n, times });
+        Ok::<(), String>(())
+    };
+    add("sqrt, each waits for the last", None, &mut Roots::new(true))?;
+    add("sqrt, each by itself", None, &mut Roots::new(false))?;
+    for call in BY_N {
+        for n in NS {
+            add(call, Some(n), by_n(call, n).as_mut())?;
+        }
+    }
+    add(READER, Some(32), &mut Jobs::new())?;
+    Ok(rows)
+}
+
+pub fn print(rows: &[Row], head: &str) {
+    println!("{head}\n");
+    println!("| call | n | port, ns | Rust, ns | port / Rust |");
+    println!("|---|---:|---:|---:|---:|");
+    for row in rows {
+        let n = row.n.map_or("any".into(), |n| n.to_string());
+        let Times { port, rust, ratio } = row.times;
+        let (port, rust) = (nanos(port), nanos(rust));
+        println!("| {} | {n} | {port} | {rust} | {ratio:.2} |", row.call);
+    }
+}
+
+/// Three figures or more.
+pub fn nanos(t: f64) -> String {
+    match t {
+        t if t < 10.0 => format!("{t:.2}"),
+        t if t < 100.0 => format!("{t:.1}"),
+        t => format!("{t:.0}"),
+    }
+}
