@@ -13,9 +13,10 @@ use std::process::ExitCode;
 use std::{env, fs};
 
 const USAGE: &str = "usage:
-  bench table [--date DATE] [--rounds N] [--svg FILE]      times of both, as Markdown
-  bench growth [--date DATE] [--rounds N]                  costs as n and the rows grow
-  bench compare --seconds S [--seed N] [--program PATH]    answers of both, for S seconds
+  bench table [--date DATE] [--rounds N] [--svg FILE] [--only TEXT] [--n N]    times of both, as Markdown
+  bench growth [--date DATE] [--rounds N]                                      costs as n and the rows grow
+  bench compare --seconds S [--seed N] [--program PATH]                        answers of both, for S seconds
+TEXT is a part of the name of the calls that are timed; all of them, and for every n, unless these are given
 PATH is filterrun, target/bin/filterrun unless it is given; the replay programs stand beside it";
 
 /// The words after the subcommand: each name with its value.
@@ -37,7 +38,7 @@ fn run(args: &[String]) -> Result<bool, String> {
     let (command, rest) = args.split_first().ok_or(USAGE)?;
     match command.as_str() {
         "table" => {
-            let options = options(rest, &["--date", "--rounds", "--svg"])?;
+            let options = options(rest, &["--date", "--rounds", "--svg", "--only", "--n"])?;
             table(&options).map(|()| true)
         }
         "growth" => {
@@ -83,7 +84,9 @@ fn rounds(options: &Options) -> Result<usize, String> {
 }
 
 fn table(options: &Options) -> Result<(), String> {
-    let rows = table::measure(rounds(options)?)?;
+    let only = options.get("--only").map_or("", String::as_str);
+    let n = whole(options, "--n")?.map(|n| n as usize);
+    let rows = table::measure(rounds(options)?, only, n)?;
     let head = head(options);
     table::print(&rows, &head);
     if let Some(file) = options.get("--svg") {

@@ -14,9 +14,13 @@ pub struct Row {
     pub times: Times,
 }
 
-pub fn measure(rounds: usize) -> Result<Vec<Row>, String> {
+/// The calls whose name has `only` in it, and of these the rows of one n if it is given.
+pub fn measure(rounds: usize, only: &str, one: Option<usize>) -> Result<Vec<Row>, String> {
     let mut rows = Vec::new();
     let mut add = |call: &str, n: Option<usize>, pair: &mut dyn Pair| {
+        if !call.contains(only) || one.is_some_and(|one| n != Some(one)) {
+            return Ok(());
+        }
         let of = n.map_or(String::new(), |n| format!(", n {n}"));
         let times = race(pair, rounds).map_err(|what| format!("{call}{of}: {what}"))?;
         let call = call.to_string();

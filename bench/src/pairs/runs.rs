@@ -1,4 +1,4 @@
-//! Whole runs of the drivers on the Rust's own lowpass cases.
+//! Whole runs of the drivers on lowpass filters, as a job asks for them.
 
 use super::vectors::refused;
 use crate::port::{self, Left, Task};
@@ -6,12 +6,33 @@ use crate::race::{parting, Pair};
 use ellalgo_rs::arr::Arr;
 use ellalgo_rs::cutting_plane::{cutting_plane_feas, cutting_plane_optim, Options};
 use ellalgo_rs::ell::Ell;
-use ellalgo_rs::oracles::lowpass_oracle::{create_lowpass_case, LowpassOracle};
+use ellalgo_rs::oracles::lowpass_oracle::LowpassOracle;
 use ellalgo_rs::round_robin::RoundRobin;
 use generator::oracles::spaces::diagonal;
 use std::hint::black_box;
 
 const KAPPA: f64 = 40.0;
+const TOLERANCE: f64 = 1e-20;
+
+/// A filter of n coefficients: the pass band and the ripple of the Rust's own example, and the
+/// wider a transition the shorter it is, for n = 32 the example's.
+fn filter(n: usize, sp_sq: f64) -> LowpassOracle {
+    let wstop = (0.12 + 2.56 / n as f64).min(0.8);
+    let (lp_sq, up_sq) = (1.0 / (1.025 * 1.025), 1.025 * 1.025);
+    LowpassOracle::new(n, 0.12, wstop, lp_sq, up_sq, sp_sq)
+}
+
+fn ball(n: usize) -> Ell {
+    Ell::new_with_matrix(KAPPA, Arr::eye(n), Arr::new(n))
+}
+
+/// A stop limit that is not easily met: 1 % above the least that the Rust's optimizing driver reaches.
+fn tight(n: usize) -> f64 {
+    let mut gamma = 0.25;
+    let options = Options::new(20_000, TOLERANCE);
+    cutting_plane_optim(&mut filter(n, gamma), &mut ball(n), &mut gamma, &options);
+    1.01 * gamma
+}
 
 /// A run of the Rust, and its answer.
 struct Rust {
@@ -26,7 +47,8 @@ pub struct Runs {
     task: Task,
     options: Options,
     start: Left,
-    port: Vec<Left>,
+    /// Each with a table of its own, as each of the Rust's has.
+    port: Vec<(Task, Left)>,
     rust: Vec<Rust>,
     refusals: u64,
 }
@@ -64,8 +86,8 @@ impl Runs {
     fn fresh(&self) -> Rust {
         let n = self.task.n;
         Rust {
-            oracle: create_lowpass_case(n),
-            ell: Ell::new_with_matrix(KAPPA, Arr::eye(n), Arr::new(n)),
+            oracle: filter(n, self.task.sp_sq),
+            ell: ball(n),
             gamma: self.task.sp_sq,
             answer: (None, 0),
         }
@@ -73,7 +95,7 @@ impl Runs {
 }
 
 fn task(n: usize, max_iters: u16) -> Task {
-    let made = create_lowpass_case(n);
+    let made = filter(n, tight(n));
     let rows = made.spectrum.iter();
     Task {
         n,
@@ -87,7 +109,7 @@ fn task(n: usize, max_iters: u16) -> Task {
         sp_sq: made.sp_sq,
         kappa: KAPPA,
         max_iters,
-        tolerance: 1e-20,
+        tolerance: TOLERANCE,
         table: rows.flat_map(|row| row.data().to_vec()).collect(),
     }
 }
@@ -98,17 +120,13 @@ fn port_numbers(left: &Left) -> Vec<f64> {
     all.extend(left.marks.iter().map(|&i| i as f64));
     all.extend(left.values);
     all.push(left.gamma);
-    let best = if left.answer[0] == 1 {
-        &left.best[..]
-    } else {
-        &[]
-    };
-    for part in [&left.mq, &left.xc, &left.grad_t, best] {
+    for part in [&left.mq, &left.xc, &left.grad_t, &left.best] {
         all.extend(part);
     }
     all
 }
 
+/// Where there is no point the port's x_best keeps its zeros.
 fn rust_numbers(rust: &Rust) -> Vec<f64> {
     let (oracle, ell) = (&rust.oracle, &rust.ell);
     let (best, steps) = &rust.answer;
@@ -118,22 +136,27 @@ fn rust_numbers(rust: &Rust) -> Vec<f64> {
     let marks = marks.chain([oracle.idx1, oracle.idx2, oracle.idx3, oracle.kmax]);
     all.extend(marks.map(f64::from));
     all.extend([oracle.sp_sq, oracle.fmax, ell.kappa, ell.tsq, rust.gamma]);
-    for part in [&ell.mq, &ell.xc, ell.grad_t()] {
+    let none = Arr::new(ell.xc.len());
+    for part in [
+        &ell.mq,
+        &ell.xc,
+        ell.grad_t(),
+        best.as_ref().unwrap_or(&none),
+    ] {
         all.extend(part.data());
     }
-    all.extend(best.iter().flat_map(|x| x.data()));
     all
 }
 
 impl Pair for Runs {
     fn prepare(&mut self, copies: usize) {
-        self.port = vec![self.start.clone(); copies];
+        self.port = vec![(self.task.clone(), self.start.clone()); copies];
         self.rust = (0..copies).map(|_| self.fresh()).collect();
     }
 
     fn port(&mut self) {
-        for left in &mut self.port {
-            let task = black_box(&self.task);
+        for (task, left) in &mut self.port {
+            let task = black_box(&*task);
             self.refusals |= if self.optim {
                 port::cutting_plane_optim(task, left)
             } else {
@@ -153,14 +176,17 @@ impl Pair for Runs {
         }
     }
 
-    /// The steps of a run.
+    /// The steps of a run: one that ends at step k has made k + 1, unless the limit ran out.
     fn units(&self) -> f64 {
-        self.rust[0].answer.1.max(1) as f64
+        let steps = self.rust[0].answer.1;
+        (steps + 1).min(self.task.max_iters as usize) as f64
     }
 
     fn difference(&self) -> Option<String> {
         let mut both = self.port.iter().zip(&self.rust);
-        let parted = |(p, r): (&Left, &Rust)| parting("run", &port_numbers(p), &rust_numbers(r));
+        let parted = |((_, p), r): (&(Task, Left), &Rust)| {
+            parting("run", &port_numbers(p), &rust_numbers(r))
+        };
         refused(self.refusals).or_else(|| both.find_map(parted))
     }
 }
