@@ -1,7 +1,8 @@
 -- Rows that a scan looks at one after the other, with no turn of the cursor between them. Definitions only.
-use Prim.Native.Nat.{ℕ, zero, suc, _+_}
+use Prim.Native.Nat.{ℕ, zero, suc, _≤_, _+_, _-_, _*_}
 use mathlib.Core.Bool.{Bool, true, false}
 use mathlib.Core.List.{List}
+use lib.ListN.{length}
 use lib.IntN.{ℤ, pos, predℤ}
 use lib.Ieee.{Float, inf, lt}
 use Rattle.numbers.specs.Pick.{pick}
@@ -45,3 +46,11 @@ runOf n table x lower limit zero i fmax kmax = record { viol = Nothing; fmax = f
 runOf n table x lower limit (suc count) i fmax kmax =
     let s = judgedOf lower limit i (valueOf n table x i) fmax kmax in
     pick (isBroken (s .viol)) s (runOf n table x lower limit count (suc i) (s .fmax) (s .kmax))
+
+-- a scan of the band lo .. hi − 1 with rows left, the next of them `next`, where the band's end stands for its start
+pub record Going (n : ℕ) (table : List Float) (lo hi next left : ℕ) : Type 0 where
+  pub above : lo ≤ next
+  pub below : next ≤ hi
+  pub room : left ≤ hi - lo
+  pub small : hi ≤ 1024
+  pub high : hi * n ≤ length table

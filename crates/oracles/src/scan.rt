@@ -16,8 +16,10 @@ ghost use lib.ListN.{length};
 ghost use Rattle.oracles.specs.RoundRobin.{moved, Legal};
 ghost use Rattle.oracles.specs.declared.scan.ScanAnswer.the-variants.{Refused};
 ghost use Rattle.numbers.specs.Pick.{pick};
-ghost use Rattle.oracles.specs.ScanRun.{limitOf, isBroken, valuesOf, judgedOf, runOf};
-ghost use Rattle.oracles.specs.Scan.{valueOf, isRows, band-fits, scanOf, scan-band-answer, Ready, Scannable};
+ghost use Rattle.oracles.specs.RoundRobinLaws.{canon};
+ghost use Rattle.oracles.specs.declared.scan.Upper.the-variants.{At};
+ghost use Rattle.oracles.specs.ScanRun.{limitOf, isBroken, valuesOf, judgedOf, runOf, Going};
+ghost use Rattle.oracles.specs.Scan.{valueOf, isRows, band-fits, scanFrom, scanOf, scan-band-answer, Ready, Scannable};
 
 // The upper limit of a band, where it has one.
 pub enum Upper {
@@ -257,14 +259,11 @@ fn look_at(
     judge(row, value, lower, limit, fmax, kmax)
 }
 
-// How many rows to look at together, of those left and those before the band's end. The first three singly: a scan that ends there has no use for more.
-fn rows_together(seen: usize, left: usize, ahead: usize) -> usize
+// How many rows to look at together, of those left and those before the band's end.
+fn rows_together(left: usize, ahead: usize) -> usize
     requires { ⌜ (1 ≤ left) × (1 ≤ ahead) ⌝ }
     ensures { λ r. ⌜ ((r ≡ 1) ⊎ (r ≡ 4)) × (r ≤ left) × (r ≤ ahead) ⌝ }
 {
-    if seen < 3 {
-        return 1;
-    }
     if left < 4 {
         return 1;
     }
@@ -274,29 +273,30 @@ fn rows_together(seen: usize, left: usize, ahead: usize) -> usize
     4
 }
 
-// The rows of the band in turn, each once at most.
-fn scan_rows(
+// `count` rows of the band lo .. hi − 1 from row `from` on, after the largest value so far and its row.
+fn scan_rest(
     n: usize,
     table: &[f64],
     x: &[f64],
-    start: RoundRobin,
+    lo: usize,
+    hi: usize,
+    from: usize,
+    count: usize,
     lower: f64,
-    upper: Upper,
+    limit: f64,
+    peak: f64,
+    peak_row: i32,
 ) -> Scan
-    requires { ⌜ Ready n (now table) (now x) start × (length (now x) ≡ n) ⌝ }
-    ensures { λ r. ⌜ r ≡ scanOf n (now (table .entry)) (now (x .entry)) start lower upper ⌝ }
+    requires { ⌜ Going n (now table) lo hi from count × (length (now x) ≡ n) ⌝ }
+    ensures { λ r. ⌜ r ≡ scanFrom n (now (table .entry)) (now (x .entry)) lower (At limit) count (canon lo hi from) peak «peak_row» ⌝ }
 {
-    let limit = limit_of(upper);
-    let lo = band_from(start);
-    let hi = band_past(start);
-    let all = hi - lo;
-    let mut next = row_after(start);
-    let mut fmax: f64 = -1.0 / 0.0;
-    let mut kmax: i32 = -1;
-    let mut left = all;
+    let mut next = from;
+    let mut fmax = peak;
+    let mut kmax = peak_row;
+    let mut left = count;
     while left > 0 {
         let row = turned(next, lo, hi);
-        let many = rows_together(all - left, left, hi - row);
+        let many = rows_together(left, hi - row);
         let s = look_at(n, table, x, row, many, lower, limit, fmax, kmax);
         let viol = s.viol;
         if is_broken(viol) {
@@ -313,6 +313,41 @@ fn scan_rows(
         kmax: kmax,
         last: row_before(next),
     }
+}
+
+// The rows of the band in turn, each once at most. The first singly: most scans that break a limit end there.
+fn scan_rows(
+    n: usize,
+    table: &[f64],
+    x: &[f64],
+    start: RoundRobin,
+    lower: f64,
+    upper: Upper,
+) -> Scan
+    requires { ⌜ Ready n (now table) (now x) start × (length (now x) ≡ n) ⌝ }
+    ensures { λ r. ⌜ r ≡ scanOf n (now (table .entry)) (now (x .entry)) start lower upper ⌝ }
+{
+    let limit = limit_of(upper);
+    let lo = band_from(start);
+    let hi = band_past(start);
+    let all = hi - lo;
+    let fmax: f64 = -1.0 / 0.0;
+    if all == 0 {
+        return Scan {
+            viol: Violation::Nothing,
+            fmax: fmax,
+            kmax: -1,
+            last: start.cur,
+        };
+    }
+    let row = turned(row_after(start), lo, hi);
+    let value = row_value(n, table, x, row);
+    let s = judge(row, value, lower, limit, fmax, -1);
+    let viol = s.viol;
+    if is_broken(viol) {
+        return s;
+    }
+    scan_rest(n, table, x, lo, hi, row + 1, all - 1, lower, limit, s.fmax, s.kmax)
 }
 
 // A refusal, and the cursor as it came.
@@ -413,12 +448,16 @@ pub(crate) fn scan_ready(
     ensures { λ r. ⌜ (r .scan ≡ scanOf n (now (table .entry)) (now (x .entry)) start lower upper) × (r .cursor ≡ moved start (r .scan .last)) ⌝ }
 {
     let end = scan_lent(n, rows, table, x, start, lower, upper);
-    let cursor = end.cursor;
     let answer = end.answer;
     match answer {
+        // its lo and hi are the start's, which the caller has at hand
         ScanAnswer::Scanned(scan) => Swept {
             scan: scan,
-            cursor: cursor,
+            cursor: RoundRobin {
+                cur: scan.last,
+                lo: start.lo,
+                hi: start.hi,
+            },
         },
         // does not occur
         ScanAnswer::Refused(_) => Swept {
@@ -428,7 +467,7 @@ pub(crate) fn scan_ready(
                 kmax: -1,
                 last: -1,
             },
-            cursor: cursor,
+            cursor: start,
         },
     }
 }

@@ -15,22 +15,14 @@ use Rattle.numbers.specs.Pick.{pick, hit, skip}
 use Rattle.oracles.specs.RoundRobin.{advanced, Legal}
 use Rattle.oracles.specs.RoundRobinLaws.{canon, adv-next, adv-wrap}
 use Rattle.oracles.specs.ScanLaws.{band-count}
-use Rattle.oracles.specs.Scan.{−∞, none, scanFrom, scanOf, Ready}
-use Rattle.oracles.specs.ScanRun.{limitOf, isBroken, runOf}
+use Rattle.oracles.specs.Scan.{−∞, none, valueOf, scanFrom, scanOf, Ready}
+use Rattle.oracles.specs.ScanRun.{limitOf, isBroken, judgedOf, runOf, Going}
 use Rattle.oracles.specs.declared.round_robin.RoundRobin.{RoundRobin}
 use Rattle.oracles.specs.declared.scan.Upper.{Upper}
 use Rattle.oracles.specs.declared.scan.Upper.the-variants.{At}
 use Rattle.oracles.specs.declared.scan.Violation.the-variants.{Nothing}
 use Rattle.oracles.specs.declared.scan.Scan.{Scan}
-use Rattle.oracles.proofs.scan.Run.{after, after-broken, after-whole, by-limit, by-run}
-
--- a scan of the band lo .. hi − 1 with rows left, the next of them `next`, where the band's end stands for its start
-pub record Going (n : ℕ) (table : List Float) (lo hi next left : ℕ) : Type 0 where
-  pub above : lo ≤ next
-  pub below : next ≤ hi
-  pub room : left ≤ hi - lo
-  pub small : hi ≤ 1024
-  pub high : hi * n ≤ length table
+use Rattle.oracles.proofs.scan.Run.{after, after-broken, after-whole, run-one, by-limit, by-run}
 
 -- ---- the start
 
@@ -43,6 +35,14 @@ module _ (n : ℕ) (table x : List Float) (c : RoundRobin) (R : Ready n table x 
 
   pub ordered : lo ≤ hi
   ordered = omega (arith, from-is, past-is, R .legal .above, R .legal .below)
+
+  counted : natAbs (c .hi -ℤ c .lo) ≡ hi - lo
+  counted = band-count c (R .legal) ∙ (λ i. past-is i - from-is i)
+
+  -- of a band with no rows
+  pub empty : (lower : Float) (upper : Upper) → hi - lo ≡ 0 → record { viol = Nothing; fmax = −∞; kmax = none; last = c .cur } ≡ scanOf n table x c lower upper
+  unfolding scanOf scanFrom
+  empty lower upper h = rw (counted, h) refl
 
   module _ (next : ℕ) (ec : c .cur ≡ predℤ (pos next)) where
     next-is : R .legal .next ≡ next
@@ -61,10 +61,9 @@ module _ (n : ℕ) (table x : List Float) (c : RoundRobin) (R : Ready n table x 
         → scanFrom n table x lower (At limit) (hi - lo) (canon lo hi next) −∞ none ≡ scanOf n table x c lower upper
     unfolding scanOf
     start-is lower upper limit e =
-        let count : natAbs (c .hi -ℤ c .lo) ≡ hi - lo = band-count c (R .legal) ∙ (λ i. past-is i - from-is i) in
         rw e
         (by-limit n table x lower upper (hi - lo) (canon lo hi next) −∞ none
-        ∙ sym (λ i. scanFrom n table x lower upper (count i) (record { cur = ec i; lo = el i; hi = eh i }) −∞ none))
+        ∙ sym (λ i. scanFrom n table x lower upper (counted i) (record { cur = ec i; lo = el i; hi = eh i }) −∞ none))
 
 -- ---- a turn
 
@@ -122,3 +121,38 @@ module _ (n : ℕ) (table x : List Float) (lower limit : Float) (lo hi next left
 
         pub goes-on : isBroken (s .viol) ≡ false → scanFrom n table x lower (At limit) (left - many) (canon lo hi (row + many)) (s .fmax) (s .kmax) ≡ whole
         goes-on b = after-whole s _ b ∙ opened
+
+-- ---- the first row
+
+module _ (n : ℕ) (table x : List Float) (c : RoundRobin) (R : Ready n table x c) (lo hi : ℕ) (el : c .lo ≡ pos lo) (eh : c .hi ≡ pos hi) (next : ℕ) (ec : c .cur ≡ predℤ (pos next))
+    (lower : Float) (upper : Upper) (limit : Float) (em : limit ≡ limitOf upper) (some : hi - lo ≡ 0 → ⊥) (row : ℕ) (er : row ≡ pick (eqb next hi) lo next) where
+  start : Going n table lo hi next (hi - lo)
+  start = starts n table x c R lo hi el eh next ec
+
+  all-rows : scanFrom n table x lower (At limit) (hi - lo) (canon lo hi next) −∞ none ≡ scanOf n table x c lower upper
+  all-rows = start-is n table x c R lo hi el eh next ec lower upper limit em
+
+  rows : 0 < hi - lo
+  rows = omega (arith, some)
+
+  pub first-high : row < hi
+  first-high = row-high n table x lower limit lo hi next (hi - lo) −∞ none start all-rows rows row er
+
+  ahead : 1 ≤ hi - row
+  ahead = omega (arith, first-high)
+
+  pub first-in : row * n + n ≤ length table
+  first-in = omega (arith, rows-in n table x lower limit lo hi next (hi - lo) −∞ none start all-rows rows row er 1 rows ahead)
+
+  pub rest-going : Going n table lo hi (row + 1) (hi - lo - 1)
+  rest-going = still n table x lower limit lo hi next (hi - lo) −∞ none start all-rows rows row er 1 rows ahead
+
+  module _ {s : Scan} (es : s ≡ judgedOf lower limit row (valueOf n table x row) −∞ none) where
+    one : s ≡ runOf n table x lower limit 1 row −∞ none
+    one = run-one n table x lower limit row −∞ none es
+
+    pub first-ends : isBroken (s .viol) ≡ true → s ≡ scanOf n table x c lower upper
+    first-ends = ends n table x lower limit lo hi next (hi - lo) −∞ none start all-rows rows row er 1 rows ahead one
+
+    pub first-goes-on : isBroken (s .viol) ≡ false → scanFrom n table x lower (At limit) (hi - lo - 1) (canon lo hi (row + 1)) (s .fmax) (s .kmax) ≡ scanOf n table x c lower upper
+    first-goes-on = goes-on n table x lower limit lo hi next (hi - lo) −∞ none start all-rows rows row er 1 rows ahead one

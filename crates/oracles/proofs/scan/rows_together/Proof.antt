@@ -12,10 +12,7 @@ returns-2 : tie.Need-returns-2
 returns-2 c = (inl refl, omega arith, omega arith)
 
 returns-3 : tie.Need-returns-3
-returns-3 c = (inl refl, omega arith, omega arith)
-
-returns-4 : tie.Need-returns-4
-returns-4 c = (inr refl, omega arith, omega arith)
+returns-3 c = (inr refl, omega arith, omega arith)
 
 pub rows-together-spec : {M : Type 1} → statement M
-rows-together-spec = tie.close (tie.spec returns returns-2 returns-3 returns-4)
+rows-together-spec = tie.close (tie.spec returns returns-2 returns-3)

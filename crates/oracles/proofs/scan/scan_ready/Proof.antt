@@ -5,6 +5,7 @@ use Prim.Native.Nat.{ℕ}
 use native.Mathlib.Omega.{arith}
 use lib.Ieee.{Float}
 use borrow.Author.Needs.{needs}
+use mir.Facts.{toZ-ofZ}
 use types.Run.{OneOf}
 use denote.Enum.Declared.{tagOf}
 use Rattle.oracles.specs.RoundRobin.{moved}
@@ -32,10 +33,8 @@ module _ (n rows : ℕ) (table x : List Float) (c : RoundRobin) (lower : Float) 
   both : _≡_ {A = ScanAnswer × RoundRobin} (a, d) (Scanned s, moved c (s .last))
   both = e ∙ sym (scanned n rows table x c lower upper S)
 
-  gives : {s′ : Scan} → a ≡ Scanned s′ → (s′ ≡ s) × (d ≡ moved c (s′ .last))
-  gives {s′} q =
-      let w : s′ ≡ s = ap (the-scan s) (sym q ∙ ap (λ (p : ScanAnswer × RoundRobin). p .0) both) in
-      (w, ap (λ (p : ScanAnswer × RoundRobin). p .1) both ∙ ap (λ (z : Scan). moved c (z .last)) (sym w))
+  gives : {s′ : Scan} → a ≡ Scanned s′ → s′ ≡ s
+  gives q = ap (the-scan s) (sym q ∙ ap (λ (p : ScanAnswer × RoundRobin). p .0) both)
 
   never : OneOf (1 ∷ []) (tagOf R.the-type a) → ⊥
   never k = let z : _≡_ {A = ℕ} 0 1 = sym (ap (λ (p : ScanAnswer × RoundRobin). tagOf R.the-type (p .0)) both) ∙ k in omega arith
@@ -51,14 +50,18 @@ enum-told c = search needs
 
 returns : tie.Need-returns
 returns c =
-    let l = c .before .before .before .before in
+    let m = c .before .before in
+    let l = m .before .before .before in
     let st = l .before .before .before in
     let a = st .args in
-    gives (a .n) (a .rows) (a .table .now) (a .x .now) (a .start) (a .lower) (a .upper) (st .pre) (l .scan-lent .ensures) (c .before .answer .given .1)
+    (
+      gives (a .n) (a .rows) (a .table .now) (a .x .now) (a .start) (a .lower) (a .upper) (st .pre) (l .scan-lent .ensures) (m .before .answer .given .1),
+      rw (toZ-ofZ (record { sfits = c .before .struct-told .given .1 .1 .1 .0 .1 })) (rw (toZ-ofZ (record { sfits = c .struct-told2 .given .1 .0 .1 })) (rw (toZ-ofZ (record { sfits = c .struct-told2 .given .1 .1 .0 .1 })) refl)),
+    )
 
 returns-2 : tie.Need-returns-2
 returns-2 c =
-    let l = c .before .before .before in
+    let l = c .before .before in
     let st = l .before .before .before in
     let a = st .args in
     absurd (never (a .n) (a .rows) (a .table .now) (a .x .now) (a .start) (a .lower) (a .upper) (st .pre) (l .scan-lent .ensures) (c .before .match .keys2))

@@ -1,202 +1,132 @@
--- `oracles::scan::scan_rows` meets its contract: at each turn what is left computes the answer. Assumes nothing.
+-- `oracles::scan::scan_rows` meets its contract: the first row, and what is left after it. Assumes nothing.
 use mathlib.Core.Path.{_≡_, refl, sym, _∙_}
-use mathlib.Core.Logic.{_⊎_, inl, inr}
-use Prim.Native.Nat.{ℕ, _≤_}
 use native.Mathlib.Omega.{arith}
-use borrow.Author.Needs.{needs}
 use mir.Syntax.{w32}
-use mir.Val.{toZ}
 use mir.Facts.{toZ-ofZ}
 use lib.Ieee
-use Rattle.oracles.specs.RoundRobinLaws.{canon}
-use Rattle.oracles.specs.Scan.{scanFrom}
-use Rattle.oracles.specs.declared.scan.Upper.the-variants.{At}
-use Rattle.oracles.proofs.Signed.{before-fits}
-use Rattle.oracles.proofs.scan.Turn.{Going, ordered, starts, start-is, clear, row-high, rows-in, still, ends, goes-on}
+use Rattle.oracles.specs.Scan.{−∞}
+use Rattle.oracles.proofs.scan.Run.{as-judged}
+use Rattle.oracles.proofs.scan.Turn.{ordered, empty, first-high, first-in, rest-going, first-ends, first-goes-on}
 use Rattle.oracles.proofs.scan.scan_rows.Statement.{statement}
 use Rattle.oracles.proofs.scan.scan_rows.Tie as tie
 
-abbrev Inv-loop : tie.InvT-loop
-Inv-loop n table x lower limit lo hi all next₀ fmax₀ kmax₀ left₀ next fmax kmax left =
-    Going n table lo hi next left
-    × (scanFrom n table x lower (At limit) left (canon lo hi next) fmax (toZ w32 kmax) ≡ scanFrom n table x lower (At limit) left₀ (canon lo hi next₀) fmax₀ (toZ w32 kmax₀))
-
-abbrev μ-loop : tie.MeasureT-loop
-μ-loop n table x lower limit lo hi all next₀ fmax₀ kmax₀ left₀ next fmax kmax left = left
-
--- at least one row
-some : {many : ℕ} → (many ≡ 1) ⊎ (many ≡ 4) → 1 ≤ many
-some (inl e) = omega arith
-some (inr e) = omega arith
-
-limit-of-requires : tie.Need-limit-of-requires Inv-loop μ-loop
+limit-of-requires : tie.Need-limit-of-requires
 limit-of-requires c κs = tt
 
-band-from-requires : tie.Need-band-from-requires Inv-loop μ-loop
+band-from-requires : tie.Need-band-from-requires
 band-from-requires c κs = c .before .before .before .pre .0 .legal
 
-band-past-requires : tie.Need-band-past-requires Inv-loop μ-loop
+band-past-requires : tie.Need-band-past-requires
 band-past-requires c κs = c .before .before .before .before .pre .0 .legal
 
-sub-all : tie.Need-sub-all Inv-loop μ-loop
+sub-all : tie.Need-sub-all
 sub-all c =
     let st = c .before .before .before .before .before in
     let a = st .args in
     ordered (a .n) (a .table .now) (a .x .now) (a .start) (st .pre .0) _ _ (c .before .band-from .ensures) (c .band-past .ensures)
 
-row-after-requires : tie.Need-row-after-requires Inv-loop μ-loop
-row-after-requires c κs = c .before .before .before .before .before .pre .0 .legal
-
-loop-holds : tie.Need-loop-holds Inv-loop μ-loop
-loop-holds c =
-    let st = c .before .before .before .before .before .before in
-    let a = st .args in
-    (starts (a .n) (a .table .now) (a .x .now) (a .start) (st .pre .0) _ _ (c .before .before .band-from .ensures) (c .before .band-past .ensures) _ (c .row-after .ensures), refl)
-
-turned-requires : tie.Need-turned-requires Inv-loop μ-loop
-turned-requires c κs = tt
-
-sub-rows-together : tie.Need-sub-rows-together Inv-loop μ-loop
-sub-rows-together c = c .before .before .loop .inv .0 .room
-
-sub-rows-together-2 : tie.Need-sub-rows-together-2 Inv-loop μ-loop
-sub-rows-together-2 c =
-    let i = c .before in
-    let l = i .before .loop in
-    let w = i .before .before in
-    let st = w .before .before .before .before .before .before in
-    let a = st .args in
-    let lo = w .before .before .band-from .result in
-    let hi = w .before .band-past .result in
-    let limit = w .before .before .before .limit-of .result in
-    omega (arith, row-high (a .n) (a .table .now) (a .x .now) (a .lower) limit lo hi (l .next) (l .left) (l .fmax) (toZ w32 (l .kmax)) (l .inv .0) (l .inv .1) (i .loop-test .taken) (c .turned .result) (c .turned .ensures))
-
-rows-together-requires : tie.Need-rows-together-requires Inv-loop μ-loop
-rows-together-requires c κs =
-    let i = c .before in
-    let l = i .before .loop in
-    let w = i .before .before in
-    let st = w .before .before .before .before .before .before in
-    let a = st .args in
-    let lo = w .before .before .band-from .result in
-    let hi = w .before .band-past .result in
-    let limit = w .before .before .before .limit-of .result in
-    (i .loop-test .taken, omega (arith, row-high (a .n) (a .table .now) (a .x .now) (a .lower) limit lo hi (l .next) (l .left) (l .fmax) (toZ w32 (l .kmax)) (l .inv .0) (l .inv .1) (i .loop-test .taken) (c .turned .result) (c .turned .ensures)))
-
-look-at-requires : tie.Need-look-at-requires Inv-loop μ-loop
-look-at-requires c κs =
-    let i = c .before .before in
-    let l = i .before .loop in
-    let w = i .before .before in
-    let st = w .before .before .before .before .before .before in
-    let a = st .args in
-    let lo = w .before .before .band-from .result in
-    let hi = w .before .band-past .result in
-    let limit = w .before .before .before .limit-of .result in
-    let t = c .before .turned in
-    let m = c .rows-together .ensures in (
-      m .0,
-      omega (arith, m .2, row-high (a .n) (a .table .now) (a .x .now) (a .lower) limit lo hi (l .next) (l .left) (l .fmax) (toZ w32 (l .kmax)) (l .inv .0) (l .inv .1) (i .loop-test .taken) (t .result) (t .ensures), l .inv .0 .small),
-      rows-in (a .n) (a .table .now) (a .x .now) (a .lower) limit lo hi (l .next) (l .left) (l .fmax) (toZ w32 (l .kmax)) (l .inv .0) (l .inv .1) (i .loop-test .taken) (t .result) (t .ensures) (c .rows-together .result) (m .1) (m .2),
-      st .pre .1,
-    )
-
-is-broken-requires : tie.Need-is-broken-requires Inv-loop μ-loop
-is-broken-requires c κs = tt
-
-returns : tie.Need-returns Inv-loop μ-loop
+returns : tie.Need-returns
 unfolding Ieee.div Ieee.neg Ieee.ofBits
 returns c =
-    let i = c .before .before .before .before .before in
-    let l = i .before .loop in
-    let w = i .before .before in
-    let st = w .before .before .before .before .before .before in
+    let p = c .before .before in
+    let st = p .before .before .before .before .before in
     let a = st .args in
-    let lo = w .before .before .band-from .result in
-    let hi = w .before .band-past .result in
-    let limit = w .before .before .before .limit-of .result in
-    let t = c .before .before .before .before .turned in
-    let m = c .before .before .before .rows-together in
-    ends (a .n) (a .table .now) (a .x .now) (a .lower) limit lo hi (l .next) (l .left) (l .fmax) (toZ w32 (l .kmax)) (l .inv .0) (l .inv .1) (i .loop-test .taken) (t .result) (t .ensures) (m .result) (m .ensures .1) (m .ensures .2) (c .before .before .look-at .ensures) (sym (c .before .is-broken .ensures) ∙ c .if1 .taken)
-    ∙ start-is (a .n) (a .table .now) (a .x .now) (a .start) (st .pre .0) lo hi (w .before .before .band-from .ensures) (w .before .band-past .ensures) (w .row-after .result) (w .row-after .ensures) (a .lower) (a .upper) limit (w .before .before .before .limit-of .ensures)
+    rw (toZ-ofZ (record { sfits = c .struct-told .given .0 .1 }))
+    (empty (a .n) (a .table .now) (a .x .now) (a .start) (st .pre .0) _ _ (p .before .band-from .ensures) (p .band-past .ensures) (a .lower) (a .upper) (c .before .if1 .taken))
 
-add-next : tie.Need-add-next Inv-loop μ-loop
-add-next c =
-    let i = c .before .before .before .before .before .before in
-    let l = i .before .loop in
-    let w = i .before .before in
-    let st = w .before .before .before .before .before .before in
+row-after-requires : tie.Need-row-after-requires
+row-after-requires c κs = c .before .before .before .before .before .before .pre .0 .legal
+
+turned-requires : tie.Need-turned-requires
+turned-requires c κs = tt
+
+row-value-requires : tie.Need-row-value-requires
+row-value-requires c κs =
+    let r = c .before in
+    let p = r .before .before in
+    let st = p .before .before .before .before .before in
     let a = st .args in
-    let lo = w .before .before .band-from .result in
-    let hi = w .before .band-past .result in
-    let limit = w .before .before .before .limit-of .result in
-    let t = c .before .before .before .before .before .turned in
-    let m = c .before .before .before .before .rows-together .ensures in
-    omega (arith, m .2, row-high (a .n) (a .table .now) (a .x .now) (a .lower) limit lo hi (l .next) (l .left) (l .fmax) (toZ w32 (l .kmax)) (l .inv .0) (l .inv .1) (i .loop-test .taken) (t .result) (t .ensures), l .inv .0 .small)
+    first-in (a .n) (a .table .now) (a .x .now) (a .start) (st .pre .0) _ _ (p .before .band-from .ensures) (p .band-past .ensures) _ (r .row-after .ensures) (a .lower) (a .upper) _ (p .before .before .limit-of .ensures) (r .before .if1 .left) _ (c .turned .ensures)
 
-sub-left : tie.Need-sub-left Inv-loop μ-loop
-sub-left c = c .before .before .before .before .rows-together .ensures .1
-
-loop-less : tie.Need-loop-less Inv-loop μ-loop
-loop-less c = omega (arith, c .before .before .before .before .before .before .loop-test .taken, c .before .before .before .before .rows-together .ensures .1, some (c .before .before .before .before .rows-together .ensures .0))
-
-loop-again : tie.Need-loop-again Inv-loop μ-loop
-loop-again c =
-    let i = c .before .before .before .before .before .before in
-    let l = i .before .loop in
-    let w = i .before .before in
-    let st = w .before .before .before .before .before .before in
+judge-requires : tie.Need-judge-requires
+judge-requires c κs =
+    let t = c .before in
+    let r = t .before in
+    let p = r .before .before in
+    let st = p .before .before .before .before .before in
     let a = st .args in
-    let lo = w .before .before .band-from .result in
-    let hi = w .before .band-past .result in
-    let limit = w .before .before .before .limit-of .result in
-    let t = c .before .before .before .before .before .turned in
-    let m = c .before .before .before .before .rows-together in (
-      still (a .n) (a .table .now) (a .x .now) (a .lower) limit lo hi (l .next) (l .left) (l .fmax) (toZ w32 (l .kmax)) (l .inv .0) (l .inv .1) (i .loop-test .taken) (t .result) (t .ensures) (m .result) (m .ensures .1) (m .ensures .2),
-      rw (toZ-ofZ (record { sfits = c .struct-told .given .1 .1 .0 .1 }))
-          (goes-on (a .n) (a .table .now) (a .x .now) (a .lower) limit lo hi (l .next) (l .left) (l .fmax) (toZ w32 (l .kmax)) (l .inv .0) (l .inv .1) (i .loop-test .taken) (t .result) (t .ensures) (m .result) (m .ensures .1) (m .ensures .2) (c .before .before .before .look-at .ensures) (sym (c .before .before .is-broken .ensures) ∙ c .before .if1 .left)),
-    )
+    omega (arith, first-high (a .n) (a .table .now) (a .x .now) (a .start) (st .pre .0) _ _ (p .before .band-from .ensures) (p .band-past .ensures) _ (r .row-after .ensures) (a .lower) (a .upper) _ (p .before .before .limit-of .ensures) (r .before .if1 .left) _ (t .turned .ensures), rest-going (a .n) (a .table .now) (a .x .now) (a .start) (st .pre .0) _ _ (p .before .band-from .ensures) (p .band-past .ensures) _ (r .row-after .ensures) (a .lower) (a .upper) _ (p .before .before .limit-of .ensures) (r .before .if1 .left) _ (t .turned .ensures) .small)
 
-row-before-requires : tie.Need-row-before-requires Inv-loop μ-loop
-row-before-requires c κs = let l = c .before .loop in omega (arith, l .inv .0 .below, l .inv .0 .small)
+is-broken-requires : tie.Need-is-broken-requires
+is-broken-requires c κs = tt
 
-returns-2 : tie.Need-returns-2 Inv-loop μ-loop
+returns-2 : tie.Need-returns-2
 unfolding Ieee.div Ieee.neg Ieee.ofBits
 returns-2 c =
-    let e = c .before in
-    let l = e .before .loop in
-    let w = e .before .before in
-    let st = w .before .before .before .before .before .before in
+    let b = c .before in
+    let j = b .before in
+    let v = j .before in
+    let t = v .before in
+    let r = t .before in
+    let p = r .before .before in
+    let st = p .before .before .before .before .before in
     let a = st .args in
-    let lo = w .before .before .band-from .result in
-    let hi = w .before .band-past .result in
-    let limit = w .before .before .before .limit-of .result in
-    rw (c .row-before .ensures, toZ-ofZ (before-fits (l .next) (omega (arith, l .inv .0 .below, l .inv .0 .small))))
-    (clear (a .n) (a .table .now) (a .x .now) (a .lower) limit lo hi (l .next) (l .left) (l .fmax) (toZ w32 (l .kmax)) (l .inv .0) (l .inv .1) (e .loop-test .left)
-    ∙ start-is (a .n) (a .table .now) (a .x .now) (a .start) (st .pre .0) lo hi (w .before .before .band-from .ensures) (w .before .band-past .ensures) (w .row-after .result) (w .row-after .ensures) (a .lower) (a .upper) limit (w .before .before .before .limit-of .ensures))
+    first-ends (a .n) (a .table .now) (a .x .now) (a .start) (st .pre .0) _ _ (p .before .band-from .ensures) (p .band-past .ensures) _ (r .row-after .ensures) (a .lower) (a .upper) _ (p .before .before .limit-of .ensures) (r .before .if1 .left) _ (t .turned .ensures)
+    (as-judged (a .n) (a .table .now) (a .x .now) (a .lower) _ −∞ refl (v .row-value .ensures) refl (j .judge .ensures)) (sym (b .is-broken .ensures) ∙ c .if2 .taken)
+
+add-scan-rest : tie.Need-add-scan-rest
+add-scan-rest c =
+    let t = c .before .before .before .before in
+    let r = t .before in
+    let p = r .before .before in
+    let st = p .before .before .before .before .before in
+    let a = st .args in
+    omega (arith, rest-going (a .n) (a .table .now) (a .x .now) (a .start) (st .pre .0) _ _ (p .before .band-from .ensures) (p .band-past .ensures) _ (r .row-after .ensures) (a .lower) (a .upper) _ (p .before .before .limit-of .ensures) (r .before .if1 .left) _ (t .turned .ensures) .below, rest-going (a .n) (a .table .now) (a .x .now) (a .start) (st .pre .0) _ _ (p .before .band-from .ensures) (p .band-past .ensures) _ (r .row-after .ensures) (a .lower) (a .upper) _ (p .before .before .limit-of .ensures) (r .before .if1 .left) _ (t .turned .ensures) .small)
+
+sub-scan-rest : tie.Need-sub-scan-rest
+sub-scan-rest c = omega (arith, c .before .before .before .before .before .before .if1 .left)
+
+scan-rest-requires : tie.Need-scan-rest-requires
+scan-rest-requires c κs =
+    let t = c .before .before .before .before .before in
+    let r = t .before in
+    let p = r .before .before in
+    let st = p .before .before .before .before .before in
+    let a = st .args in
+    (rest-going (a .n) (a .table .now) (a .x .now) (a .start) (st .pre .0) _ _ (p .before .band-from .ensures) (p .band-past .ensures) _ (r .row-after .ensures) (a .lower) (a .upper) _ (p .before .before .limit-of .ensures) (r .before .if1 .left) _ (t .turned .ensures), st .pre .1)
+
+returns-3 : tie.Need-returns-3
+unfolding Ieee.div Ieee.neg Ieee.ofBits
+returns-3 c =
+    let d = c .before in
+    let b = d .before .before in
+    let j = b .before in
+    let v = j .before in
+    let t = v .before in
+    let r = t .before in
+    let p = r .before .before in
+    let st = p .before .before .before .before .before in
+    let a = st .args in
+    rw (toZ-ofZ (record { sfits = d .struct-told2 .given .1 .1 .0 .1 })) at (c .scan-rest .ensures)
+    ∙ first-goes-on (a .n) (a .table .now) (a .x .now) (a .start) (st .pre .0) _ _ (p .before .band-from .ensures) (p .band-past .ensures) _ (r .row-after .ensures) (a .lower) (a .upper) _ (p .before .before .limit-of .ensures) (r .before .if1 .left) _ (t .turned .ensures)
+    (as-judged (a .n) (a .table .now) (a .x .now) (a .lower) _ −∞ refl (v .row-value .ensures) refl (j .judge .ensures)) (sym (b .is-broken .ensures) ∙ d .before .if2 .left)
 
 pub scan-rows-spec : {M : Type 1} → statement M
 scan-rows-spec =
     tie.close
     (tie.spec
-    Inv-loop
-    μ-loop
     limit-of-requires
     band-from-requires
     band-past-requires
     sub-all
-    row-after-requires
-    loop-holds
-    turned-requires
-    sub-rows-together
-    sub-rows-together-2
-    rows-together-requires
-    look-at-requires
-    is-broken-requires
     returns
-    add-next
-    sub-left
-    loop-less
-    loop-again
-    row-before-requires
-    returns-2)
+    row-after-requires
+    turned-requires
+    row-value-requires
+    judge-requires
+    is-broken-requires
+    returns-2
+    add-scan-rest
+    sub-scan-rest
+    scan-rest-requires
+    returns-3)
