@@ -1,4 +1,4 @@
-//! Links the static library that `rt staticlib ponduvizh` writes, and notes the compiler's version.
+//! Links the static library that `rt staticlib ponduvizh` writes, and notes the versions of both compilers.
 
 use std::env;
 use std::path::Path;
@@ -13,12 +13,14 @@ fn main() {
     let archive = folder.join("libponduvizh.a");
     println!("cargo:rerun-if-changed={}", archive.display());
     println!("cargo:rerun-if-env-changed=PONDUVIZH_LIB");
-    println!("cargo:rustc-env=BENCH_RUSTC={}", version());
+    let rustc = env::var("RUSTC").unwrap_or("rustc".into());
+    let rustc = said(&rustc, "--version");
+    println!("cargo:rustc-env=BENCH_RUSTC={rustc}");
+    println!("cargo:rustc-env=BENCH_RATTLE={}", said("rt", "version"));
 }
 
-fn version() -> String {
-    let rustc = env::var("RUSTC").unwrap_or("rustc".into());
-    let said = Command::new(rustc).arg("--version").output();
+fn said(program: &str, word: &str) -> String {
+    let said = Command::new(program).arg(word).output();
     let said = said.map_or(Vec::new(), |out| out.stdout);
     String::from_utf8_lossy(&said).trim().to_string()
 }

@@ -108,12 +108,13 @@ fn head(options: &Options) -> String {
     let name = known.lines().find(|line| line.starts_with("model name"));
     let name = name.and_then(|line| line.split(": ").nth(1));
     let mut head = format!(
-        "{}, {}",
+        "{}; {}; {}",
         name.unwrap_or("unknown processor"),
+        env!("BENCH_RATTLE"),
         env!("BENCH_RUSTC")
     );
     if let Some(date) = options.get("--date") {
-        head += &format!(", {date}");
+        head += &format!("; {date}");
     }
     head
 }

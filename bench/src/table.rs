@@ -17,24 +17,28 @@ pub struct Row {
 /// The calls whose name has `only` in it, and of these the rows of one n if it is given.
 pub fn measure(rounds: usize, only: &str, one: Option<usize>) -> Result<Vec<Row>, String> {
     let mut rows = Vec::new();
-    let mut add = |call: &str, n: Option<usize>, pair: &mut dyn Pair| {
+    let mut add = |call: &str, n: Option<usize>, made: &dyn Fn() -> Box<dyn Pair>| {
         if !call.contains(only) || one.is_some_and(|one| n != Some(one)) {
             return Ok(());
         }
         let of = n.map_or(String::new(), |n| format!(", n {n}"));
-        let times = race(pair, rounds).map_err(|what| format!("{call}{of}: {what}"))?;
+        let times = race(made().as_mut(), rounds).map_err(|what| format!("{call}{of}: {what}"))?;
         let call = call.to_string();
         rows.push(Row { call, n, times });
         Ok::<(), String>(())
     };
-    add("sqrt, each waits for the last", None, &mut Roots::new(true))?;
-    add("sqrt, each by itself", None, &mut Roots::new(false))?;
+    add("sqrt, each waits for the last", None, &|| {
+        Box::new(Roots::new(true))
+    })?;
+    add("sqrt, each by itself", None, &|| {
+        Box::new(Roots::new(false))
+    })?;
     for call in BY_N {
         for n in NS {
-            add(call, Some(n), by_n(call, n).as_mut())?;
+            add(call, Some(n), &|| by_n(call, n))?;
         }
     }
-    add(READER, Some(32), &mut Jobs::new())?;
+    add(READER, Some(32), &|| Box::new(Jobs::new()))?;
     Ok(rows)
 }
 

@@ -93,9 +93,15 @@ fn sqrt(taken: &mut Taken, got: &mut Case) {
 fn dot(taken: &mut Taken, got: &mut Case) {
     let [n, la, lb] = taken.sizes();
     let (a, b) = (taken.floats(la), taken.floats(lb));
-    let mut out = 0.0;
-    got.give(port::dot(n, &a, &b, &mut out));
-    got.give_floats(&[out]);
+    let mut out = 7.0;
+    let no = port::dot(n, &a, &b, &mut out);
+    got.give(no);
+    if no == 0 {
+        got.give_floats(&[out]);
+    } else {
+        got.give_floats(&[0.0]); // the list's word for a refused one
+        keep(out == 7.0, got);
+    }
 }
 
 fn dot_mv_into(taken: &mut Taken, got: &mut Case) {
@@ -190,6 +196,7 @@ fn read_job(taken: &mut Taken, got: &mut Case) {
     let [lb, lt, lx, lm] = taken.sizes();
     let bytes = taken.bytes(lb);
     let mut read = Read {
+        place: 7,
         sizes: [7; 3],
         bands: [7; 2],
         marks: [7; 7],
@@ -197,14 +204,15 @@ fn read_job(taken: &mut Taken, got: &mut Case) {
         table: taken.floats(lt),
         xc: taken.floats(lx),
         mq: taken.floats(lm),
-        ..Read::default()
     };
     let no = port::read_job(&bytes, &mut read);
     got.give(no);
-    got.give(read.place as u64);
     if no == 0 {
+        got.give(0); // the list's word where there is no place
         give_numbers(&read, got);
+        keep(read.place == 7, got);
     } else {
+        got.give(read.place as u64);
         let told = (read.sizes, read.bands, read.marks, read.numbers);
         keep(told == ([7; 3], [7; 2], [7; 7], [7.0; 5]), got);
     }
@@ -212,7 +220,7 @@ fn read_job(taken: &mut Taken, got: &mut Case) {
     slices.iter().for_each(|part| got.give_floats(part));
 }
 
-/// The marks are the cursors, the same again, and no kmax.
+/// The marks are the cursors, each idx before its band, and no kmax.
 fn give_numbers(read: &Read, got: &mut Case) {
     let [n, rows, max_iters] = read.sizes;
     let [lp_sq, up_sq, sp_sq, kappa, tolerance] = read.numbers;
@@ -225,5 +233,6 @@ fn give_numbers(read: &Read, got: &mut Case) {
     got.give_floats(&[kappa]);
     got.give(max_iters as u64);
     got.give_floats(&[tolerance]);
-    keep(rest == [cur, &[-1]].concat(), got);
+    let [nwpass, nwstop] = read.bands;
+    keep(rest == [-1, nwpass - 1, nwstop - 1, -1], got);
 }

@@ -1,4 +1,5 @@
-//! Reading a long job. The published Rust has no reader: the other one is the generator's own.
+//! Reading a long job. The published Rust has no reader: the other one is the generator's own, which makes its vectors as it reads; the port fills
+//! slices that are there.
 
 use super::vectors::refused;
 use crate::port::{self, Read};
@@ -49,14 +50,15 @@ fn port_numbers(read: &Read) -> Vec<f64> {
     all
 }
 
-/// The marks are the cursors, the same again, and no kmax.
+/// The marks are the cursors, each idx before its band, and no kmax.
 fn rust_numbers(job: &Job) -> Vec<f64> {
     let mut all: Vec<f64> = [job.n, job.rows(), job.limit as usize]
         .map(|size| size as f64)
         .into();
     all.extend([job.nwpass, job.nwstop].map(f64::from));
-    let marks = job.cur.iter().chain(&job.cur).chain(&[-1]);
-    all.extend(marks.map(|&cur| f64::from(cur)));
+    all.extend(job.cur.map(f64::from));
+    let [nwpass, nwstop] = [job.nwpass, job.nwstop].map(f64::from);
+    all.extend([-1.0, nwpass - 1.0, nwstop - 1.0, -1.0]);
     all.extend(job.limits);
     all.extend([job.kappa, job.tolerance]);
     for part in [&job.table, &job.x, &job.mq] {

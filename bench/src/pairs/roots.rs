@@ -28,17 +28,17 @@ impl Roots {
     }
 }
 
-/// Sixteen roots from each start. The difference is zero and joins the chains.
+/// Sixteen roots from each start, all kept. The difference is zero and joins the chains.
 #[allow(clippy::eq_op)]
-fn chain(starts: &[f64], ends: &mut [f64], root: impl Fn(f64) -> f64) {
+fn chain(starts: &[f64], roots: &mut [f64], root: impl Fn(f64) -> f64) {
     let mut x = 1.0;
-    for ends in ends.chunks_mut(starts.len()) {
-        for (v, end) in black_box(starts).iter().zip(ends) {
+    for roots in roots.chunks_mut(starts.len() * DEEP) {
+        for (v, roots) in black_box(starts).iter().zip(roots.chunks_mut(DEEP)) {
             x = v + (x - x);
-            for _ in 0..DEEP {
+            for out in roots {
                 x = root(x);
+                *out = x;
             }
-            *end = x;
         }
     }
 }
@@ -54,8 +54,9 @@ fn apart(starts: &[f64], ends: &mut [f64], root: impl Fn(f64) -> f64) {
 
 impl Pair for Roots {
     fn prepare(&mut self, copies: usize) {
-        self.port = vec![7.0; POOL * copies];
-        self.rust = vec![8.0; POOL * copies];
+        let roots = self.units() as usize * copies;
+        self.port = vec![7.0; roots];
+        self.rust = vec![8.0; roots];
     }
 
     fn port(&mut self) {

@@ -37,14 +37,7 @@ pub fn ell(n: usize) -> Updates<Ell> {
 pub fn ell_stable(n: usize) -> Updates<EllStable> {
     let start = Space::new(true, 40.0, vec![0.0; n], diagonal(n, |_| 1.0));
     let made = EllStable::new_with_matrix(40.0, Arr::eye(n), Arr::new(n));
-    updates(start, made, |ell| Space {
-        stable: true,
-        kappa: ell.kappa(),
-        tsq: ell.tsq(),
-        xc: ell.xc().data().to_vec(),
-        mq: ell.mq().data().to_vec(),
-        scratch: ell.scratch().map(|v| v.data().to_vec()).into(),
-    })
+    updates(start, made, Space::of_stable)
 }
 
 fn updates<S>(start: Space, made: S, space_of: fn(&S) -> Space) -> Updates<S> {

@@ -61,15 +61,7 @@ impl Space {
             ell.set_tsq(self.tsq);
             ell.set_scratch(scratch.try_into().unwrap());
             let status = apply(&mut ell, cut.how, &by);
-            let after = Space {
-                stable: true,
-                kappa: ell.kappa(),
-                tsq: ell.tsq(),
-                xc: ell.xc().data().to_vec(),
-                mq: ell.mq().data().to_vec(),
-                scratch: ell.scratch().map(|v| v.data().to_vec()).into(),
-            };
-            return (status, after);
+            return (status, Space::of_stable(&ell));
         }
         let mut ell = self.ell();
         let status = apply(&mut ell, cut.how, &by);
@@ -83,6 +75,17 @@ impl Space {
         ell.tsq = self.tsq;
         ell.set_grad_t(Arr::from(self.scratch[0].clone()));
         ell
+    }
+
+    pub fn of_stable(ell: &EllStable) -> Space {
+        Space {
+            stable: true,
+            kappa: ell.kappa(),
+            tsq: ell.tsq(),
+            xc: ell.xc().data().to_vec(),
+            mq: ell.mq().data().to_vec(),
+            scratch: ell.scratch().map(|v| v.data().to_vec()).into(),
+        }
     }
 
     pub fn of_ell(ell: &Ell) -> Space {
