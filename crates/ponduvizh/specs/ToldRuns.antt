@@ -12,7 +12,7 @@ use Rattle.oracles.specs.declared.ell.Ell.{Ell}
 use Rattle.oracles.specs.declared.ell.NewEll.{NewEll}
 use Rattle.oracles.specs.declared.ell.NewEll.the-variants.{Made, Refused as NotMade}
 use Rattle.oracles.specs.declared.lowpass_oracle.LowpassOracle.{LowpassOracle}
-use Rattle.drivers.specs.CuttingPlane.{Space, OptimSpace, OptimLeft, feas-answer, optim-answer, optim-number}
+use Rattle.drivers.specs.CuttingPlane.{Space, OptimLeft, feas-answer, optim-answer, optim-number}
 use Rattle.drivers.specs.declared.answer.Answer.{Answer}
 use Rattle.drivers.specs.declared.cutting_plane.Options.{Options}
 use Rattle.drivers.specs.declared.cutting_plane.FeasAnswer.{FeasAnswer}

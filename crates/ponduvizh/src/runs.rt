@@ -11,10 +11,11 @@ use oracles::ell::NewEll;
 use oracles::lowpass_oracle::LowpassOracle;
 use oracles::round_robin::RoundRobin;
 ghost use mathlib.Core.Path.{_≡_};
+ghost use Prim.Native.Nat.{ℕ};
 ghost use Rattle.oracles.specs.Ell.{new-ell-answer};
 ghost use Rattle.drivers.specs.CuttingPlane.{feas-answer, optim-answer, optim-number};
 ghost use mathlib.Core.Bool.{false};
-ghost use Rattle.ponduvizh.specs.ToldRuns.{oracle-of, marks-of, values-of, flagOf, answer-of, numbers-after, feas-code, feas-said, optim-said, feas-left, feas-told, optim-left-told, optim-told};
+ghost use Rattle.ponduvizh.specs.ToldRuns.{RunNumbers, oracle-of, marks-of, values-of, flagOf, answer-of, numbers-after, feas-code, feas-said, optim-said, feas-left, feas-told, optim-left-told, optim-told};
 
 // An oracle that has assessed nothing yet.
 fn oracle_of(
@@ -122,7 +123,7 @@ fn put_feas(
     marks: &mut [i32; 7],
     values: &mut [f64; 4],
 ) -> u64
-    ensures { λ r. ⌜ (r, record { answer = now (answer .exit); marks = now (marks .exit); values = now (values .exit) }) ≡ (feas-code said, feas-said said oracle ell (record { answer = now (answer .entry); marks = now (marks .entry); values = now (values .entry) })) ⌝ }
+    ensures { λ r. ⌜ _≡_ {A = ℕ × RunNumbers} (r, record { answer = now (answer .exit); marks = now (marks .exit); values = now (values .exit) }) (feas-code said, feas-said said oracle ell (record { answer = now (answer .entry); marks = now (marks .entry); values = now (values .entry) })) ⌝ }
 {
     match said {
         FeasAnswer::Refused(why) => code(why),
@@ -141,7 +142,7 @@ fn put_optim(
     marks: &mut [i32; 7],
     values: &mut [f64; 4],
 ) -> u64
-    ensures { λ r. ⌜ (r, record { answer = now (answer .exit); marks = now (marks .exit); values = now (values .exit) }) ≡ (optim-number said, optim-said said oracle ell (record { answer = now (answer .entry); marks = now (marks .entry); values = now (values .entry) })) ⌝ }
+    ensures { λ r. ⌜ _≡_ {A = ℕ × RunNumbers} (r, record { answer = now (answer .exit); marks = now (marks .exit); values = now (values .exit) }) (optim-number said, optim-said said oracle ell (record { answer = now (answer .entry); marks = now (marks .entry); values = now (values .entry) })) ⌝ }
 {
     match said {
         OptimAnswer::Refused(why) => code(why),

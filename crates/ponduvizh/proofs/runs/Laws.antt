@@ -1,5 +1,5 @@
 -- A run told by its parts is the run told. Assumes nothing.
-use mathlib.Core.Path.{_≡_, refl}
+use mathlib.Core.Path.{_≡_, refl, ap}
 use mathlib.Core.List.{List}
 use Prim.Native.Nat.{ℕ}
 use lib.IntN.{ℤ}
@@ -16,7 +16,9 @@ use Rattle.drivers.specs.CuttingPlane.{Space, OptimLeft, feas-answer, optim-ans
 use Rattle.drivers.specs.declared.cutting_plane.Options.{Options}
 use Rattle.drivers.specs.declared.answer.Answer.{Answer}
 use Rattle.drivers.specs.declared.cutting_plane.FeasAnswer.{FeasAnswer}
+use Rattle.drivers.specs.declared.cutting_plane.FeasAnswer.the-variants.{Ended, Refused}
 use Rattle.drivers.specs.declared.cutting_plane.OptimAnswer.{OptimAnswer}
+use Rattle.drivers.specs.declared.cutting_plane.OptimAnswer.the-variants.{Ended as EndedOptim, Halted, Refused as RefusedOptim}
 use Rattle.ponduvizh.specs.ToldRuns.{RunNumbers, RunLeft, oracle-of, answer-of, marks-of, values-of, numbers-after, feas-code, feas-said, optim-said, feas-left, optim-left-told, feas-told, optim-told}
 
 pub state-law : (a : Answer) (o : LowpassOracle) (e : Ell) (answer : List ℕ) (marks : List ℤ) (values : List Float)
@@ -29,17 +31,39 @@ state-law a o e answer marks values h₁ h₂ h₃ = rw (h₁, h₂, h₃) refl
 
 pub feas-law : (a : FeasAnswer) (o : LowpassOracle) (e : Ell) (b : EllBuffers) (grad best : List Float) (code : ℕ) (now old : RunNumbers) (r : FeasAnswer × Space × List Float)
     → (a, record { oracle = o; ell = e; buffers = b; grad = grad }, best) ≡ r
-    → (code, now) ≡ (feas-code a, feas-said a o e old)
+    → _≡_ {A = ℕ × RunNumbers} (code, now) (feas-code a, feas-said a o e old)
     → _≡_ {A = RunLeft} (record { code = code; numbers = now; buffers = b; grad = grad; best = best }) (feas-left r old)
 unfolding feas-left
 feas-law a o e b grad best code now old r d h = rw (← d, ap (λ p. p .0) h, ap (λ p. p .1) h) refl
 
 pub optim-law : (a : OptimAnswer) (o : LowpassOracle) (e : Ell) (gamma : Float) (b : EllBuffers) (grad best : List Float) (code : ℕ) (now old : RunNumbers) (r : OptimLeft)
     → optim-left a o e gamma b grad best ≡ r
-    → (code, now) ≡ (optim-number a, optim-said a o e old)
+    → _≡_ {A = ℕ × RunNumbers} (code, now) (optim-number a, optim-said a o e old)
     → _≡_ {A = RunLeft × Float} (record { code = code; numbers = now; buffers = b; grad = grad; best = best }, gamma) (optim-left-told r old)
 unfolding optim-left-told
 optim-law a o e gamma b grad best code now old r d h = rw (← d, ap (λ p. p .0) h, ap (λ p. p .1) h) refl
+
+-- what a run told is told, and a refusal leaves it as it was
+module _ (o : LowpassOracle) (e : Ell) (old : RunNumbers) where
+  pub feas-ended : (a : FeasAnswer) (d : Answer) (now : RunNumbers) → a ≡ Ended d → now ≡ numbers-after d o e
+      → _≡_ {A = ℕ × RunNumbers} (0, now) (feas-code a, feas-said a o e old)
+  feas-ended a d now m h = rw (m, h) refl
+
+  pub feas-refused : (a : FeasAnswer) (why : Refusal) (code : ℕ) → a ≡ Refused why → code ≡ refusalNumber why
+      → _≡_ {A = ℕ × RunNumbers} (code, old) (feas-code a, feas-said a o e old)
+  feas-refused a why code m h = rw (m, h) refl
+
+  pub optim-ended : (a : OptimAnswer) (d : Answer) (now : RunNumbers) → a ≡ EndedOptim d → now ≡ numbers-after d o e
+      → _≡_ {A = ℕ × RunNumbers} (0, now) (optim-number a, optim-said a o e old)
+  optim-ended a d now m h = rw (m, h) refl
+
+  pub optim-halted : (a : OptimAnswer) (d : Answer) (now : RunNumbers) → a ≡ Halted d → now ≡ numbers-after d o e
+      → _≡_ {A = ℕ × RunNumbers} (6, now) (optim-number a, optim-said a o e old)
+  optim-halted a d now m h = rw (m, h) refl
+
+  pub optim-refused : (a : OptimAnswer) (why : Refusal) (code : ℕ) → a ≡ RefusedOptim why → code ≡ refusalNumber why
+      → _≡_ {A = ℕ × RunNumbers} (code, old) (optim-number a, optim-said a o e old)
+  optim-refused a why code m h = rw (m, h) refl
 
 -- an oracle of numbers that were handed on
 pub handed : (a b d e f g a′ b′ d′ e′ f′ g′ : ℤ) (lp up sp : Float) (o : LowpassOracle) → a ≡ a′ → b ≡ b′ → d ≡ d′ → e ≡ e′ → f ≡ f′ → g ≡ g′
@@ -72,11 +96,3 @@ module _ (x : NewEll) (o : LowpassOracle) (p : Options) (rows k : ℕ) (table : 
       → (was code, gamma) ≡ optim-told x o p rows table gamma (was k)
   unfolding optim-told
   optim-not-made gamma why code m h = rw (m, h) refl
-
-  -- with what was handed on
-  module _ (x′ : NewEll) (o′ : LowpassOracle) (p′ : Options) (dx : x ≡ x′) (dl : o ≡ o′) (dp : p ≡ p′) where
-    pub feas-handed : (r : RunLeft) → r ≡ feas-told x o p rows table (was k) → r ≡ feas-told x′ o′ p′ rows table (was k)
-    feas-handed r h = rw (← dx, ← dl, ← dp) h
-
-    pub optim-handed : (gamma : Float) (r : RunLeft × Float) → r ≡ optim-told x o p rows table gamma (was k) → r ≡ optim-told x′ o′ p′ rows table gamma (was k)
-    optim-handed gamma r h = rw (← dx, ← dl, ← dp) h
