@@ -12,7 +12,7 @@ use Rattle.oracles.specs.declared.ell.Ell.{Ell}
 use Rattle.oracles.specs.declared.ell.NewEll.{NewEll}
 use Rattle.oracles.specs.declared.ell.NewEll.the-variants.{Made, Refused as NotMade}
 use Rattle.oracles.specs.declared.lowpass_oracle.LowpassOracle.{LowpassOracle}
-use Rattle.drivers.specs.CuttingPlane.{Space, OptimSpace, OptimLeft, feas-answer, optim-answer, optim-number}
+use Rattle.drivers.specs.CuttingPlane.{Space, OptimLeft, feas-answer, optim-answer, optim-number}
 use Rattle.drivers.specs.declared.answer.Answer.{Answer}
 use Rattle.drivers.specs.declared.cutting_plane.Options.{Options}
 use Rattle.drivers.specs.declared.cutting_plane.FeasAnswer.{FeasAnswer}
@@ -58,54 +58,56 @@ flagOf b = pick b 1 0
 unfoldable pub answer-of : Answer → LowpassOracle → List ℕ
 answer-of a o = flagOf (a .found) ∷ a .steps ∷ flagOf (o .«more_alt») ∷ []
 
--- none after no step, for a run that did not begin
-abbrev pub no-answer : Answer
-no-answer = record { found = false; steps = 0 }
+-- what a run tells in numbers: `answer-of`, `marks-of`, `values-of`
+pub record RunNumbers : Type 0 where
+  pub answer : List ℕ
+  pub marks : List ℤ
+  pub values : List Float
+
+unfoldable pub numbers-after : Answer → LowpassOracle → Ell → RunNumbers
+numbers-after a o e = record { answer = answer-of a o; marks = marks-of o; values = values-of o e }
 
 abbrev pub feas-code : FeasAnswer → ℕ
 feas-code (Ended a) = 0
 feas-code (NotRun why) = refusalNumber why
 
-abbrev pub feas-ended : FeasAnswer → Answer
-feas-ended (Ended a) = a
-feas-ended (NotRun why) = no-answer
+-- a run that is refused tells nothing, and what is lent for it stays as it was; one that is halted tells how far it came
+abbrev pub feas-said : FeasAnswer → LowpassOracle → Ell → RunNumbers → RunNumbers
+feas-said (Ended a) o e old = numbers-after a o e
+feas-said (NotRun why) o e old = old
 
-abbrev pub optim-ended : OptimAnswer → Answer
-optim-ended (EndedOptim a) = a
-optim-ended (Halted a) = a
-optim-ended (NotRunOptim why) = no-answer
+abbrev pub optim-said : OptimAnswer → LowpassOracle → Ell → RunNumbers → RunNumbers
+optim-said (EndedOptim a) o e old = numbers-after a o e
+optim-said (Halted a) o e old = numbers-after a o e
+optim-said (NotRunOptim why) o e old = old
 
--- what a run leaves: its number, its answer, the numbers of the oracle and the ellipsoid, gamma, the slices
+-- what a run leaves: its number and what it tells, and the slices
 pub record RunLeft : Type 0 where
   pub code : ℕ
-  pub answer : List ℕ
-  pub marks : List ℤ
-  pub values : List Float
+  pub numbers : RunNumbers
   pub buffers : EllBuffers
   pub grad : List Float
   pub best : List Float
 
-abbrev pub run-left : ℕ → Answer → Space → List Float → RunLeft
-run-left code a s best =
-    record { code = code; answer = answer-of a (s .oracle); marks = marks-of (s .oracle); values = values-of (s .oracle) (s .ell); buffers = s .buffers; grad = s .grad; best = best }
+abbrev pub run-left : ℕ → RunNumbers → Space → List Float → RunLeft
+run-left code told s best = record { code = code; numbers = told; buffers = s .buffers; grad = s .grad; best = best }
 
-unfoldable pub feas-left : FeasAnswer × Space × List Float → RunLeft
-feas-left r = run-left (feas-code (r .0)) (feas-ended (r .0)) (r .1) (r .2)
+unfoldable pub feas-left : FeasAnswer × Space × List Float → RunNumbers → RunLeft
+feas-left r old = run-left (feas-code (r .0)) (feas-said (r .0) (r .1 .oracle) (r .1 .ell) old) (r .1) (r .2)
 
-unfoldable pub optim-left-told : OptimLeft → RunLeft × Float
-optim-left-told r = (run-left (optim-number (r .answer)) (optim-ended (r .answer)) (r .space) (r .best), r .gamma)
+-- with gamma
+unfoldable pub optim-left-told : OptimLeft → RunNumbers → RunLeft × Float
+optim-left-told r old = (run-left (optim-number (r .answer)) (optim-said (r .answer) (r .space .oracle) (r .space .ell) old) (r .space) (r .best), r .gamma)
 
--- the ellipsoid of n and kappa is made first; refusal 1 where it cannot be, and then nothing is written
+-- the ellipsoid of n and kappa is made first; refusal 1 where it cannot be
 unfoldable pub feas-told : NewEll → LowpassOracle → Options → ℕ → List Float → RunLeft → RunLeft
-feas-told (Made e) o options rows table l = feas-left (feas-answer options rows table (record { oracle = o; ell = e; buffers = l .buffers; grad = l .grad }) (l .best))
-feas-told (NotMade why) o options rows table l =
-    record { code = refusalNumber why; answer = l .answer; marks = l .marks; values = l .values; buffers = l .buffers; grad = l .grad; best = l .best }
+feas-told (Made e) o options rows table l = feas-left (feas-answer options rows table (record { oracle = o; ell = e; buffers = l .buffers; grad = l .grad }) (l .best)) (l .numbers)
+feas-told (NotMade why) o options rows table l = record { code = refusalNumber why; numbers = l .numbers; buffers = l .buffers; grad = l .grad; best = l .best }
 
 unfoldable pub optim-told : NewEll → LowpassOracle → Options → ℕ → List Float → Float → RunLeft → RunLeft × Float
 optim-told (Made e) o options rows table gamma l =
-    optim-left-told (optim-answer options rows table (record { oracle = o; ell = e; buffers = l .buffers; grad = l .grad; gamma = gamma; found = false; best = l .best }))
-optim-told (NotMade why) o options rows table gamma l =
-    (record { code = refusalNumber why; answer = l .answer; marks = l .marks; values = l .values; buffers = l .buffers; grad = l .grad; best = l .best }, gamma)
+    optim-left-told (optim-answer options rows table (record { oracle = o; ell = e; buffers = l .buffers; grad = l .grad; gamma = gamma; found = false; best = l .best })) (l .numbers)
+optim-told (NotMade why) o options rows table gamma l = (record { code = refusalNumber why; numbers = l .numbers; buffers = l .buffers; grad = l .grad; best = l .best }, gamma)
 
 -- ---- a job that was read: n, the rows and the step limit; nwpass and nwstop; the marks; lp_sq, up_sq, sp_sq, kappa and the tolerance
 pub record JobLeft : Type 0 where

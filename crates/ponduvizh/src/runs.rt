@@ -1,4 +1,4 @@
-// The drivers. `answer` becomes found, the steps and the oracle's more_alt; `marks` the cursors of pass, middle and stop, idx1 to idx3 and kmax; `values` sp_sq, fmax, kappa and tsq.
+// The drivers. `answer` becomes found, the steps and the oracle's more_alt; `marks` the cursors of pass, middle and stop, idx1 to idx3 and kmax; `values` sp_sq, fmax, kappa and tsq. A refused run leaves them as they were; one halted by 6 does not.
 use crate::numeric::code;
 use drivers::answer::Answer;
 use drivers::cutting_plane::FeasAnswer;
@@ -11,10 +11,11 @@ use oracles::ell::NewEll;
 use oracles::lowpass_oracle::LowpassOracle;
 use oracles::round_robin::RoundRobin;
 ghost use mathlib.Core.Path.{_≡_};
+ghost use Prim.Native.Nat.{ℕ};
 ghost use Rattle.oracles.specs.Ell.{new-ell-answer};
-ghost use Rattle.drivers.specs.CuttingPlane.{feas-answer, optim-answer, optim-left, optim-number};
+ghost use Rattle.drivers.specs.CuttingPlane.{feas-answer, optim-answer, optim-number};
 ghost use mathlib.Core.Bool.{false};
-ghost use Rattle.ponduvizh.specs.ToldRuns.{oracle-of, marks-of, values-of, flagOf, answer-of, no-answer, feas-code, feas-ended, optim-ended, feas-left, feas-told, optim-left-told, optim-told};
+ghost use Rattle.ponduvizh.specs.ToldRuns.{RunNumbers, oracle-of, marks-of, values-of, flagOf, answer-of, numbers-after, feas-code, feas-said, optim-said, feas-left, feas-told, optim-left-told, optim-told};
 
 // An oracle that has assessed nothing yet.
 fn oracle_of(
@@ -98,47 +99,61 @@ fn put_answer(ended: Answer, oracle: LowpassOracle, answer: &mut [u64; 3])
     *answer = [flag(ended.found), ended.steps as u64, flag(oracle.more_alt)];
 }
 
-fn feas_code(answer: FeasAnswer) -> u64
-    ensures { λ r. ⌜ r ≡ feas-code answer ⌝ }
+// What a run that began tells.
+fn put_state(
+    ended: Answer,
+    oracle: LowpassOracle,
+    ell: Ell,
+    answer: &mut [u64; 3],
+    marks: &mut [i32; 7],
+    values: &mut [f64; 4],
+)
+    ensures { λ _. ⌜ record { answer = now (answer .exit); marks = now (marks .exit); values = now (values .exit) } ≡ numbers-after ended oracle ell ⌝ }
 {
-    match answer {
-        FeasAnswer::Ended(_) => 0,
+    put_answer(ended, oracle, answer);
+    put_marks(oracle, marks);
+    put_values(oracle, ell, values);
+}
+
+fn put_feas(
+    said: FeasAnswer,
+    oracle: LowpassOracle,
+    ell: Ell,
+    answer: &mut [u64; 3],
+    marks: &mut [i32; 7],
+    values: &mut [f64; 4],
+) -> u64
+    ensures { λ r. ⌜ _≡_ {A = ℕ × RunNumbers} (r, record { answer = now (answer .exit); marks = now (marks .exit); values = now (values .exit) }) (feas-code said, feas-said said oracle ell (record { answer = now (answer .entry); marks = now (marks .entry); values = now (values .entry) })) ⌝ }
+{
+    match said {
         FeasAnswer::Refused(why) => code(why),
+        FeasAnswer::Ended(ended) => {
+            put_state(ended, oracle, ell, answer, marks, values);
+            0
+        }
     }
 }
 
-fn feas_ended(answer: FeasAnswer) -> Answer
-    ensures { λ r. ⌜ r ≡ feas-ended answer ⌝ }
+fn put_optim(
+    said: OptimAnswer,
+    oracle: LowpassOracle,
+    ell: Ell,
+    answer: &mut [u64; 3],
+    marks: &mut [i32; 7],
+    values: &mut [f64; 4],
+) -> u64
+    ensures { λ r. ⌜ _≡_ {A = ℕ × RunNumbers} (r, record { answer = now (answer .exit); marks = now (marks .exit); values = now (values .exit) }) (optim-number said, optim-said said oracle ell (record { answer = now (answer .entry); marks = now (marks .entry); values = now (values .entry) })) ⌝ }
 {
-    match answer {
-        FeasAnswer::Ended(ended) => ended,
-        FeasAnswer::Refused(_) => Answer {
-            found: false,
-            steps: 0,
-        },
-    }
-}
-
-fn optim_code(answer: OptimAnswer) -> u64
-    ensures { λ r. ⌜ r ≡ optim-number answer ⌝ }
-{
-    match answer {
-        OptimAnswer::Ended(_) => 0,
-        OptimAnswer::Halted(_) => 6,
+    match said {
         OptimAnswer::Refused(why) => code(why),
-    }
-}
-
-fn optim_ended(answer: OptimAnswer) -> Answer
-    ensures { λ r. ⌜ r ≡ optim-ended answer ⌝ }
-{
-    match answer {
-        OptimAnswer::Ended(ended) => ended,
-        OptimAnswer::Halted(ended) => ended,
-        OptimAnswer::Refused(_) => Answer {
-            found: false,
-            steps: 0,
-        },
+        OptimAnswer::Halted(ended) => {
+            put_state(ended, oracle, ell, answer, marks, values);
+            6
+        }
+        OptimAnswer::Ended(ended) => {
+            put_state(ended, oracle, ell, answer, marks, values);
+            0
+        }
     }
 }
 
@@ -158,7 +173,7 @@ fn feas_made(
     grad_t: &mut [f64],
     x_best: &mut [f64],
 ) -> u64
-    ensures { λ r. ⌜ record { code = r; answer = now (answer .exit); marks = now (marks .exit); values = now (values .exit); buffers = record { mq = now (mq .exit); xc = now (xc .exit); grad-t = now («grad_t» .exit) }; grad = now (grad .exit); best = now («x_best» .exit) } ≡ feas-left (feas-answer options rows (now (table .entry)) (record { oracle = oracle; ell = ell; buffers = record { mq = now (mq .entry); xc = now (xc .entry); grad-t = now («grad_t» .entry) }; grad = now (grad .entry) }) (now («x_best» .entry))) ⌝ }
+    ensures { λ r. ⌜ record { code = r; numbers = record { answer = now (answer .exit); marks = now (marks .exit); values = now (values .exit) }; buffers = record { mq = now (mq .exit); xc = now (xc .exit); grad-t = now («grad_t» .exit) }; grad = now (grad .exit); best = now («x_best» .exit) } ≡ feas-left (feas-answer options rows (now (table .entry)) (record { oracle = oracle; ell = ell; buffers = record { mq = now (mq .entry); xc = now (xc .entry); grad-t = now («grad_t» .entry) }; grad = now (grad .entry) }) (now («x_best» .entry))) (record { answer = now (answer .entry); marks = now (marks .entry); values = now (values .entry) }) ⌝ }
 {
     let run = cutting_plane_feas(
         oracle,
@@ -175,10 +190,7 @@ fn feas_made(
     let after = run.oracle;
     let space = run.ell;
     let said = run.answer;
-    put_answer(feas_ended(said), after, answer);
-    put_marks(after, marks);
-    put_values(after, space, values);
-    feas_code(said)
+    put_feas(said, after, space, answer, marks, values)
 }
 
 fn optim_made(
@@ -197,7 +209,7 @@ fn optim_made(
     grad_t: &mut [f64],
     x_best: &mut [f64],
 ) -> u64
-    ensures { λ r. ⌜ (record { code = r; answer = now (answer .exit); marks = now (marks .exit); values = now (values .exit); buffers = record { mq = now (mq .exit); xc = now (xc .exit); grad-t = now («grad_t» .exit) }; grad = now (grad .exit); best = now («x_best» .exit) }, now (gamma .exit)) ≡ optim-left-told (optim-answer options rows (now (table .entry)) (record { oracle = oracle; ell = ell; buffers = record { mq = now (mq .entry); xc = now (xc .entry); grad-t = now («grad_t» .entry) }; grad = now (grad .entry); gamma = now (gamma .entry); found = false; best = now («x_best» .entry) })) ⌝ }
+    ensures { λ r. ⌜ (record { code = r; numbers = record { answer = now (answer .exit); marks = now (marks .exit); values = now (values .exit) }; buffers = record { mq = now (mq .exit); xc = now (xc .exit); grad-t = now («grad_t» .exit) }; grad = now (grad .exit); best = now («x_best» .exit) }, now (gamma .exit)) ≡ optim-left-told (optim-answer options rows (now (table .entry)) (record { oracle = oracle; ell = ell; buffers = record { mq = now (mq .entry); xc = now (xc .entry); grad-t = now («grad_t» .entry) }; grad = now (grad .entry); gamma = now (gamma .entry); found = false; best = now («x_best» .entry) })) (record { answer = now (answer .entry); marks = now (marks .entry); values = now (values .entry) }) ⌝ }
 {
     let run = cutting_plane_optim(
         oracle,
@@ -216,10 +228,7 @@ fn optim_made(
     let space = run.ell;
     let said = run.answer;
     *gamma = run.gamma;
-    put_answer(optim_ended(said), after, answer);
-    put_marks(after, marks);
-    put_values(after, space, values);
-    optim_code(said)
+    put_optim(said, after, space, answer, marks, values)
 }
 
 // The run over the ellipsoid, if it was made.
@@ -238,7 +247,7 @@ fn feas_of(
     grad_t: &mut [f64],
     x_best: &mut [f64],
 ) -> u64
-    ensures { λ r. ⌜ record { code = r; answer = now (answer .exit); marks = now (marks .exit); values = now (values .exit); buffers = record { mq = now (mq .exit); xc = now (xc .exit); grad-t = now («grad_t» .exit) }; grad = now (grad .exit); best = now («x_best» .exit) } ≡ feas-told new oracle options rows (now (table .entry)) (record { code = 0; answer = now (answer .entry); marks = now (marks .entry); values = now (values .entry); buffers = record { mq = now (mq .entry); xc = now (xc .entry); grad-t = now («grad_t» .entry) }; grad = now (grad .entry); best = now («x_best» .entry) }) ⌝ }
+    ensures { λ r. ⌜ record { code = r; numbers = record { answer = now (answer .exit); marks = now (marks .exit); values = now (values .exit) }; buffers = record { mq = now (mq .exit); xc = now (xc .exit); grad-t = now («grad_t» .exit) }; grad = now (grad .exit); best = now («x_best» .exit) } ≡ feas-told new oracle options rows (now (table .entry)) (record { code = 0; numbers = record { answer = now (answer .entry); marks = now (marks .entry); values = now (values .entry) }; buffers = record { mq = now (mq .entry); xc = now (xc .entry); grad-t = now («grad_t» .entry) }; grad = now (grad .entry); best = now («x_best» .entry) }) ⌝ }
 {
     match new {
         NewEll::Refused(why) => code(why),
@@ -286,7 +295,7 @@ pub extern "C" fn ponduvizh_cutting_plane_feas(
     grad_t: &mut [f64],
     x_best: &mut [f64],
 ) -> u64
-    ensures { λ r. ⌜ record { code = r; answer = now (answer .exit); marks = now (marks .exit); values = now (values .exit); buffers = record { mq = now (mq .exit); xc = now (xc .exit); grad-t = now («grad_t» .exit) }; grad = now (grad .exit); best = now («x_best» .exit) } ≡ feas-told (new-ell-answer n kappa) (oracle-of nwpass nwstop mdim cur1 cur2 cur3 «lp_sq» «up_sq» «sp_sq») (record { «max_iters» = «max_iters»; tolerance = tolerance }) rows (now (table .entry)) (record { code = 0; answer = now (answer .entry); marks = now (marks .entry); values = now (values .entry); buffers = record { mq = now (mq .entry); xc = now (xc .entry); grad-t = now («grad_t» .entry) }; grad = now (grad .entry); best = now («x_best» .entry) }) ⌝ }
+    ensures { λ r. ⌜ record { code = r; numbers = record { answer = now (answer .exit); marks = now (marks .exit); values = now (values .exit) }; buffers = record { mq = now (mq .exit); xc = now (xc .exit); grad-t = now («grad_t» .exit) }; grad = now (grad .exit); best = now («x_best» .exit) } ≡ feas-told (new-ell-answer n kappa) (oracle-of nwpass nwstop mdim cur1 cur2 cur3 «lp_sq» «up_sq» «sp_sq») (record { «max_iters» = «max_iters»; tolerance = tolerance }) rows (now (table .entry)) (record { code = 0; numbers = record { answer = now (answer .entry); marks = now (marks .entry); values = now (values .entry) }; buffers = record { mq = now (mq .entry); xc = now (xc .entry); grad-t = now («grad_t» .entry) }; grad = now (grad .entry); best = now («x_best» .entry) }) ⌝ }
 {
     let new = Ell::new_with_matrix(n, kappa);
     let oracle = oracle_of(nwpass, nwstop, mdim, cur1, cur2, cur3, lp_sq, up_sq, sp_sq);
@@ -325,7 +334,7 @@ fn optim_of(
     grad_t: &mut [f64],
     x_best: &mut [f64],
 ) -> u64
-    ensures { λ r. ⌜ (record { code = r; answer = now (answer .exit); marks = now (marks .exit); values = now (values .exit); buffers = record { mq = now (mq .exit); xc = now (xc .exit); grad-t = now («grad_t» .exit) }; grad = now (grad .exit); best = now («x_best» .exit) }, now (gamma .exit)) ≡ optim-told new oracle options rows (now (table .entry)) (now (gamma .entry)) (record { code = 0; answer = now (answer .entry); marks = now (marks .entry); values = now (values .entry); buffers = record { mq = now (mq .entry); xc = now (xc .entry); grad-t = now («grad_t» .entry) }; grad = now (grad .entry); best = now («x_best» .entry) }) ⌝ }
+    ensures { λ r. ⌜ (record { code = r; numbers = record { answer = now (answer .exit); marks = now (marks .exit); values = now (values .exit) }; buffers = record { mq = now (mq .exit); xc = now (xc .exit); grad-t = now («grad_t» .exit) }; grad = now (grad .exit); best = now («x_best» .exit) }, now (gamma .exit)) ≡ optim-told new oracle options rows (now (table .entry)) (now (gamma .entry)) (record { code = 0; numbers = record { answer = now (answer .entry); marks = now (marks .entry); values = now (values .entry) }; buffers = record { mq = now (mq .entry); xc = now (xc .entry); grad-t = now («grad_t» .entry) }; grad = now (grad .entry); best = now («x_best» .entry) }) ⌝ }
 {
     match new {
         NewEll::Refused(why) => code(why),
@@ -375,7 +384,7 @@ pub extern "C" fn ponduvizh_cutting_plane_optim(
     grad_t: &mut [f64],
     x_best: &mut [f64],
 ) -> u64
-    ensures { λ r. ⌜ (record { code = r; answer = now (answer .exit); marks = now (marks .exit); values = now (values .exit); buffers = record { mq = now (mq .exit); xc = now (xc .exit); grad-t = now («grad_t» .exit) }; grad = now (grad .exit); best = now («x_best» .exit) }, now (gamma .exit)) ≡ optim-told (new-ell-answer n kappa) (oracle-of nwpass nwstop mdim cur1 cur2 cur3 «lp_sq» «up_sq» «sp_sq») (record { «max_iters» = «max_iters»; tolerance = tolerance }) rows (now (table .entry)) (now (gamma .entry)) (record { code = 0; answer = now (answer .entry); marks = now (marks .entry); values = now (values .entry); buffers = record { mq = now (mq .entry); xc = now (xc .entry); grad-t = now («grad_t» .entry) }; grad = now (grad .entry); best = now («x_best» .entry) }) ⌝ }
+    ensures { λ r. ⌜ (record { code = r; numbers = record { answer = now (answer .exit); marks = now (marks .exit); values = now (values .exit) }; buffers = record { mq = now (mq .exit); xc = now (xc .exit); grad-t = now («grad_t» .exit) }; grad = now (grad .exit); best = now («x_best» .exit) }, now (gamma .exit)) ≡ optim-told (new-ell-answer n kappa) (oracle-of nwpass nwstop mdim cur1 cur2 cur3 «lp_sq» «up_sq» «sp_sq») (record { «max_iters» = «max_iters»; tolerance = tolerance }) rows (now (table .entry)) (now (gamma .entry)) (record { code = 0; numbers = record { answer = now (answer .entry); marks = now (marks .entry); values = now (values .entry) }; buffers = record { mq = now (mq .entry); xc = now (xc .entry); grad-t = now («grad_t» .entry) }; grad = now (grad .entry); best = now («x_best» .entry) }) ⌝ }
 {
     let new = Ell::new_with_matrix(n, kappa);
     let oracle = oracle_of(nwpass, nwstop, mdim, cur1, cur2, cur3, lp_sq, up_sq, sp_sq);

@@ -1,5 +1,5 @@
 -- A run told by its parts is the run told. Assumes nothing.
-use mathlib.Core.Path.{_≡_, refl}
+use mathlib.Core.Path.{_≡_, refl, ap}
 use mathlib.Core.List.{List}
 use Prim.Native.Nat.{ℕ}
 use lib.IntN.{ℤ}
@@ -16,38 +16,54 @@ use Rattle.drivers.specs.CuttingPlane.{Space, OptimLeft, feas-answer, optim-ans
 use Rattle.drivers.specs.declared.cutting_plane.Options.{Options}
 use Rattle.drivers.specs.declared.answer.Answer.{Answer}
 use Rattle.drivers.specs.declared.cutting_plane.FeasAnswer.{FeasAnswer}
-use Rattle.drivers.specs.declared.cutting_plane.FeasAnswer.the-variants.{Refused}
+use Rattle.drivers.specs.declared.cutting_plane.FeasAnswer.the-variants.{Ended, Refused}
 use Rattle.drivers.specs.declared.cutting_plane.OptimAnswer.{OptimAnswer}
-use Rattle.drivers.specs.declared.cutting_plane.OptimAnswer.the-variants.{Refused as RefusedOptim}
-use Rattle.ponduvizh.specs.ToldRuns.{RunLeft, oracle-of, flagOf, answer-of, marks-of, values-of, no-answer, feas-code, feas-ended, optim-ended, feas-left, optim-left-told, feas-told, optim-told}
+use Rattle.drivers.specs.declared.cutting_plane.OptimAnswer.the-variants.{Ended as EndedOptim, Halted, Refused as RefusedOptim}
+use Rattle.ponduvizh.specs.ToldRuns.{RunNumbers, RunLeft, oracle-of, answer-of, marks-of, values-of, numbers-after, feas-code, feas-said, optim-said, feas-left, optim-left-told, feas-told, optim-told}
 
-pub no-feas : (a : FeasAnswer) (why : Refusal) → a ≡ Refused why → no-answer ≡ feas-ended a
-no-feas a why e = rw e refl
+pub state-law : (a : Answer) (o : LowpassOracle) (e : Ell) (answer : List ℕ) (marks : List ℤ) (values : List Float)
+    → answer ≡ answer-of a o
+    → marks ≡ marks-of o
+    → values ≡ values-of o e
+    → _≡_ {A = RunNumbers} (record { answer = answer; marks = marks; values = values }) (numbers-after a o e)
+unfolding numbers-after
+state-law a o e answer marks values h₁ h₂ h₃ = rw (h₁, h₂, h₃) refl
 
-pub no-optim : (a : OptimAnswer) (why : Refusal) → a ≡ RefusedOptim why → no-answer ≡ optim-ended a
-no-optim a why e = rw e refl
-
-pub feas-law : (a : FeasAnswer) (ended : Answer) (o : LowpassOracle) (e : Ell) (b : EllBuffers) (grad best : List Float) (code : ℕ) (answer : List ℕ) (marks : List ℤ) (values : List Float) (r : FeasAnswer × Space × List Float)
+pub feas-law : (a : FeasAnswer) (o : LowpassOracle) (e : Ell) (b : EllBuffers) (grad best : List Float) (code : ℕ) (now old : RunNumbers) (r : FeasAnswer × Space × List Float)
     → (a, record { oracle = o; ell = e; buffers = b; grad = grad }, best) ≡ r
-    → ended ≡ feas-ended a
-    → answer ≡ answer-of ended o
-    → marks ≡ marks-of o
-    → values ≡ values-of o e
-    → code ≡ feas-code a
-    → _≡_ {A = RunLeft} (record { code = code; answer = answer; marks = marks; values = values; buffers = b; grad = grad; best = best }) (feas-left r)
+    → _≡_ {A = ℕ × RunNumbers} (code, now) (feas-code a, feas-said a o e old)
+    → _≡_ {A = RunLeft} (record { code = code; numbers = now; buffers = b; grad = grad; best = best }) (feas-left r old)
 unfolding feas-left
-feas-law a ended o e b grad best code answer marks values r d h₁ h₂ h₃ h₄ h₅ = rw (h₅, h₄, h₃, h₂, h₁, ← d) refl
+feas-law a o e b grad best code now old r d h = rw (← d, ap (λ p. p .0) h, ap (λ p. p .1) h) refl
 
-pub optim-law : (a : OptimAnswer) (ended : Answer) (o : LowpassOracle) (e : Ell) (gamma : Float) (b : EllBuffers) (grad best : List Float) (code : ℕ) (answer : List ℕ) (marks : List ℤ) (values : List Float) (r : OptimLeft)
+pub optim-law : (a : OptimAnswer) (o : LowpassOracle) (e : Ell) (gamma : Float) (b : EllBuffers) (grad best : List Float) (code : ℕ) (now old : RunNumbers) (r : OptimLeft)
     → optim-left a o e gamma b grad best ≡ r
-    → ended ≡ optim-ended a
-    → answer ≡ answer-of ended o
-    → marks ≡ marks-of o
-    → values ≡ values-of o e
-    → code ≡ optim-number a
-    → _≡_ {A = RunLeft × Float} (record { code = code; answer = answer; marks = marks; values = values; buffers = b; grad = grad; best = best }, gamma) (optim-left-told r)
+    → _≡_ {A = ℕ × RunNumbers} (code, now) (optim-number a, optim-said a o e old)
+    → _≡_ {A = RunLeft × Float} (record { code = code; numbers = now; buffers = b; grad = grad; best = best }, gamma) (optim-left-told r old)
 unfolding optim-left-told
-optim-law a ended o e gamma b grad best code answer marks values r d h₁ h₂ h₃ h₄ h₅ = rw (h₅, h₄, h₃, h₂, h₁, ← d) refl
+optim-law a o e gamma b grad best code now old r d h = rw (← d, ap (λ p. p .0) h, ap (λ p. p .1) h) refl
+
+-- what a run told is told, and a refusal leaves it as it was
+module _ (o : LowpassOracle) (e : Ell) (old : RunNumbers) where
+  pub feas-ended : (a : FeasAnswer) (d : Answer) (now : RunNumbers) → a ≡ Ended d → now ≡ numbers-after d o e
+      → _≡_ {A = ℕ × RunNumbers} (0, now) (feas-code a, feas-said a o e old)
+  feas-ended a d now m h = rw (m, h) refl
+
+  pub feas-refused : (a : FeasAnswer) (why : Refusal) (code : ℕ) → a ≡ Refused why → code ≡ refusalNumber why
+      → _≡_ {A = ℕ × RunNumbers} (code, old) (feas-code a, feas-said a o e old)
+  feas-refused a why code m h = rw (m, h) refl
+
+  pub optim-ended : (a : OptimAnswer) (d : Answer) (now : RunNumbers) → a ≡ EndedOptim d → now ≡ numbers-after d o e
+      → _≡_ {A = ℕ × RunNumbers} (0, now) (optim-number a, optim-said a o e old)
+  optim-ended a d now m h = rw (m, h) refl
+
+  pub optim-halted : (a : OptimAnswer) (d : Answer) (now : RunNumbers) → a ≡ Halted d → now ≡ numbers-after d o e
+      → _≡_ {A = ℕ × RunNumbers} (6, now) (optim-number a, optim-said a o e old)
+  optim-halted a d now m h = rw (m, h) refl
+
+  pub optim-refused : (a : OptimAnswer) (why : Refusal) (code : ℕ) → a ≡ RefusedOptim why → code ≡ refusalNumber why
+      → _≡_ {A = ℕ × RunNumbers} (code, old) (optim-number a, optim-said a o e old)
+  optim-refused a why code m h = rw (m, h) refl
 
 -- an oracle of numbers that were handed on
 pub handed : (a b d e f g a′ b′ d′ e′ f′ g′ : ℤ) (lp up sp : Float) (o : LowpassOracle) → a ≡ a′ → b ≡ b′ → d ≡ d′ → e ≡ e′ → f ≡ f′ → g ≡ g′
@@ -56,12 +72,12 @@ pub handed : (a b d e f g a′ b′ d′ e′ f′ g′ : ℤ) (lp up sp : Float
 handed a b d e f g a′ b′ d′ e′ f′ g′ lp up sp o ha hb hd he hf hg h = rw (← ha, ← hb, ← hd, ← he, ← hf, ← hg) h
 
 -- what is made is run, and a refusal leaves all as it was
-module _ (x : NewEll) (o : LowpassOracle) (p : Options) (rows k : ℕ) (table : List Float) (ans : List ℕ) (marks : List ℤ) (values : List Float) (b : EllBuffers) (grad best : List Float) where
+module _ (x : NewEll) (o : LowpassOracle) (p : Options) (rows k : ℕ) (table : List Float) (t : RunNumbers) (b : EllBuffers) (grad best : List Float) where
   abbrev was : ℕ → RunLeft
-  was code = record { code = code; answer = ans; marks = marks; values = values; buffers = b; grad = grad; best = best }
+  was code = record { code = code; numbers = t; buffers = b; grad = grad; best = best }
 
   pub feas-made : (e : Ell) (r : RunLeft) → x ≡ Made e
-      → r ≡ feas-left (feas-answer p rows table (record { oracle = o; ell = e; buffers = b; grad = grad }) best)
+      → r ≡ feas-left (feas-answer p rows table (record { oracle = o; ell = e; buffers = b; grad = grad }) best) t
       → r ≡ feas-told x o p rows table (was k)
   unfolding feas-told
   feas-made e r m h = rw m h
@@ -71,7 +87,7 @@ module _ (x : NewEll) (o : LowpassOracle) (p : Options) (rows k : ℕ) (table : 
   feas-not-made why code m h = rw (m, h) refl
 
   pub optim-made : (gamma : Float) (e : Ell) (r : RunLeft × Float) → x ≡ Made e
-      → r ≡ optim-left-told (optim-answer p rows table (record { oracle = o; ell = e; buffers = b; grad = grad; gamma = gamma; found = false; best = best }))
+      → r ≡ optim-left-told (optim-answer p rows table (record { oracle = o; ell = e; buffers = b; grad = grad; gamma = gamma; found = false; best = best })) t
       → r ≡ optim-told x o p rows table gamma (was k)
   unfolding optim-told
   optim-made gamma e r m h = rw m h
@@ -80,11 +96,3 @@ module _ (x : NewEll) (o : LowpassOracle) (p : Options) (rows k : ℕ) (table : 
       → (was code, gamma) ≡ optim-told x o p rows table gamma (was k)
   unfolding optim-told
   optim-not-made gamma why code m h = rw (m, h) refl
-
-  -- with what was handed on
-  module _ (x′ : NewEll) (o′ : LowpassOracle) (p′ : Options) (dx : x ≡ x′) (dl : o ≡ o′) (dp : p ≡ p′) where
-    pub feas-handed : (r : RunLeft) → r ≡ feas-told x o p rows table (was k) → r ≡ feas-told x′ o′ p′ rows table (was k)
-    feas-handed r h = rw (← dx, ← dl, ← dp) h
-
-    pub optim-handed : (gamma : Float) (r : RunLeft × Float) → r ≡ optim-told x o p rows table gamma (was k) → r ≡ optim-told x′ o′ p′ rows table gamma (was k)
-    optim-handed gamma r h = rw (← dx, ← dl, ← dp) h

@@ -1,7 +1,7 @@
 -- A scan told by its parts is the scan told. Assumes nothing.
 use mathlib.Core.Path.{_≡_, refl}
 use mathlib.Core.Bool.{Bool, true, false}
-use mathlib.Core.List.{List, [], _∷_}
+use mathlib.Core.List.{[], _∷_}
 use Prim.Native.Nat.{ℕ}
 use lib.IntN.{ℤ}
 use lib.Ieee.{Float}
@@ -9,8 +9,6 @@ use Rattle.numbers.specs.Pick.{hit, skip}
 use Rattle.numbers.specs.Refusal.{refusalNumber}
 use Rattle.numbers.specs.declared.refusal.Refusal.{Refusal}
 use Rattle.oracles.specs.declared.round_robin.RoundRobin.{RoundRobin}
-use Rattle.oracles.specs.Scan.{scan-band-answer}
-use Rattle.oracles.specs.declared.scan.Upper.{Upper}
 use Rattle.oracles.specs.declared.scan.Violation.{Violation}
 use Rattle.oracles.specs.declared.scan.Violation.the-variants.{Broken}
 use Rattle.oracles.specs.declared.scan.Scan.{Scan}
@@ -40,11 +38,6 @@ pub ended-law : (a : ScanAnswer) (rr : RoundRobin) (r : ScanAnswer × RoundRobin
 unfolding scan-ended
 ended-law a rr r t cur l d h e = rw (h, e, ← d) refl
 
--- with a cursor and a limit that were handed on
+-- a cursor between bounds that were handed on
 pub cursor-handed : (s : RoundRobin) (cur a b a′ b′ : ℤ) → s ≡ record { cur = cur; lo = a; hi = b } → a ≡ a′ → b ≡ b′ → s ≡ record { cur = cur; lo = a′; hi = b′ }
 cursor-handed s cur a b a′ b′ d h k = rw (← h, ← k) d
-
-pub handed : (n rows : ℕ) (table x : List Float) (s s′ : RoundRobin) (lower : Float) (u u′ : Upper) (l : ScanLeft) (r : (ℕ × ScanLeft) × ℤ) → s ≡ s′ → u ≡ u′
-    → r ≡ scan-ended (scan-band-answer n rows table x s lower u) l
-    → r ≡ scan-ended (scan-band-answer n rows table x s′ lower u′) l
-handed n rows table x s s′ lower u u′ l r d e h = rw (← d, ← e) h

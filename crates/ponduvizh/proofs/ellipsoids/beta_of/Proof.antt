@@ -1,7 +1,6 @@
 -- `ponduvizh::ellipsoids::beta_of` meets its contract. Assumes nothing.
 use mathlib.Core.Path.{refl}
 use Rattle.numbers.specs.Pick.{hit, skip}
-use borrow.Author.Needs.{needs}
 use Rattle.ponduvizh.proofs.ellipsoids.beta_of.Statement.{statement}
 use Rattle.ponduvizh.proofs.ellipsoids.beta_of.Tie as tie
 

@@ -5,28 +5,28 @@ use Rattle.ponduvizh.proofs.ellipsoids.ell_made.Statement.{statement}
 use Rattle.ponduvizh.proofs.ellipsoids.ell_made.Tie as tie
 
 strategy-of-requires : tie.Need-strategy-of-requires
-strategy-of-requires c κs = search needs
+strategy-of-requires c κs = tt
 
 beta-of-requires : tie.Need-beta-of-requires
-beta-of-requires c κs = search needs
+beta-of-requires c κs = tt
 
 update-core-requires : tie.Need-update-core-requires
-update-core-requires c κs = search needs
+update-core-requires c κs = tt
 
 status-or-requires : tie.Need-status-or-requires
-status-or-requires c κs = search needs
+status-or-requires c κs = tt
 
 update-code-requires : tie.Need-update-code-requires
-update-code-requires c κs = search needs
+update-code-requires c κs = tt
 
 same-length : tie.Need-same-length
-same-length c = search needs
+same-length c = c .before .before .before .before .before .before .before .before .before .before .update-core .kept .1 .1 .1 .1 .0
 
 same-length-2 : tie.Need-same-length-2
-same-length-2 c = search needs
+same-length-2 c = c .before .before .before .before .before .before .before .before .before .before .update-core .kept .1 .1 .1 .1 .1 .0
 
 same-length-3 : tie.Need-same-length-3
-same-length-3 c = search needs
+same-length-3 c = c .before .before .before .before .before .before .before .before .before .before .update-core .kept .1 .1 .1 .1 .1 .1 .0
 
 returns : tie.Need-returns
 returns c = search (needs, ell-updated)

@@ -5,40 +5,40 @@ use Rattle.ponduvizh.proofs.ellipsoids.ponduvizh_ell_stable_update.Stat
 use Rattle.ponduvizh.proofs.ellipsoids.ponduvizh_ell_stable_update.Tie as tie
 
 new-with-matrix-requires : tie.Need-new-with-matrix-requires
-new-with-matrix-requires c κs = search needs
+new-with-matrix-requires c κs = tt
 
 enum-known-why : tie.Need-enum-known-why
 enum-known-why c = search needs
 
 code-requires : tie.Need-code-requires
-code-requires c κs = search needs
+code-requires c κs = tt
 
 enum-known-made : tie.Need-enum-known-made
 enum-known-made c = search needs
 
 ell-stable-made-requires : tie.Need-ell-stable-made-requires
-ell-stable-made-requires c κs = search needs
+ell-stable-made-requires c κs = tt
 
 returns : tie.Need-returns
 returns c = search (needs, stable-was-refused)
 
 same-length : tie.Need-same-length
-same-length c = search needs
+same-length c = c .before .before .before .before .before .before .before .before .before .before .before .before .ell-stable-made .kept .1 .1 .1 .1 .1 .1 .1 .1 .1 .0
 
 same-length-2 : tie.Need-same-length-2
-same-length-2 c = search needs
+same-length-2 c = c .before .before .before .before .before .before .before .before .before .before .before .before .ell-stable-made .kept .1 .1 .1 .1 .1 .1 .1 .1 .1 .1 .0
 
 same-length-3 : tie.Need-same-length-3
-same-length-3 c = search needs
+same-length-3 c = c .before .before .before .before .before .before .before .before .before .before .before .before .ell-stable-made .kept .1 .1 .1 .1 .1 .1 .1 .1 .1 .1 .1 .0
 
 same-length-4 : tie.Need-same-length-4
-same-length-4 c = search needs
+same-length-4 c = c .before .before .before .before .before .before .before .before .before .before .before .before .ell-stable-made .kept .1 .1 .1 .1 .1 .1 .1 .1 .1 .1 .1 .1 .0
 
 same-length-5 : tie.Need-same-length-5
-same-length-5 c = search needs
+same-length-5 c = c .before .before .before .before .before .before .before .before .before .before .before .before .ell-stable-made .kept .1 .1 .1 .1 .1 .1 .1 .1 .1 .1 .1 .1 .1 .0
 
 same-length-6 : tie.Need-same-length-6
-same-length-6 c = search needs
+same-length-6 c = c .before .before .before .before .before .before .before .before .before .before .before .before .ell-stable-made .kept .1 .1 .1 .1 .1 .1 .1 .1 .1 .1 .1 .1 .1 .1 .0
 
 returns-2 : tie.Need-returns-2
 returns-2 c = search (needs, stable-was-made)

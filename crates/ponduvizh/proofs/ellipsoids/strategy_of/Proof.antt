@@ -2,7 +2,6 @@
 use mathlib.Core.Path.{refl}
 use borrow.Author.Tests.{eq-eqb, ne-eqb}
 use Rattle.numbers.specs.Pick.{hit, skip}
-use borrow.Author.Needs.{needs}
 use Rattle.ponduvizh.proofs.ellipsoids.strategy_of.Statement.{statement}
 use Rattle.ponduvizh.proofs.ellipsoids.strategy_of.Tie as tie
 

@@ -5,19 +5,19 @@ use Rattle.ponduvizh.proofs.jobs.ponduvizh_read_job.Statement.{statemen
 use Rattle.ponduvizh.proofs.jobs.ponduvizh_read_job.Tie as tie
 
 read-job-requires : tie.Need-read-job-requires
-read-job-requires c κs = search needs
+read-job-requires c κs = tt
 
 put-answer-requires : tie.Need-put-answer-requires
-put-answer-requires c κs = search needs
+put-answer-requires c κs = tt
 
 same-length : tie.Need-same-length
-same-length c = search needs
+same-length c = c .before .before .before .before .before .before .before .before .before .before .before .before .read-job .kept .1 .0
 
 same-length-2 : tie.Need-same-length-2
-same-length-2 c = search needs
+same-length-2 c = c .before .before .before .before .before .before .before .before .before .before .before .before .read-job .kept .1 .1 .0
 
 same-length-3 : tie.Need-same-length-3
-same-length-3 c = search needs
+same-length-3 c = c .before .before .before .before .before .before .before .before .before .before .before .before .read-job .kept .1 .1 .1 .0
 
 returns : tie.Need-returns
 returns c = search (needs, read-law)

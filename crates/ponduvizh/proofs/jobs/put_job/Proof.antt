@@ -8,13 +8,13 @@ cast-t8 : tie.Need-cast-t8
 cast-t8 c = search needs
 
 put-bands-requires : tie.Need-put-bands-requires
-put-bands-requires c κs = search needs
+put-bands-requires c κs = tt
 
 put-marks-requires : tie.Need-put-marks-requires
-put-marks-requires c κs = search needs
+put-marks-requires c κs = tt
 
 put-numbers-requires : tie.Need-put-numbers-requires
-put-numbers-requires c κs = search needs
+put-numbers-requires c κs = tt
 
 returns : tie.Need-returns
 returns c = search (needs, put-law)

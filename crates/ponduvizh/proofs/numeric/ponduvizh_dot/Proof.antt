@@ -1,17 +1,16 @@
 -- `ponduvizh::numeric::ponduvizh_dot` meets its contract. Assumes nothing.
 use Rattle.ponduvizh.proofs.numeric.Laws.{number-law}
-use borrow.Author.Needs.{needs}
 use Rattle.ponduvizh.proofs.numeric.ponduvizh_dot.Statement.{statement}
 use Rattle.ponduvizh.proofs.numeric.ponduvizh_dot.Tie as tie
 
 dot-requires : tie.Need-dot-requires
-dot-requires c κs = search needs
+dot-requires c κs = tt
 
 value-or-requires : tie.Need-value-or-requires
-value-or-requires c κs = search needs
+value-or-requires c κs = tt
 
 number-code-requires : tie.Need-number-code-requires
-number-code-requires c κs = search needs
+number-code-requires c κs = tt
 
 returns : tie.Need-returns
 returns c = number-law _ _ _ _ _ (c .before .before .dot .ensures) (c .number-code .ensures) (c .before .value-or .ensures)

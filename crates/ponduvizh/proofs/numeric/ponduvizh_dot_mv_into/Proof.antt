@@ -1,17 +1,16 @@
 -- `ponduvizh::numeric::ponduvizh_dot_mv_into` meets its contract. Assumes nothing.
 use Rattle.ponduvizh.proofs.numeric.Laws.{written-law}
-use borrow.Author.Needs.{needs}
 use Rattle.ponduvizh.proofs.numeric.ponduvizh_dot_mv_into.Statement.{statement}
 use Rattle.ponduvizh.proofs.numeric.ponduvizh_dot_mv_into.Tie as tie
 
 dot-mv-into-requires : tie.Need-dot-mv-into-requires
-dot-mv-into-requires c κs = search needs
+dot-mv-into-requires c κs = tt
 
 written-code-requires : tie.Need-written-code-requires
-written-code-requires c κs = search needs
+written-code-requires c κs = tt
 
 same-length : tie.Need-same-length
-same-length c = search needs
+same-length c = c .before .before .before .dot-mv-into .kept .1 .1 .1 .0
 
 returns : tie.Need-returns
 returns c = written-law _ _ _ _ (c .before .before .before .dot-mv-into .ensures) (c .written-code .ensures)

@@ -1,20 +1,19 @@
 -- `ponduvizh::numeric::ponduvizh_factor` meets its contract. Assumes nothing.
 use Rattle.ponduvizh.proofs.numeric.Laws.{factored-law}
-use borrow.Author.Needs.{needs}
 use Rattle.ponduvizh.proofs.numeric.ponduvizh_factor.Statement.{statement}
 use Rattle.ponduvizh.proofs.numeric.ponduvizh_factor.Tie as tie
 
 factor-requires : tie.Need-factor-requires
-factor-requires c κs = search needs
+factor-requires c κs = tt
 
 factored-end-requires : tie.Need-factored-end-requires
-factored-end-requires c κs = search needs
+factored-end-requires c κs = tt
 
 factored-code-requires : tie.Need-factored-code-requires
-factored-code-requires c κs = search needs
+factored-code-requires c κs = tt
 
 same-length : tie.Need-same-length
-same-length c = search needs
+same-length c = c .before .before .before .before .before .factor .kept .1 .1 .0
 
 returns : tie.Need-returns
 returns c = factored-law _ _ _ _ _ _ (c .before .before .before .before .before .factor .ensures) (c .factored-code .ensures) (c .before .factored-end .ensures)

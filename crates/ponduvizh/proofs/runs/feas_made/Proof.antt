@@ -5,37 +5,25 @@ use Rattle.ponduvizh.proofs.runs.feas_made.Statement.{statement}
 use Rattle.ponduvizh.proofs.runs.feas_made.Tie as tie
 
 cutting-plane-feas-requires : tie.Need-cutting-plane-feas-requires
-cutting-plane-feas-requires c κs = search needs
+cutting-plane-feas-requires c κs = tt
 
-feas-ended-requires : tie.Need-feas-ended-requires
-feas-ended-requires c κs = search needs
-
-put-answer-requires : tie.Need-put-answer-requires
-put-answer-requires c κs = search needs
-
-put-marks-requires : tie.Need-put-marks-requires
-put-marks-requires c κs = search needs
-
-put-values-requires : tie.Need-put-values-requires
-put-values-requires c κs = search needs
-
-feas-code-requires : tie.Need-feas-code-requires
-feas-code-requires c κs = search needs
+put-feas-requires : tie.Need-put-feas-requires
+put-feas-requires c κs = tt
 
 same-length : tie.Need-same-length
-same-length c = search needs
+same-length c = c .before .before .before .before .before .before .before .before .before .before .before .before .before .before .before .before .cutting-plane-feas .kept .1 .1 .1 .1 .1 .0
 
 same-length-2 : tie.Need-same-length-2
-same-length-2 c = search needs
+same-length-2 c = c .before .before .before .before .before .before .before .before .before .before .before .before .before .before .before .before .cutting-plane-feas .kept .1 .1 .1 .1 .1 .1 .0
 
 same-length-3 : tie.Need-same-length-3
-same-length-3 c = search needs
+same-length-3 c = c .before .before .before .before .before .before .before .before .before .before .before .before .before .before .before .before .cutting-plane-feas .kept .1 .1 .1 .1 .1 .1 .1 .0
 
 same-length-4 : tie.Need-same-length-4
-same-length-4 c = search needs
+same-length-4 c = c .before .before .before .before .before .before .before .before .before .before .before .before .before .before .before .before .cutting-plane-feas .kept .1 .1 .1 .1 .1 .1 .1 .1 .0
 
 same-length-5 : tie.Need-same-length-5
-same-length-5 c = search needs
+same-length-5 c = c .before .before .before .before .before .before .before .before .before .before .before .before .before .before .before .before .cutting-plane-feas .kept .1 .1 .1 .1 .1 .1 .1 .1 .1 .0
 
 returns : tie.Need-returns
 returns c = search (needs, feas-law)
@@ -45,11 +33,7 @@ feas-made-spec =
     tie.close
     (tie.spec
     cutting-plane-feas-requires
-    feas-ended-requires
-    put-answer-requires
-    put-marks-requires
-    put-values-requires
-    feas-code-requires
+    put-feas-requires
     same-length
     same-length-2
     same-length-3

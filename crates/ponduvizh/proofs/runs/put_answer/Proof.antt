@@ -5,13 +5,13 @@ use Rattle.ponduvizh.proofs.runs.put_answer.Statement.{statement}
 use Rattle.ponduvizh.proofs.runs.put_answer.Tie as tie
 
 flag-requires : tie.Need-flag-requires
-flag-requires c κs = search needs
+flag-requires c κs = tt
 
 cast-t5 : tie.Need-cast-t5
 cast-t5 c = search needs
 
 flag-requires-2 : tie.Need-flag-requires-2
-flag-requires-2 c κs = search needs
+flag-requires-2 c κs = tt
 
 returns : tie.Need-returns
 unfolding answer-of

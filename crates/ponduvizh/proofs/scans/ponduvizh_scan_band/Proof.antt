@@ -1,25 +1,24 @@
 -- `ponduvizh::scans::ponduvizh_scan_band` meets its contract. Assumes nothing.
 use mir.Facts.{toZ-ofZ}
-use Rattle.ponduvizh.proofs.scans.Laws.{cursor-handed, handed}
-use borrow.Author.Needs.{needs}
+use Rattle.ponduvizh.proofs.scans.Laws.{cursor-handed}
 use Rattle.ponduvizh.proofs.scans.ponduvizh_scan_band.Statement.{statement}
 use Rattle.ponduvizh.proofs.scans.ponduvizh_scan_band.Tie as tie
 
 cursor-at-requires : tie.Need-cursor-at-requires
-cursor-at-requires c κs = search needs
+cursor-at-requires c κs = tt
 
 upper-of-requires : tie.Need-upper-of-requires
-upper-of-requires c κs = search needs
+upper-of-requires c κs = tt
 
 scan-from-requires : tie.Need-scan-from-requires
-scan-from-requires c κs = search needs
+scan-from-requires c κs = tt
 
 returns : tie.Need-returns
-returns c = 
+returns c =
     let u = c .before .before .before .before .before in
     let s = u .before in
     let z = s .before .before .before .before .fits in
-    handed _ _ _ _ _ _ _ _ _ _ _ (cursor-handed _ _ _ _ _ _ (s .cursor-at .ensures) (toZ-ofZ (z .lo)) (toZ-ofZ (z .hi))) (u .upper-of .ensures) (c .scan-from .ensures)
+    rw (← cursor-handed _ _ _ _ _ _ (s .cursor-at .ensures) (toZ-ofZ (z .lo)) (toZ-ofZ (z .hi)), ← u .upper-of .ensures) (c .scan-from .ensures)
 
 pub ponduvizh-scan-band-spec : {M : Type 1} → statement M
 ponduvizh-scan-band-spec =

@@ -8,13 +8,13 @@ enum-known-answer : tie.Need-enum-known-answer
 enum-known-answer c = search needs
 
 code-requires : tie.Need-code-requires
-code-requires c κs = search needs
+code-requires c κs = tt
 
 enum-known-answer-2 : tie.Need-enum-known-answer-2
 enum-known-answer-2 c = search needs
 
 put-scan-requires : tie.Need-put-scan-requires
-put-scan-requires c κs = search needs
+put-scan-requires c κs = tt
 
 returns : tie.Need-returns
 returns c = search (needs, was-refused)

@@ -5,13 +5,13 @@ use Rattle.ponduvizh.proofs.scans.put_scan.Statement.{statement}
 use Rattle.ponduvizh.proofs.scans.put_scan.Tie as tie
 
 side-of-requires : tie.Need-side-of-requires
-side-of-requires c κs = search needs
+side-of-requires c κs = tt
 
 row-of-requires : tie.Need-row-of-requires
-row-of-requires c κs = search needs
+row-of-requires c κs = tt
 
 value-of-requires : tie.Need-value-of-requires
-value-of-requires c κs = search needs
+value-of-requires c κs = tt
 
 returns : tie.Need-returns
 returns c = search (needs, scan-law)

@@ -5,10 +5,10 @@ use Rattle.ponduvizh.proofs.scans.scan_from.Statement.{statement}
 use Rattle.ponduvizh.proofs.scans.scan_from.Tie as tie
 
 scan-lent-requires : tie.Need-scan-lent-requires
-scan-lent-requires c κs = search needs
+scan-lent-requires c κs = tt
 
 put-answer-requires : tie.Need-put-answer-requires
-put-answer-requires c κs = search needs
+put-answer-requires c κs = tt
 
 returns : tie.Need-returns
 returns c = search (needs, ended-law)

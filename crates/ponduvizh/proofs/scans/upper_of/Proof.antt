@@ -1,7 +1,6 @@
 -- `ponduvizh::scans::upper_of` meets its contract. Assumes nothing.
 use mathlib.Core.Path.{refl}
 use Rattle.numbers.specs.Pick.{hit, skip}
-use borrow.Author.Needs.{needs}
 use Rattle.ponduvizh.proofs.scans.upper_of.Statement.{statement}
 use Rattle.ponduvizh.proofs.scans.upper_of.Tie as tie
 
