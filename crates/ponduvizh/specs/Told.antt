@@ -1,20 +1,17 @@
 -- What the exported calls answer: the definitions of the three layers, told in numbers. Each call gives 0 or the refusal's number, and the rest through
--- slices and numbers that it is lent; a refused call leaves those as they were. Definitions only.
+-- slices and numbers that it is lent. A refused call leaves those as they were, but for the place of a record's fault and for an optimizing run that 6 halts midway. Definitions only.
 use Prim.Native.Nat.{ℕ}
 use mathlib.Core.Bool.{Bool}
-use mathlib.Core.List.{List, [], _∷_}
+use mathlib.Core.List.{List}
 use lib.Dec.{eqb}
-use lib.ListN.{getD}
-use lib.IntN.{ℤ, pos}
-use lib.Ieee.{Float, nan}
+use lib.Ieee.{Float}
 use Rattle.numbers.specs.Pick.{pick}
 use Rattle.numbers.specs.Refusal.{refusalNumber}
+use Rattle.numbers.specs.Cut.{statusNumber}
 use Rattle.numbers.specs.declared.arr.Number.{Number}
 use Rattle.numbers.specs.declared.arr.Number.the-variants.{Value, Refused as NoNumber}
 use Rattle.numbers.specs.declared.arr.Written.{Written}
 use Rattle.numbers.specs.declared.arr.Written.the-variants.{Done, Refused as NotWritten}
-use Rattle.numbers.specs.declared.cut.CutStatus.{CutStatus}
-use Rattle.numbers.specs.declared.cut.CutStatus.the-variants.{Success, NoSoln, NoEffect}
 use Rattle.numbers.specs.declared.cut.CutChoice.{CutChoice}
 use Rattle.numbers.specs.declared.cut.CutChoice.the-variants.{Single, Parallel}
 use Rattle.oracles.specs.Ell.{EllBuffers, with-tsq, ell-update-answer}
@@ -78,12 +75,6 @@ strategyOf k = pick (eqb k 0) BiasCut (pick (eqb k 1) CentralCut Q)
 -- one bound or two
 abbrev pub betaOf : Bool → Float → Float → CutChoice
 betaOf parallel beta0 beta1 = pick parallel (Parallel beta0 beta1) (Single beta0)
-
--- Success 0, NoSoln 1, NoEffect 2
-abbrev pub statusNumber : CutStatus → ℕ
-statusNumber Success = 0
-statusNumber NoSoln = 1
-statusNumber NoEffect = 2
 
 abbrev pub update-code : Update → ℕ
 update-code (Status status) = 0

@@ -6,7 +6,10 @@ use lib.IntN.{ℤ, pos}
 use lib.Ieee.{Float}
 use Rattle.numbers.specs.Pick.{pick}
 use Rattle.numbers.specs.Refusal.{refusalNumber}
+use Rattle.oracles.specs.RoundRobin.{new-range-answer}
 use Rattle.oracles.specs.Scan.{−∞, none}
+use Rattle.oracles.specs.declared.round_robin.CursorAnswer.{CursorAnswer}
+use Rattle.oracles.specs.declared.round_robin.CursorAnswer.the-variants.{At as Fresh, Refused as NoBand}
 use Rattle.oracles.specs.Ell.{EllBuffers}
 use Rattle.oracles.specs.declared.ell.Ell.{Ell}
 use Rattle.oracles.specs.declared.ell.NewEll.{NewEll}
@@ -23,19 +26,24 @@ use Rattle.drivers.specs.declared.job.Job.{Job}
 use Rattle.drivers.specs.declared.job.JobAnswer.{JobAnswer}
 use Rattle.drivers.specs.declared.job.JobAnswer.the-variants.{Read, Refused as NotRead}
 
--- an oracle that has assessed nothing yet, its cursors anywhere, each idx at its cursor's cur
+-- where a fresh cursor stands, before its band's first row; a run over what is no band is refused, whatever stands here
+abbrev pub fresh-cur : CursorAnswer → ℤ
+fresh-cur (Fresh rr) = rr .cur
+fresh-cur (NoBand why) = none
+
+-- an oracle that has assessed nothing yet, as a job's: each idx before its band, its cursors anywhere
 unfoldable pub oracle-of : ℤ → ℤ → ℤ → ℤ → ℤ → ℤ → Float → Float → Float → LowpassOracle
 oracle-of nwpass nwstop mdim cur1 cur2 cur3 lp-sq up-sq sp-sq =
     record {
       «more_alt» = true;
-      idx1 = cur1;
+      idx1 = fresh-cur (new-range-answer (pos 0) nwpass);
       nwpass = nwpass;
       nwstop = nwstop;
       «lp_sq» = lp-sq;
       «up_sq» = up-sq;
       «sp_sq» = sp-sq;
-      idx2 = cur2;
-      idx3 = cur3;
+      idx2 = fresh-cur (new-range-answer nwpass nwstop);
+      idx3 = fresh-cur (new-range-answer nwstop mdim);
       fmax = −∞;
       kmax = none;
       rr1 = record { cur = cur1; lo = pos 0; hi = nwpass };

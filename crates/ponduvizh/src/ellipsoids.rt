@@ -1,7 +1,7 @@
-// The updates of both ellipsoids. `status` becomes the update's status, `kappa` and `tsq` those of the ellipsoid after it.
+// The updates of both ellipsoids. `strategy` is 0 for a bias cut, 1 for a central one, any other number the q form; `beta1` counts where `parallel` is true. `status` becomes 0 for Success, 1 for NoSoln, 2 for
+// NoEffect, `kappa` and `tsq` those of the ellipsoid after the update.
 use crate::numeric::code;
 use numbers::cut::CutChoice;
-use numbers::cut::CutStatus;
 use oracles::ell::Ell;
 use oracles::ell::NewEll;
 use oracles::ell_common::CutStrategy;
@@ -11,7 +11,7 @@ use oracles::ell_stable::NewEllStable;
 ghost use mathlib.Core.Path.{_≡_};
 ghost use Rattle.oracles.specs.Ell.{new-ell-answer};
 ghost use Rattle.oracles.specs.EllStable.{new-ell-stable-answer};
-ghost use Rattle.ponduvizh.specs.Told.{strategyOf, betaOf, statusNumber, update-code, status-or, ell-made, ell-told, stable-made, stable-told};
+ghost use Rattle.ponduvizh.specs.Told.{strategyOf, betaOf, update-code, status-or, ell-made, ell-told, stable-made, stable-told};
 
 fn strategy_of(k: u64) -> CutStrategy
     ensures { λ r. ⌜ r ≡ strategyOf k ⌝ }
@@ -34,16 +34,6 @@ fn beta_of(parallel: bool, beta0: f64, beta1: f64) -> CutChoice
     CutChoice::Single(beta0)
 }
 
-fn status_number(status: CutStatus) -> u64
-    ensures { λ r. ⌜ r ≡ statusNumber status ⌝ }
-{
-    match status {
-        CutStatus::Success => 0,
-        CutStatus::NoSoln => 1,
-        CutStatus::NoEffect => 2,
-    }
-}
-
 fn update_code(answer: Update) -> u64
     ensures { λ r. ⌜ r ≡ update-code answer ⌝ }
 {
@@ -57,7 +47,7 @@ fn status_or(answer: Update, old: u64) -> u64
     ensures { λ r. ⌜ r ≡ status-or answer old ⌝ }
 {
     match answer {
-        Update::Status(status) => status_number(status),
+        Update::Status(status) => status.number() as u64,
         Update::Refused(_) => old,
     }
 }

@@ -1,4 +1,4 @@
-// The reading of a job. `sizes` becomes n, the rows and the step limit, `bands` nwpass and nwstop, `marks` what `runs` says, `numbers` lp_sq, up_sq, sp_sq, kappa and the tolerance; or `place` where the record is refused.
+// The reading of a job. `sizes` becomes n, the rows and the step limit, `bands` nwpass and nwstop, `marks` the cursors of pass, middle and stop, idx1 to idx3 and kmax, `numbers` lp_sq, up_sq, sp_sq, kappa and the tolerance; or `place` where the record is refused.
 use crate::numeric::code;
 use crate::runs::put_marks;
 use drivers::job::Job;

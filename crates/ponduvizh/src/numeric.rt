@@ -1,4 +1,4 @@
-// Of the first layer, and the factorization.
+// The calls of the first layer, and the factorization of the second.
 use numbers::arr::Number;
 use numbers::arr::Written;
 use numbers::arr::dot;
@@ -91,7 +91,7 @@ pub extern "C" fn ponduvizh_dot_mv_into(n: usize, mat: &[f64], x: &[f64], out: &
     written_code(dot_mv_into(n, mat, x, out))
 }
 
-// `end` becomes 0 for a positive definite matrix, else the rows of the leading block that is not.
+// `end` becomes 0 for a positive definite matrix, else the number of rows of the leading block that is not.
 #[no_mangle]
 pub extern "C" fn ponduvizh_factor(
     m: usize,

@@ -9,13 +9,24 @@ use drivers::cutting_plane::cutting_plane_optim;
 use oracles::ell::Ell;
 use oracles::ell::NewEll;
 use oracles::lowpass_oracle::LowpassOracle;
+use oracles::round_robin::CursorAnswer;
 use oracles::round_robin::RoundRobin;
 ghost use mathlib.Core.Path.{_≡_};
 ghost use Prim.Native.Nat.{ℕ};
 ghost use Rattle.oracles.specs.Ell.{new-ell-answer};
 ghost use Rattle.drivers.specs.CuttingPlane.{feas-answer, optim-answer, optim-number};
 ghost use mathlib.Core.Bool.{false};
-ghost use Rattle.ponduvizh.specs.ToldRuns.{RunNumbers, oracle-of, marks-of, values-of, flagOf, answer-of, numbers-after, feas-code, feas-said, optim-said, feas-left, feas-told, optim-left-told, optim-told};
+ghost use Rattle.ponduvizh.specs.ToldRuns.{RunNumbers, fresh-cur, oracle-of, marks-of, values-of, flagOf, answer-of, numbers-after, feas-code, feas-said, optim-said, feas-left, feas-told, optim-left-told, optim-told};
+
+// Where a fresh cursor stands. A run over what is no band is refused, whatever stands here.
+fn fresh_cur(fresh: CursorAnswer) -> i32
+    ensures { λ r. ⌜ r ≡ fresh-cur fresh ⌝ }
+{
+    match fresh {
+        CursorAnswer::At(rr) => rr.cur,
+        CursorAnswer::Refused(_) => -1,
+    }
+}
 
 // An oracle that has assessed nothing yet.
 fn oracle_of(
@@ -31,16 +42,19 @@ fn oracle_of(
 ) -> LowpassOracle
     ensures { λ r. ⌜ r ≡ oracle-of nwpass nwstop mdim cur1 cur2 cur3 «lp_sq» «up_sq» «sp_sq» ⌝ }
 {
+    let fresh1 = RoundRobin::new_range(0, nwpass);
+    let fresh2 = RoundRobin::new_range(nwpass, nwstop);
+    let fresh3 = RoundRobin::new_range(nwstop, mdim);
     LowpassOracle {
         more_alt: true,
-        idx1: cur1,
+        idx1: fresh_cur(fresh1),
         nwpass: nwpass,
         nwstop: nwstop,
         lp_sq: lp_sq,
         up_sq: up_sq,
         sp_sq: sp_sq,
-        idx2: cur2,
-        idx3: cur3,
+        idx2: fresh_cur(fresh2),
+        idx3: fresh_cur(fresh3),
         fmax: -1.0 / 0.0,
         kmax: -1,
         rr1: RoundRobin {
