@@ -16,7 +16,7 @@ use oracles::scan::table_fits;
 ghost use mathlib.Core.Path.{_≡_};
 ghost use mathlib.Core.Bool.{false};
 ghost use lib.ListN.{length};
-ghost use Rattle.oracles.specs.EllLaws.{updated};
+ghost use Rattle.oracles.specs.Ell.{updated};
 ghost use Rattle.drivers.specs.CuttingPlane.{default-options, checkOf, said-of, goes-on, proceeds, feas-ended, is-found, kept, feas-step, feas-run, feas-answer, optim-step, optim-goes-on, optim-ended, optim-left, optim-run, optim-answer};
 
 // How many steps a run may take, and the tsq below which it ends.

@@ -220,7 +220,7 @@ impl EllCalc {
         (beta1 > 0.0 && tsq <= beta1 * beta1) || !self.use_parallel_cut
     }
 
-    // The plain form and the q form share no function, so that each is compiled into its caller and its answer is not copied.
+    // The Rust's `calc_parallel_impl` stands here twice, in the plain form and in the q form: each is compiled into its caller, and its answer is not copied.
     pub fn calc_parallel_bias_cut(self, beta0: f64, beta1: f64, tsq: f64) -> Answer
         ensures { λ r. ⌜ r ≡ calc-parallel-bias-cut self beta0 beta1 tsq ⌝ }
     {

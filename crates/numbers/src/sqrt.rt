@@ -107,7 +107,7 @@ fn root_of(bits: u64) -> f64
 
 // A guess at √x from its bits, of which nothing is proved. Half of the pattern gives a y near 1 / √x. Two steps of Newton's method take g to √x
 // and h to 1 / (2 √x), with constants that make the largest error least. The last step adds the remainder x - g * g times h, corrected for h's own
-// error. `top` is g with 26 digits, so that its square is exact, and the remainder nearly so.
+// error. `top` is g1 with 26 digits, so that its square is exact, and the remainder nearly so.
 // A step that overflows or loses digits gives a wrong guess, which `is_rounded` refuses.
 fn guess(x: f64, bits: u64) -> f64
     requires { ⌜ bits < 0x7ff0_0000_0000_0000 ⌝ }

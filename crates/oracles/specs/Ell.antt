@@ -15,7 +15,7 @@ use Rattle.numbers.specs.declared.cut.CutStatus.{CutStatus}
 use Rattle.numbers.specs.declared.cut.CutStatus.the-variants.{NoEffect}
 use Rattle.numbers.specs.declared.ell_calc.EllCalc.{EllCalc}
 use Rattle.oracles.specs.Matrix.{entry, at, grid}
-use Rattle.oracles.specs.EllCommon.{calcOf, is-tiny, is-success, centreOf}
+use Rattle.oracles.specs.EllCommon.{calcOf, answerOf, is-tiny, is-success, centreOf}
 use Rattle.oracles.specs.declared.ell_common.CutStrategy.{CutStrategy}
 use Rattle.oracles.specs.declared.ell_common.Update.{Update}
 use Rattle.oracles.specs.declared.ell_common.Update.the-variants.{Status, Refused}
@@ -23,6 +23,7 @@ use Rattle.oracles.specs.declared.ell.Ell.{Ell}
 use Rattle.oracles.specs.declared.ell.NewEll.{NewEll}
 use Rattle.oracles.specs.declared.ell.NewEll.the-variants.{Made, Refused as NotMade}
 use Rattle.oracles.specs.declared.ell.EllUpdate.{EllUpdate}
+use Rattle.oracles.specs.declared.ell.Moved.{Moved}
 
 -- `new_with_matrix`: the state beside the matrix and the centre; refusal 1
 unfoldable pub new-ell-answer : ℕ → Float → NewEll
@@ -44,6 +45,10 @@ rank-one n ratio gt mq = grid (λ r c. pick (leb c r) (low r c) (low c r)) n n
 -- with another kappa and tsq
 abbrev pub with-tsq : Ell → Float → Float → Ell
 with-tsq e kappa tsq = record { ndim = e .ndim; kappa = kappa; helper = e .helper; tsq = tsq }
+
+-- an update's answer from what it changes of an ellipsoid
+abbrev pub updated : Ell → Moved → EllUpdate
+updated e m = record { ell = with-tsq e (m .kappa) (m .tsq); answer = answerOf (m .outcome) }
 
 -- an answer that is a status
 abbrev pub ell-said : Ell → CutStatus → EllUpdate

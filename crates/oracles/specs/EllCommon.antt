@@ -7,6 +7,7 @@ use lib.Ieee.{Float, le, binary64, ofBits}
 use Rattle.numbers.specs.F64.{_⊖_, _⊗_}
 use Rattle.numbers.specs.Arr.{tab}
 use Rattle.numbers.specs.EllCalc.{calc-single-or-parallel-bias-cut, calc-single-or-parallel-central-cut, calc-single-or-parallel-q}
+use Rattle.numbers.specs.declared.refusal.Refusal.the-variants.{Dimension as WrongDimension, Length as WrongLength}
 use Rattle.numbers.specs.declared.cut.CutChoice.{CutChoice}
 use Rattle.numbers.specs.declared.cut.CutStatus.{CutStatus}
 use Rattle.numbers.specs.declared.cut.CutStatus.the-variants.{Success, NoSoln, NoEffect}
@@ -15,6 +16,10 @@ use Rattle.numbers.specs.declared.ell_calc.EllCalc.{EllCalc}
 use Rattle.oracles.specs.Matrix.{entry}
 use Rattle.oracles.specs.declared.ell_common.CutStrategy.{CutStrategy}
 use Rattle.oracles.specs.declared.ell_common.CutStrategy.the-variants.{BiasCut, CentralCut, Q}
+use Rattle.oracles.specs.declared.ell_common.Update.{Update}
+use Rattle.oracles.specs.declared.ell_common.Update.the-variants.{Status, Refused}
+use Rattle.oracles.specs.declared.ell_common.Outcome.{Outcome}
+use Rattle.oracles.specs.declared.ell_common.Outcome.the-variants.{Success as Succeeded, NoSoln as NotSolved, NoEffect as NotMoved, Dimension, Length}
 
 -- the calculator that an update uses
 abbrev pub calcOf : CutStrategy → EllCalc → CutChoice → Float → Answer
@@ -25,6 +30,14 @@ calcOf Q helper beta tsq = calc-single-or-parallel-q helper beta tsq
 -- 2⁻¹⁰²², the Rust's `f64::MIN_POSITIVE`: an omega at or below it has no effect; NaN goes on
 abbrev pub is-tiny : Float → Bool
 is-tiny omega = le omega (ofBits binary64 0x0010_0000_0000_0000)
+
+-- the answer that an outcome, the same in one byte, stands for
+abbrev pub answerOf : Outcome → Update
+answerOf Succeeded = Status Success
+answerOf NotSolved = Status NoSoln
+answerOf NotMoved = Status NoEffect
+answerOf Dimension = Refused WrongDimension
+answerOf Length = Refused WrongLength
 
 -- only a success changes the ellipsoid
 abbrev pub is-success : CutStatus → Bool

@@ -15,19 +15,6 @@ use Rattle.oracles.specs.Matrix.{entry}
 use Rattle.oracles.specs.MatrixLaws.{tab-entry}
 use Rattle.oracles.specs.LoopLaws.{by-test}
 use Rattle.oracles.specs.EllCommon.{is-success, centreOf}
-use Rattle.numbers.specs.declared.refusal.Refusal.the-variants.{Dimension as WrongDimension, Length as WrongLength}
-use Rattle.oracles.specs.declared.ell_common.Update.{Update}
-use Rattle.oracles.specs.declared.ell_common.Update.the-variants.{Status, Refused}
-use Rattle.oracles.specs.declared.ell_common.Outcome.{Outcome}
-use Rattle.oracles.specs.declared.ell_common.Outcome.the-variants.{Success as Succeeded, NoSoln as NotSolved, NoEffect as NotMoved, Dimension, Length}
-
--- the answer that an outcome stands for
-abbrev pub answerOf : Outcome → Update
-answerOf Succeeded = Status Success
-answerOf NotSolved = Status NoSoln
-answerOf NotMoved = Status NoEffect
-answerOf Dimension = Refused WrongDimension
-answerOf Length = Refused WrongLength
 
 -- what holds of a call's two refusals, and of its work where there is none, holds of its answer
 pub by-tested : {X : Type 0} (P : X → Type 0) (n : ℕ) (fit : Bool) (one two done : X) → P one → P two → (isDimension n ≡ true → fit ≡ true → P done) → P (tested n fit one two done)

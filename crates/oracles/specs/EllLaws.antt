@@ -16,15 +16,7 @@ use Rattle.numbers.specs.Arr.{tab}
 use Rattle.oracles.specs.Matrix.{entry, at, grid}
 use Rattle.oracles.specs.MatrixLaws.{length-grid, grid-at}
 use Rattle.oracles.specs.LoopLaws.{is-hit, is-skip}
-use Rattle.oracles.specs.Ell.{rank-one, with-tsq}
-use Rattle.oracles.specs.EllCommonLaws.{answerOf}
-use Rattle.oracles.specs.declared.ell.Ell.{Ell}
-use Rattle.oracles.specs.declared.ell.EllUpdate.{EllUpdate}
-use Rattle.oracles.specs.declared.ell.Moved.{Moved}
-
--- the answer of an update that changed this of an ellipsoid
-abbrev pub updated : Ell → Moved → EllUpdate
-updated e m = record { ell = with-tsq e (m .kappa) (m .tsq); answer = answerOf (m .outcome) }
+use Rattle.oracles.specs.Ell.{rank-one}
 
 -- ---- the steps
 

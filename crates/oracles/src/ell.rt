@@ -20,9 +20,9 @@ ghost use mathlib.Core.Bool.{true};
 ghost use Prim.Native.Nat.{_*_, _≤_, _<_};
 ghost use lib.ListN.{length};
 ghost use Rattle.numbers.specs.Arr.{isDimension};
-ghost use Rattle.oracles.specs.Ell.{new-ell-answer, rank-one, with-tsq, ell-said, ell-updateOf, ell-update-answer};
-ghost use Rattle.oracles.specs.EllCommonLaws.{answerOf};
-ghost use Rattle.oracles.specs.EllLaws.{updated, row-lowered, all-lowered, row-mirrored, mirrored};
+ghost use Rattle.oracles.specs.Ell.{new-ell-answer, rank-one, with-tsq, updated, ell-said, ell-updateOf, ell-update-answer};
+ghost use Rattle.oracles.specs.EllCommon.{answerOf};
+ghost use Rattle.oracles.specs.EllLaws.{row-lowered, all-lowered, row-mirrored, mirrored};
 
 // What is kept beside the matrix mq and the centre xc.
 pub struct Ell {
@@ -37,7 +37,7 @@ pub enum NewEll {
     Refused(Refusal),
 }
 
-// What an update changes, and what it came to. The outcome lies between the numbers so that they are not read as a pair.
+// What an update changes, and what it came to. The outcome lies between the numbers: read as a pair by one load of 16 bytes they would wait for both stores of 8.
 pub struct Moved {
     pub kappa: f64,
     pub outcome: Outcome,

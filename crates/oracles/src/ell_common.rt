@@ -10,8 +10,7 @@ ghost use Prim.Native.Nat.{_*_, _≤_};
 ghost use lib.Dec.{eqb};
 ghost use lib.ListN.{length};
 ghost use Rattle.oracles.specs.declared.ell_common.Update.the-variants.{Status};
-ghost use Rattle.oracles.specs.EllCommon.{calcOf, is-tiny, is-success, centreOf};
-ghost use Rattle.oracles.specs.EllCommonLaws.{answerOf};
+ghost use Rattle.oracles.specs.EllCommon.{calcOf, answerOf, is-tiny, is-success, centreOf};
 
 // Which calculator of `EllCalc` an update uses.
 pub enum CutStrategy {
@@ -26,7 +25,7 @@ pub enum Update {
     Refused(Refusal),
 }
 
-// The same in one byte, as the inner functions hand it on.
+// The same in one byte, which the machine hands on in a register.
 pub enum Outcome {
     Success,
     NoSoln,

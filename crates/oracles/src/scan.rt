@@ -347,7 +347,19 @@ fn scan_rows(
     if is_broken(viol) {
         return s;
     }
-    scan_rest(n, table, x, lo, hi, row + 1, all - 1, lower, limit, s.fmax, s.kmax)
+    scan_rest(
+        n,
+        table,
+        x,
+        lo,
+        hi,
+        row + 1,
+        all - 1,
+        lower,
+        limit,
+        s.fmax,
+        s.kmax,
+    )
 }
 
 // A refusal, and the cursor as it came.

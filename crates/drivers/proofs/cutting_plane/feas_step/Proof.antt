@@ -1,7 +1,7 @@
 -- `drivers::cutting_plane::feas_step` meets its contract. Assumes nothing.
 use mathlib.Core.Path.{ap, _∙_}
 use borrow.Author.Needs.{needs}
-use Rattle.oracles.specs.EllLaws.{updated}
+use Rattle.oracles.specs.Ell.{updated}
 use Rattle.drivers.specs.CuttingPlane.{said-of}
 use Rattle.drivers.proofs.cutting_plane.Steps.{step-feasible, step-refused, step-cut}
 use Rattle.drivers.proofs.cutting_plane.feas_step.Statement.{statement}

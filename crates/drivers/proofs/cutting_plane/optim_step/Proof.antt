@@ -1,6 +1,6 @@
 -- `drivers::cutting_plane::optim_step` meets its contract. Assumes nothing.
 use borrow.Author.Needs.{needs}
-use Rattle.oracles.specs.EllLaws.{updated}
+use Rattle.oracles.specs.Ell.{updated}
 use Rattle.drivers.proofs.cutting_plane.Steps.{step-improved, step-cut-off, step-halted}
 use Rattle.drivers.proofs.cutting_plane.optim_step.Statement.{statement}
 use Rattle.drivers.proofs.cutting_plane.optim_step.Tie as tie

@@ -80,8 +80,7 @@ loop-again c =
     let t = c .before .before .before .before .before in
     let l = t .before .loop in
     let h = t .loop-test .taken in
-    let long = st .pre .2 in
-    (
+    let long = st .pre .2 in (
       part-again-first n rows x (l .j) (l .a) long (omega arith) (l .inv .0) h,
       part-again n rows x (l .j) n (l .b) long (omega arith) (l .inv .1) h,
       part-again n rows x (l .j) (2 * n) (l .c) long (omega arith) (l .inv .2) h,
@@ -97,8 +96,7 @@ returns c =
     let x = a .x .now in
     let l = c .before .loop in
     let h = c .loop-test .left in
-    let long = st .pre .2 in
-    (
+    let long = st .pre .2 in (
       part-done n rows x (l .j) 0 (l .a) long (omega arith) (l .inv .0) h,
       part-done n rows x (l .j) n (l .b) long (omega arith) (l .inv .1) h,
       part-done n rows x (l .j) (2 * n) (l .c) long (omega arith) (l .inv .2) h,

@@ -53,8 +53,7 @@ returns c =
     let m = c .before .before in
     let l = m .before .before .before in
     let st = l .before .before .before in
-    let a = st .args in
-    (
+    let a = st .args in (
       gives (a .n) (a .rows) (a .table .now) (a .x .now) (a .start) (a .lower) (a .upper) (st .pre) (l .scan-lent .ensures) (m .before .answer .given .1),
       rw (toZ-ofZ (record { sfits = c .before .struct-told .given .1 .1 .1 .0 .1 })) (rw (toZ-ofZ (record { sfits = c .struct-told2 .given .1 .0 .1 })) (rw (toZ-ofZ (record { sfits = c .struct-told2 .given .1 .1 .0 .1 })) refl)),
     )

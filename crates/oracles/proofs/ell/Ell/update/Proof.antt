@@ -2,7 +2,7 @@
 use mathlib.Core.Path.{_∙_}
 use borrow.Author.Needs.{needs}
 use Rattle.numbers.specs.ArrLaws.{dimension-most}
-use Rattle.oracles.specs.EllLaws.{updated}
+use Rattle.oracles.specs.Ell.{updated}
 use Rattle.oracles.proofs.ell_common.Laws.{multiplied}
 use Rattle.oracles.proofs.ell.Laws.{no-effect, fails, succeeds}
 use Rattle.oracles.proofs.ell.Ell.update.Statement.{statement}
