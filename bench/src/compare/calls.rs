@@ -236,3 +236,17 @@ fn give_numbers(read: &Read, got: &mut Case) {
     let [nwpass, nwstop] = read.bands;
     keep(rest == [-1, nwpass - 1, nwstop - 1, -1], got);
 }
+
+#[cfg(test)]
+mod tests {
+    use super::*;
+    use std::time::Duration;
+
+    #[test]
+    fn every_call_agrees() {
+        let mut tally = Tally::default();
+        compare(1, Instant::now() + Duration::from_secs(2), &mut tally);
+        assert!(tally.print());
+        assert_eq!(tally.counts.len(), CALLS.len());
+    }
+}

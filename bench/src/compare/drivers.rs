@@ -19,10 +19,15 @@ pub fn fill(op: u64, src: &mut Source, case: &mut Case) {
     for (cursor, band) in f.state.cursors.iter_mut().zip(bands) {
         (cursor.lo, cursor.hi) = band;
     }
-    f.state.idx = f.state.cursors.map(|c| c.cur);
+    f.state.idx = before(f.nwpass, f.nwstop);
     (f.state.fmax, f.state.kmax) = (f64::NEG_INFINITY, -1);
     f.state.more_alt = true;
     any_of(any, improve, case);
+}
+
+/// Each idx of an oracle that starts: its band's lo less one. What is no band is refused.
+fn before(nwpass: i32, nwstop: i32) -> [i32; 3] {
+    [0, nwpass, nwstop].map(|lo: i32| lo.wrapping_sub(1))
 }
 
 pub fn feas(taken: &mut Taken, got: &mut Case) {
@@ -87,17 +92,18 @@ fn take(taken: &mut Taken, improve: bool) -> (Task, Left) {
     (task, left)
 }
 
-/// Slices and state. Where n is refused nothing is told, and the state is the start's.
+/// Slices and state. Where a run is refused nothing is told, and the state is the start's.
 fn give(no: u64, task: &Task, left: &Left, got: &mut Case) {
     let slices = [&left.best, &left.xc, &left.mq, &left.grad, &left.grad_t];
     slices.iter().for_each(|part| got.give_floats(part));
     let (mut more_alt, mut marks, mut values) = (left.answer[2], left.marks, left.values);
-    if no == 1 {
-        let told = (left.answer, left.marks, left.values);
-        keep(told == ([7; 3], [7; 7], [7.0; 4]), got);
+    let refused = no != 0 && no != 6;
+    if refused {
         let [a, b, c] = task.cur;
-        (more_alt, marks) = (1, [a, b, c, a, b, c, -1]);
-        values = [task.sp_sq, f64::NEG_INFINITY, 0.0, 0.0];
+        let [i, j, k] = before(task.nwpass, task.nwstop);
+        (more_alt, marks) = (1, [a, b, c, i, j, k, -1]);
+        let kappa = if no == 1 { 0.0 } else { task.kappa };
+        values = [task.sp_sq, f64::NEG_INFINITY, kappa, 0.0];
     }
     let [sp_sq, fmax, kappa, tsq] = values;
     let [cur_and_idx @ .., kmax] = marks;
@@ -106,6 +112,6 @@ fn give(no: u64, task: &Task, left: &Left, got: &mut Case) {
     got.give_signed(kmax);
     got.give(more_alt);
     got.give_floats(&[sp_sq, kappa, tsq]);
-    let refused = no != 0 && no != 6;
-    keep(!refused || no == 1 || left.answer[..2] == [0, 0], got);
+    let told = (left.answer, left.marks, left.values);
+    keep(!refused || told == ([7; 3], [7; 7], [7.0; 4]), got);
 }
