@@ -7,7 +7,9 @@ use lib.IntN.{ℤ, pos, predℤ}
 use lib.Ieee.{Float, inf, lt}
 use Rattle.numbers.specs.Pick.{pick}
 use Rattle.numbers.specs.declared.arr.Four.{Four}
+use Rattle.oracles.specs.RoundRobin.{Legal}
 use Rattle.oracles.specs.Scan.{valueOf}
+use Rattle.oracles.specs.declared.round_robin.RoundRobin.{RoundRobin}
 use Rattle.oracles.specs.declared.scan.Upper.{Upper}
 use Rattle.oracles.specs.declared.scan.Upper.the-variants.{Absent, At}
 use Rattle.oracles.specs.declared.scan.Violation.{Violation}
@@ -47,10 +49,8 @@ runOf n table x lower limit (suc count) i fmax kmax =
     let s = judgedOf lower limit i (valueOf n table x i) fmax kmax in
     pick (isBroken (s .viol)) s (runOf n table x lower limit count (suc i) (s .fmax) (s .kmax))
 
--- a scan of the band lo .. hi − 1 with rows left, the next of them `next`, where the band's end stands for its start
-pub record Going (n : ℕ) (table : List Float) (lo hi next left : ℕ) : Type 0 where
-  pub above : lo ≤ next
-  pub below : next ≤ hi
-  pub room : left ≤ hi - lo
-  pub small : hi ≤ 1024
-  pub high : hi * n ≤ length table
+-- a scan from c with rows left, no more than the band has
+pub record Going (n : ℕ) (table : List Float) (c : RoundRobin) (left : ℕ) : Type 0 where
+  pub legal : Legal c
+  pub room : left ≤ legal .past - legal .from
+  pub high : legal .past * n ≤ length table

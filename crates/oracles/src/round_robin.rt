@@ -3,7 +3,7 @@ use numbers::refusal::Refusal;
 ghost use mathlib.Core.Path.{_≡_};
 ghost use Prim.Native.Nat.{_<_};
 ghost use lib.IntN.{pos};
-ghost use Rattle.oracles.specs.RoundRobin.{isBand, isAt, advanced, new-range-answer, advance-answer, Legal};
+ghost use Rattle.oracles.specs.RoundRobin.{isBand, isAt, moved, advanced, new-range-answer, advance-answer, Legal};
 
 // Row numbers of the band lo .. hi − 1, each in turn; cur is the last one given, lo − 1 at first.
 pub struct RoundRobin {
@@ -51,6 +51,17 @@ impl RoundRobin {
         ensures { λ r. ⌜ r ≡ isAt self ⌝ }
     {
         self.cur < self.hi && self.lo <= self.cur + 1
+    }
+
+    // The cursor at another row.
+    pub(crate) fn moved(self, cur: i32) -> RoundRobin
+        ensures { λ r. ⌜ r ≡ moved self cur ⌝ }
+    {
+        RoundRobin {
+            cur: cur,
+            lo: self.lo,
+            hi: self.hi,
+        }
     }
 
     // `advance` with nothing left to refuse.

@@ -8,15 +8,14 @@ use numbers::arr::is_dimension;
 use numbers::refusal::Refusal;
 ghost use mathlib.Core.Path.{_≡_};
 ghost use Prim.Native.Nat.{_+_, _*_, _≤_, _<_};
-ghost use lib.Dec.{eqb};
+ghost use lib.Dec.{T, eqb};
 ghost use mathlib.Core.Bool.{_&&_};
 ghost use mathlib.Core.Logic.{_⊎_};
-ghost use lib.IntN.{pos, predℤ};
+ghost use lib.IntN.{pos, natAbs};
+ghost use lib.Signed.{nonNeg};
 ghost use lib.ListN.{length};
 ghost use Rattle.oracles.specs.RoundRobin.{moved, Legal};
 ghost use Rattle.oracles.specs.declared.scan.ScanAnswer.the-variants.{Refused};
-ghost use Rattle.numbers.specs.Pick.{pick};
-ghost use Rattle.oracles.specs.RoundRobinLaws.{canon};
 ghost use Rattle.oracles.specs.declared.scan.Upper.the-variants.{At};
 ghost use Rattle.oracles.specs.ScanRun.{limitOf, isBroken, valuesOf, judgedOf, runOf, Going};
 ghost use Rattle.oracles.specs.Scan.{valueOf, isRows, band-fits, scanFrom, scanOf, scan-band-answer, Ready, Scannable};
@@ -123,27 +122,12 @@ fn band_past(rr: RoundRobin) -> usize
     rr.hi as usize
 }
 
-// The row after the one where it stands.
-fn row_after(rr: RoundRobin) -> usize
-    requires { ⌜ Legal rr ⌝ }
-    ensures { λ r. ⌜ rr .cur ≡ predℤ (pos r) ⌝ }
+// The row where it stands.
+fn row_at(rr: RoundRobin) -> usize
+    requires { ⌜ T (nonNeg (rr .cur)) ⌝ }
+    ensures { λ r. ⌜ r ≡ natAbs (rr .cur) ⌝ }
 {
-    (rr.cur + 1) as usize
-}
-
-// Where a cursor stands whose next row is `next`.
-fn row_before(next: usize) -> i32
-    requires { ⌜ next ≤ 1024 ⌝ }
-    ensures { λ r. ⌜ r ≡ predℤ (pos next) ⌝ }
-{
-    next as i32 - 1
-}
-
-// The band's end turns into its start.
-fn turned(next: usize, lo: usize, hi: usize) -> usize
-    ensures { λ r. ⌜ r ≡ pick (eqb next hi) lo next ⌝ }
-{
-    if next == hi { lo } else { next }
+    rr.cur as usize
 }
 
 // Row i's value: the row is the part of the table that begins at i × n.
@@ -273,30 +257,29 @@ fn rows_together(left: usize, ahead: usize) -> usize
     4
 }
 
-// `count` rows of the band lo .. hi − 1 from row `from` on, after the largest value so far and its row.
+// `count` rows from a cursor on, after the largest value so far and its row. The cursor goes on to a row, and from there to the last that is looked at with it.
 fn scan_rest(
     n: usize,
     table: &[f64],
     x: &[f64],
-    lo: usize,
-    hi: usize,
-    from: usize,
+    start: RoundRobin,
     count: usize,
     lower: f64,
     limit: f64,
     peak: f64,
     peak_row: i32,
 ) -> Scan
-    requires { ⌜ Going n (now table) lo hi from count × (length (now x) ≡ n) ⌝ }
-    ensures { λ r. ⌜ r ≡ scanFrom n (now (table .entry)) (now (x .entry)) lower (At limit) count (canon lo hi from) peak «peak_row» ⌝ }
+    requires { ⌜ Going n (now table) start count × (length (now x) ≡ n) ⌝ }
+    ensures { λ r. ⌜ r ≡ scanFrom n (now (table .entry)) (now (x .entry)) lower (At limit) count start peak «peak_row» ⌝ }
 {
-    let mut next = from;
+    let mut rr = start;
     let mut fmax = peak;
     let mut kmax = peak_row;
     let mut left = count;
     while left > 0 {
-        let row = turned(next, lo, hi);
-        let many = rows_together(left, hi - row);
+        rr = rr.step();
+        let row = row_at(rr);
+        let many = rows_together(left, band_past(rr) - row);
         let s = look_at(n, table, x, row, many, lower, limit, fmax, kmax);
         let viol = s.viol;
         if is_broken(viol) {
@@ -304,14 +287,14 @@ fn scan_rest(
         }
         fmax = s.fmax;
         kmax = s.kmax;
-        next = row + many;
+        rr = rr.moved(s.last);
         left -= many;
     }
     Scan {
         viol: Violation::Nothing,
         fmax: fmax,
         kmax: kmax,
-        last: row_before(next),
+        last: rr.cur,
     }
 }
 
@@ -328,9 +311,7 @@ fn scan_rows(
     ensures { λ r. ⌜ r ≡ scanOf n (now (table .entry)) (now (x .entry)) start lower upper ⌝ }
 {
     let limit = limit_of(upper);
-    let lo = band_from(start);
-    let hi = band_past(start);
-    let all = hi - lo;
+    let all = band_past(start) - band_from(start);
     let fmax: f64 = -1.0 / 0.0;
     if all == 0 {
         return Scan {
@@ -340,26 +321,15 @@ fn scan_rows(
             last: start.cur,
         };
     }
-    let row = turned(row_after(start), lo, hi);
+    let rr = start.step();
+    let row = row_at(rr);
     let value = row_value(n, table, x, row);
     let s = judge(row, value, lower, limit, fmax, -1);
     let viol = s.viol;
     if is_broken(viol) {
         return s;
     }
-    scan_rest(
-        n,
-        table,
-        x,
-        lo,
-        hi,
-        row + 1,
-        all - 1,
-        lower,
-        limit,
-        s.fmax,
-        s.kmax,
-    )
+    scan_rest(n, table, x, rr, all - 1, lower, limit, s.fmax, s.kmax)
 }
 
 // A refusal, and the cursor as it came.
@@ -465,11 +435,7 @@ pub(crate) fn scan_ready(
         // its lo and hi are the start's, which the caller has at hand
         ScanAnswer::Scanned(scan) => Swept {
             scan: scan,
-            cursor: RoundRobin {
-                cur: scan.last,
-                lo: start.lo,
-                hi: start.hi,
-            },
+            cursor: start.moved(scan.last),
         },
         // does not occur
         ScanAnswer::Refused(_) => Swept {

@@ -5,7 +5,7 @@ use mathlib.Core.List.{List}
 use Prim.Native.Nat.{ℕ, zero, suc, _≤_, _+_}
 use native.Mathlib.Nat.{zero-add, add-zero, suc-add}
 use native.Mathlib.Omega.{arith}
-use lib.IntN.{ℤ, pos, natAbs}
+use lib.IntN.{ℤ, pos, predℤ, natAbs}
 use lib.Ieee.{Float, nan, inf, fin, lt}
 use Rattle.numbers.specs.Pick.{pick, hit, skip}
 use Rattle.oracles.specs.RoundRobin.{advanced}
@@ -75,6 +75,20 @@ module _ (n : ℕ) (table x : List Float) (lower limit : Float) where
         go true u = refl
         go false true = refl
         go false false = refl
+
+  -- where a run ends that breaks nothing
+  pub run-last : (m i : ℕ) (f : Float) (k : ℤ) → isBroken (runOf n table x lower limit m i f k .viol) ≡ false → runOf n table x lower limit m i f k .last ≡ predℤ (pos (i + m))
+  unfolding runOf pick
+  run-last zero i f k b = ap (λ (z : ℕ). predℤ (pos z)) (sym (add-zero i))
+  run-last (suc m) i f k b = go (isBroken (judged i f k .viol)) refl (run-last m (suc i) (judged i f k .fmax) (judged i f k .kmax)) b
+    where
+      rest : Scan
+      rest = runOf n table x lower limit m (suc i) (judged i f k .fmax) (judged i f k .kmax)
+
+      go : (t : Bool) → isBroken (judged i f k .viol) ≡ t → (isBroken (rest .viol) ≡ false → rest .last ≡ predℤ (pos (suc i + m)))
+          → isBroken (pick t (judged i f k) rest .viol) ≡ false → pick t (judged i f k) rest .last ≡ predℤ (pos (i + suc m))
+      go true h r q = absurd (true≢false (sym h ∙ q))
+      go false h r q = r q ∙ ap (λ (z : ℕ). predℤ (pos z)) (let e : suc i + m ≡ i + suc m = omega arith in e)
 
 -- ---- a scan with the upper limit as a number
 

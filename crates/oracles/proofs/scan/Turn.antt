@@ -1,20 +1,18 @@
 -- The turn of the scan's loop: where the cursor goes, and what the rows that are looked at leave to be found. Assumes nothing.
 use mathlib.Core.Path.{_≡_, refl, sym, ap, _∙_, subst}
-use mathlib.Core.Bool.{Bool, true, false}
-use mathlib.Core.Logic.{_⊎_, inl, inr}
+use mathlib.Core.Bool.{true, false}
 use mathlib.Core.List.{List}
-use Prim.Native.Nat.{ℕ, suc, _≤_, _<_, _+_, _*_, _-_}
-use native.Mathlib.Nat.{le-trans, mul-le-mul-right}
+use Prim.Native.Nat.{ℕ, zero, suc, _≤_, _<_, _+_, _*_, _-_}
+use native.Mathlib.Nat.{mul-le-mul-right}
 use native.Mathlib.Omega.{arith}
-use borrow.Author.Tests.{eqb-true, eqb-false}
-use lib.Dec.{eqb}
-use lib.IntN.{ℤ, pos, predℤ, sucℤ, natAbs, _-ℤ_, suc-pred}
+use lib.Dec.{T}
+use lib.IntN.{ℤ, pos, predℤ, natAbs, _-ℤ_}
+use lib.Signed.{nonNeg}
 use lib.ListN.{length}
 use lib.Ieee.{Float}
-use Rattle.numbers.specs.Pick.{pick, hit, skip}
-use Rattle.oracles.specs.RoundRobin.{advanced, Legal}
-use Rattle.oracles.specs.RoundRobinLaws.{canon, adv-next, adv-wrap}
-use Rattle.oracles.specs.ScanLaws.{band-count}
+use Rattle.oracles.specs.RoundRobin.{moved, advanced, Legal}
+use Rattle.oracles.specs.RoundRobinLaws.{canon, legal-canon, adv-next}
+use Rattle.oracles.specs.ScanLaws.{NextRow, next-row, band-count}
 use Rattle.oracles.specs.Scan.{−∞, none, valueOf, scanFrom, scanOf, Ready}
 use Rattle.oracles.specs.ScanRun.{limitOf, isBroken, judgedOf, runOf, Going}
 use Rattle.oracles.specs.declared.round_robin.RoundRobin.{RoundRobin}
@@ -22,137 +20,172 @@ use Rattle.oracles.specs.declared.scan.Upper.{Upper}
 use Rattle.oracles.specs.declared.scan.Upper.the-variants.{At}
 use Rattle.oracles.specs.declared.scan.Violation.the-variants.{Nothing}
 use Rattle.oracles.specs.declared.scan.Scan.{Scan}
-use Rattle.oracles.proofs.scan.Run.{after, after-broken, after-whole, run-one, by-limit, by-run}
+use Rattle.oracles.proofs.scan.Run.{after, after-broken, after-whole, run-one, run-last, by-limit, by-run}
+
+-- a scan of the band from .. past − 1 whose next row is `next`
+going : (n : ℕ) (table : List Float) (from past next left : ℕ) → from ≤ next → next ≤ past → past ≤ 1024 → left ≤ past - from → past * n ≤ length table → Going n table (canon from past next) left
+going n table from past next left a b s r h =
+    record { legal = record { from = from; past = past; next = next; lo-is = refl; hi-is = refl; cur-is = refl; above = a; below = b; small = s }; room = r; high = h }
+
+-- a scan goes by where its cursor goes
+same-way : (n : ℕ) (table x : List Float) (lower : Float) (upper : Upper) (left : ℕ) (c e : RoundRobin) (f : Float) (k : ℤ) → 0 < left → advanced c ≡ advanced e
+    → scanFrom n table x lower upper left c f k ≡ scanFrom n table x lower upper left e f k
+unfolding scanFrom
+same-way n table x lower upper zero c e f k h q = absurd (omega arith)
+same-way n table x lower upper (suc left) c e f k h q = rw q refl
+
+-- ---- a turn
+
+module _ {n : ℕ} {table : List Float} (x : List Float) (lower limit : Float) {c : RoundRobin} {left : ℕ} (f : Float) (k : ℤ) {whole : Scan} (G : Going n table c left)
+    (inv : scanFrom n table x lower (At limit) left c f k ≡ whole) where
+  pub clear : left ≤ 0 → record { viol = Nothing; fmax = f; kmax = k; last = c .cur } ≡ whole
+  unfolding scanFrom
+  clear h = let e : left ≡ 0 = omega arith in rw e at inv
+
+  module _ (some : 0 < left) {d : RoundRobin} (ed : d ≡ advanced c) where
+    abbrev lo : ℕ
+    lo = G .legal .from
+
+    abbrev hi : ℕ
+    hi = G .legal .past
+
+    next : NextRow lo hi (G .legal .next)
+    next = next-row lo hi (G .legal .next) (G .legal .above) (G .legal .below) (omega (arith, G .room))
+
+    goes-to : d ≡ canon lo hi (suc (next .row))
+    goes-to = ed ∙ ap advanced (legal-canon c (G .legal)) ∙ next .goes
+
+    stands : d .cur ≡ pos (next .row)
+    stands = ap (λ (e : RoundRobin). e .cur) goes-to
+
+    pub row-there : T (nonNeg (d .cur))
+    row-there = rw stands tt
+
+    pub legal-there : Legal d
+    legal-there = subst Legal (sym goes-to) (going n table lo hi (suc (next .row)) 0 (omega (arith, next .low)) (next .high) (G .legal .small) (omega arith) (G .high) .legal)
+
+    pub left-there : Going n table d (left - 1)
+    left-there =
+        subst (λ (e : RoundRobin). Going n table e (left - 1)) (sym goes-to)
+        (going n table lo hi (suc (next .row)) (left - 1) (omega (arith, next .low)) (next .high) (G .legal .small) (omega (arith, G .room)) (G .high))
+
+    module _ {row : ℕ} (er : row ≡ natAbs (d .cur)) where
+      row-is : row ≡ next .row
+      row-is = er ∙ ap natAbs stands
+
+      low : lo ≤ row
+      low = omega (arith, row-is, next .low)
+
+      high : row < hi
+      high = omega (arith, row-is, next .high)
+
+      pub row-small : row < 1024
+      row-small = omega (arith, high, G .legal .small)
+
+      -- the scan from the cursor just before that row
+      at-row : scanFrom n table x lower (At limit) left (canon lo hi row) f k ≡ whole
+      at-row =
+          let q : advanced (canon lo hi row) ≡ advanced c = adv-next lo hi row (λ z. omega (arith, high)) ∙ ap (λ (z : ℕ). canon lo hi (suc z)) row-is ∙ sym goes-to ∙ ed in
+          same-way n table x lower (At limit) left (canon lo hi row) c f k some q ∙ inv
+
+      module _ {past : ℕ} (ep : d .hi ≡ pos past) where
+        past-is : past ≡ hi
+        past-is = ap natAbs (sym ep ∙ ap (λ (e : RoundRobin). e .hi) goes-to)
+
+        pub row-before-past : row < past
+        row-before-past = omega (arith, high, past-is)
+
+        module _ {many : ℕ} (within : many ≤ left) (ahead : many ≤ past - row) where
+          fits : row + many ≤ hi
+          fits = omega (arith, high, past-is)
+
+          pub rows-small : row + many ≤ 1024
+          rows-small = omega (arith, fits, G .legal .small)
+
+          pub rows-in : row * n + many * n ≤ length table
+          rows-in =
+              let e : (row + many) * n ≡ row * n + many * n = omega arith in
+              let h : (row + many) * n ≤ hi * n = mul-le-mul-right n fits in
+              omega (arith, e, h, G .high)
+
+          module _ {s : Scan} (es : s ≡ runOf n table x lower limit many row f k) where
+            opened : after s (scanFrom n table x lower (At limit) (left - many) (canon lo hi (row + many)) (s .fmax) (s .kmax)) ≡ whole
+            opened =
+                let l : many + (left - many) ≡ left = omega arith in
+                rw es (sym (by-run n table x lower limit lo hi many (left - many) row f k fits) ∙ rw l at-row)
+
+            pub ends : isBroken (s .viol) ≡ true → s ≡ whole
+            ends b = after-broken s _ b ∙ opened
+
+            module _ (b : isBroken (s .viol) ≡ false) where
+              last-is : s .last ≡ predℤ (pos (row + many))
+              last-is = ap (λ (z : Scan). z .last) es ∙ run-last n table x lower limit many row f k (ap (λ (z : Scan). isBroken (z .viol)) (sym es) ∙ b)
+
+              -- the cursor after the last of the rows
+              on : moved d (s .last) ≡ canon lo hi (row + many)
+              on = λ i. record { cur = last-is i; lo = goes-to i .lo; hi = goes-to i .hi }
+
+              -- of one row, it is where the cursor stands
+              pub one-row : many ≡ 1 → d ≡ moved d (s .last)
+              one-row e = goes-to ∙ ap (λ (z : ℕ). canon lo hi z) (let q : suc (next .row) ≡ row + many = omega (arith, row-is) in q) ∙ sym on
+
+              pub still : {e : RoundRobin} → e ≡ moved d (s .last) → Going n table e (left - many)
+              still {e} q =
+                  subst (λ (z : RoundRobin). Going n table z (left - many)) (sym (q ∙ on))
+                  (going n table lo hi (row + many) (left - many) (omega (arith, low)) fits (G .legal .small) (omega (arith, G .room)) (G .high))
+
+              pub goes-on : {e : RoundRobin} → e ≡ moved d (s .last) → scanFrom n table x lower (At limit) (left - many) e (s .fmax) (s .kmax) ≡ whole
+              goes-on {e} q = ap (λ (z : RoundRobin). scanFrom n table x lower (At limit) (left - many) z (s .fmax) (s .kmax)) (q ∙ on) ∙ after-whole s _ b ∙ opened
 
 -- ---- the start
 
-module _ (n : ℕ) (table x : List Float) (c : RoundRobin) (R : Ready n table x c) (lo hi : ℕ) (el : c .lo ≡ pos lo) (eh : c .hi ≡ pos hi) where
+module _ {n : ℕ} {table x : List Float} {c : RoundRobin} (R : Ready n table x c) {lo hi : ℕ} (el : c .lo ≡ pos lo) (eh : c .hi ≡ pos hi) where
   from-is : R .legal .from ≡ lo
   from-is = ap natAbs (sym (R .legal .lo-is) ∙ el)
 
-  past-is : R .legal .past ≡ hi
-  past-is = ap natAbs (sym (R .legal .hi-is) ∙ eh)
+  hi-is : R .legal .past ≡ hi
+  hi-is = ap natAbs (sym (R .legal .hi-is) ∙ eh)
 
   pub ordered : lo ≤ hi
-  ordered = omega (arith, from-is, past-is, R .legal .above, R .legal .below)
+  ordered = omega (arith, from-is, hi-is, R .legal .above, R .legal .below)
 
   counted : natAbs (c .hi -ℤ c .lo) ≡ hi - lo
-  counted = band-count c (R .legal) ∙ (λ i. past-is i - from-is i)
+  counted = band-count c (R .legal) ∙ (λ i. hi-is i - from-is i)
+
+  pub starts : Going n table c (hi - lo)
+  starts = record { legal = R .legal; room = omega (arith, from-is, hi-is); high = R .high }
 
   -- of a band with no rows
   pub empty : (lower : Float) (upper : Upper) → hi - lo ≡ 0 → record { viol = Nothing; fmax = −∞; kmax = none; last = c .cur } ≡ scanOf n table x c lower upper
   unfolding scanOf scanFrom
   empty lower upper h = rw (counted, h) refl
 
-  module _ (next : ℕ) (ec : c .cur ≡ predℤ (pos next)) where
-    next-is : R .legal .next ≡ next
-    next-is = ap natAbs (sym (suc-pred (pos (R .legal .next))) ∙ ap sucℤ (sym (R .legal .cur-is) ∙ ec) ∙ suc-pred (pos next))
-
-    pub starts : Going n table lo hi next (hi - lo)
-    starts = record {
-      above = omega (arith, from-is, next-is, R .legal .above);
-      below = omega (arith, past-is, next-is, R .legal .below);
-      room = omega arith;
-      small = omega (arith, past-is, R .legal .small);
-      high = subst (λ (h : ℕ). h * n ≤ length table) past-is (R .high);
-    }
-
-    pub start-is : (lower : Float) (upper : Upper) (limit : Float) → limit ≡ limitOf upper
-        → scanFrom n table x lower (At limit) (hi - lo) (canon lo hi next) −∞ none ≡ scanOf n table x c lower upper
+  module _ (lower : Float) (upper : Upper) {limit : Float} (em : limit ≡ limitOf upper) where
+    pub start-is : scanFrom n table x lower (At limit) (hi - lo) c −∞ none ≡ scanOf n table x c lower upper
     unfolding scanOf
-    start-is lower upper limit e =
-        rw e
-        (by-limit n table x lower upper (hi - lo) (canon lo hi next) −∞ none
-        ∙ sym (λ i. scanFrom n table x lower upper (counted i) (record { cur = ec i; lo = el i; hi = eh i }) −∞ none))
+    start-is = rw (em, counted) (by-limit n table x lower upper (hi - lo) c −∞ none)
 
--- ---- a turn
+    -- ---- the first row
+    module _ (some : hi - lo ≡ 0 → ⊥) {d : RoundRobin} (ed : d ≡ advanced c) {row : ℕ} (er : row ≡ natAbs (d .cur)) where
+      rows : 0 < hi - lo
+      rows = omega (arith, some)
 
-module _ (n : ℕ) (table x : List Float) (lower limit : Float) (lo hi next left : ℕ) (f : Float) (k : ℤ) {whole : Scan} (G : Going n table lo hi next left)
-    (inv : scanFrom n table x lower (At limit) left (canon lo hi next) f k ≡ whole) where
-  pub clear : left ≤ 0 → record { viol = Nothing; fmax = f; kmax = k; last = predℤ (pos next) } ≡ whole
-  unfolding scanFrom
-  clear h = let e : left ≡ 0 = omega arith in rw e at inv
+      past-there : d .hi ≡ pos hi
+      unfolding advanced
+      past-there = ap (λ (e : RoundRobin). e .hi) ed ∙ eh
 
-  module _ (some : 0 < left) (row : ℕ) (er : row ≡ pick (eqb next hi) lo next) where
-    -- the row, by where the cursor stands
-    turned-to : ((next ≡ hi) × (row ≡ lo)) ⊎ ((next ≡ hi → ⊥) × (row ≡ next))
-    unfolding pick
-    turned-to = go (eqb next hi) refl er
-      where
-        go : (t : Bool) → eqb next hi ≡ t → row ≡ pick t lo next → ((next ≡ hi) × (row ≡ lo)) ⊎ ((next ≡ hi → ⊥) × (row ≡ next))
-        go true e q = inl (eqb-true next hi e, q)
-        go false e q = inr (eqb-false next hi e, q)
+      ahead : 1 ≤ hi - row
+      ahead = omega (arith, row-before-past x lower limit −∞ none starts start-is rows ed er past-there)
 
-    pub row-low : lo ≤ row
-    row-low = elim turned-to [ inl p ↦ omega (arith, p .1) | inr p ↦ omega (arith, p .1, G .above) ]
+      pub first-in : row * n + n ≤ length table
+      first-in = omega (arith, rows-in x lower limit −∞ none starts start-is rows ed er past-there rows ahead)
 
-    pub row-high : row < hi
-    row-high = elim turned-to [ inl p ↦ omega (arith, p .1, G .room) | inr p ↦ omega (arith, p .0, p .1, G .below) ]
+      module _ {s : Scan} (es : s ≡ judgedOf lower limit row (valueOf n table x row) −∞ none) where
+        one : s ≡ runOf n table x lower limit 1 row −∞ none
+        one = run-one n table x lower limit row −∞ none es
 
-    -- the scan goes on as from the band's start where the cursor stands at its end
-    at-row : scanFrom n table x lower (At limit) left (canon lo hi row) f k ≡ whole
-    unfolding scanFrom
-    at-row = elim turned-to [ inl p ↦ rw (p .1) (from-start (p .0)) | inr p ↦ rw (p .1) inv ]
-      where
-        from-start : next ≡ hi → scanFrom n table x lower (At limit) left (canon lo hi lo) f k ≡ whole
-        from-start e =
-            let l : left ≡ suc (left - 1) = omega arith in
-            let q : advanced (canon lo hi lo) ≡ advanced (canon lo hi hi) = adv-next lo hi lo (λ z. omega (arith, G .room)) ∙ sym (adv-wrap lo hi) in
-            rw (l, q) (rw (e, l) at inv)
+        pub first-ends : isBroken (s .viol) ≡ true → s ≡ scanOf n table x c lower upper
+        first-ends = ends x lower limit −∞ none starts start-is rows ed er past-there rows ahead one
 
-    module _ (many : ℕ) (within : many ≤ left) (ahead : many ≤ hi - row) where
-      pub rows-in : row * n + many * n ≤ length table
-      rows-in =
-          let e : (row + many) * n ≡ row * n + many * n = omega arith in
-          let h : (row + many) * n ≤ hi * n = mul-le-mul-right n (let l : row + many ≤ hi = omega (arith, row-high) in l) in
-          omega (arith, e, h, G .high)
-
-      pub still : Going n table lo hi (row + many) (left - many)
-      still = record { above = omega (arith, row-low); below = omega (arith, row-high); room = omega (arith, G .room); small = G .small; high = G .high }
-
-      module _ {s : Scan} (es : s ≡ runOf n table x lower limit many row f k) where
-        opened : after s (scanFrom n table x lower (At limit) (left - many) (canon lo hi (row + many)) (s .fmax) (s .kmax)) ≡ whole
-        opened =
-            let l : many + (left - many) ≡ left = omega arith in
-            rw es (sym (by-run n table x lower limit lo hi many (left - many) row f k (omega (arith, row-high))) ∙ rw l at-row)
-
-        pub ends : isBroken (s .viol) ≡ true → s ≡ whole
-        ends b = after-broken s _ b ∙ opened
-
-        pub goes-on : isBroken (s .viol) ≡ false → scanFrom n table x lower (At limit) (left - many) (canon lo hi (row + many)) (s .fmax) (s .kmax) ≡ whole
-        goes-on b = after-whole s _ b ∙ opened
-
--- ---- the first row
-
-module _ (n : ℕ) (table x : List Float) (c : RoundRobin) (R : Ready n table x c) (lo hi : ℕ) (el : c .lo ≡ pos lo) (eh : c .hi ≡ pos hi) (next : ℕ) (ec : c .cur ≡ predℤ (pos next))
-    (lower : Float) (upper : Upper) (limit : Float) (em : limit ≡ limitOf upper) (some : hi - lo ≡ 0 → ⊥) (row : ℕ) (er : row ≡ pick (eqb next hi) lo next) where
-  start : Going n table lo hi next (hi - lo)
-  start = starts n table x c R lo hi el eh next ec
-
-  all-rows : scanFrom n table x lower (At limit) (hi - lo) (canon lo hi next) −∞ none ≡ scanOf n table x c lower upper
-  all-rows = start-is n table x c R lo hi el eh next ec lower upper limit em
-
-  rows : 0 < hi - lo
-  rows = omega (arith, some)
-
-  pub first-high : row < hi
-  first-high = row-high n table x lower limit lo hi next (hi - lo) −∞ none start all-rows rows row er
-
-  ahead : 1 ≤ hi - row
-  ahead = omega (arith, first-high)
-
-  pub first-in : row * n + n ≤ length table
-  first-in = omega (arith, rows-in n table x lower limit lo hi next (hi - lo) −∞ none start all-rows rows row er 1 rows ahead)
-
-  pub rest-going : Going n table lo hi (row + 1) (hi - lo - 1)
-  rest-going = still n table x lower limit lo hi next (hi - lo) −∞ none start all-rows rows row er 1 rows ahead
-
-  module _ {s : Scan} (es : s ≡ judgedOf lower limit row (valueOf n table x row) −∞ none) where
-    one : s ≡ runOf n table x lower limit 1 row −∞ none
-    one = run-one n table x lower limit row −∞ none es
-
-    pub first-ends : isBroken (s .viol) ≡ true → s ≡ scanOf n table x c lower upper
-    first-ends = ends n table x lower limit lo hi next (hi - lo) −∞ none start all-rows rows row er 1 rows ahead one
-
-    pub first-goes-on : isBroken (s .viol) ≡ false → scanFrom n table x lower (At limit) (hi - lo - 1) (canon lo hi (row + 1)) (s .fmax) (s .kmax) ≡ scanOf n table x c lower upper
-    first-goes-on = goes-on n table x lower limit lo hi next (hi - lo) −∞ none start all-rows rows row er 1 rows ahead one
+        pub first-goes-on : isBroken (s .viol) ≡ false → scanFrom n table x lower (At limit) (hi - lo - 1) d (s .fmax) (s .kmax) ≡ scanOf n table x c lower upper
+        first-goes-on b = goes-on x lower limit −∞ none starts start-is rows ed er past-there rows ahead one b (one-row x lower limit −∞ none starts start-is rows ed er past-there rows ahead one b refl)

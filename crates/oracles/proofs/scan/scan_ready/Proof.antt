@@ -48,6 +48,9 @@ enum-known-answer c = search needs
 enum-told : tie.Need-enum-told
 enum-told c = search needs
 
+moved-requires : tie.Need-moved-requires
+moved-requires c κs = tt
+
 returns : tie.Need-returns
 returns c =
     let m = c .before .before in
@@ -55,7 +58,7 @@ returns c =
     let st = l .before .before .before in
     let a = st .args in (
       gives (a .n) (a .rows) (a .table .now) (a .x .now) (a .start) (a .lower) (a .upper) (st .pre) (l .scan-lent .ensures) (m .before .answer .given .1),
-      rw (toZ-ofZ (record { sfits = c .before .struct-told .given .1 .1 .1 .0 .1 })) (rw (toZ-ofZ (record { sfits = c .struct-told2 .given .1 .0 .1 })) (rw (toZ-ofZ (record { sfits = c .struct-told2 .given .1 .1 .0 .1 })) refl)),
+      rw (toZ-ofZ (record { sfits = c .before .struct-told .given .1 .1 .1 .0 .1 })) at (c .moved .ensures),
     )
 
 returns-2 : tie.Need-returns-2
@@ -66,4 +69,4 @@ returns-2 c =
     absurd (never (a .n) (a .rows) (a .table .now) (a .x .now) (a .start) (a .lower) (a .upper) (st .pre) (l .scan-lent .ensures) (c .before .match .keys2))
 
 pub scan-ready-spec : {M : Type 1} → statement M
-scan-ready-spec = tie.close (tie.spec scan-lent-requires enum-known-answer enum-told returns returns-2)
+scan-ready-spec = tie.close (tie.spec scan-lent-requires enum-known-answer moved-requires enum-told returns returns-2)

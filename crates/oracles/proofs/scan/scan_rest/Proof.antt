@@ -7,22 +7,20 @@ use mir.Syntax.{w32}
 use mir.Val.{toZ}
 use mir.Facts.{toZ-ofZ}
 use lib.IntN.{ℤ}
-use Rattle.oracles.specs.RoundRobinLaws.{canon}
 use Rattle.oracles.specs.Scan.{scanFrom}
 use Rattle.oracles.specs.ScanRun.{Going}
 use Rattle.oracles.specs.declared.scan.Upper.the-variants.{At}
-use Rattle.oracles.proofs.Signed.{before-fits}
-use Rattle.oracles.proofs.scan.Turn.{clear, row-high, rows-in, still, ends, goes-on}
+use Rattle.oracles.proofs.Signed.{cur-fits}
+use Rattle.oracles.proofs.scan.Turn.{clear, row-there, legal-there, row-before-past, rows-small, rows-in, ends, still, goes-on}
 use Rattle.oracles.proofs.scan.scan_rest.Statement.{statement}
 use Rattle.oracles.proofs.scan.scan_rest.Tie as tie
 
 abbrev Inv-loop : tie.InvT-loop
-Inv-loop n table x lo hi from count lower limit peak peak-row next₀ fmax₀ kmax₀ left₀ next fmax kmax left =
-    Going n table lo hi next left
-    × (scanFrom n table x lower (At limit) left (canon lo hi next) fmax (toZ w32 kmax) ≡ scanFrom n table x lower (At limit) left₀ (canon lo hi next₀) fmax₀ (toZ w32 kmax₀))
+Inv-loop n table x count lower limit peak peak-row rr₀ fmax₀ kmax₀ left₀ rr fmax kmax left =
+    Going n table rr left × (scanFrom n table x lower (At limit) left rr fmax (toZ w32 kmax) ≡ scanFrom n table x lower (At limit) left₀ rr₀ fmax₀ (toZ w32 kmax₀))
 
 abbrev μ-loop : tie.MeasureT-loop
-μ-loop n table x lo hi from count lower limit peak peak-row next₀ fmax₀ kmax₀ left₀ next fmax kmax left = left
+μ-loop n table x count lower limit peak peak-row rr₀ fmax₀ kmax₀ left₀ rr fmax kmax left = left
 
 -- at least one row
 some : {many : ℕ} → (many ≡ 1) ⊎ (many ≡ 4) → 1 ≤ many
@@ -32,34 +30,58 @@ some (inr e) = omega arith
 loop-holds : tie.Need-loop-holds Inv-loop μ-loop
 loop-holds c = (c .before .before .pre .0, refl)
 
-turned-requires : tie.Need-turned-requires Inv-loop μ-loop
-turned-requires c κs = tt
+step-requires : tie.Need-step-requires Inv-loop μ-loop
+step-requires c κs = c .before .loop .inv .0 .legal
 
-sub-rows-together : tie.Need-sub-rows-together Inv-loop μ-loop
-sub-rows-together c =
+row-at-requires : tie.Need-row-at-requires Inv-loop μ-loop
+row-at-requires c κs =
     let i = c .before in
     let l = i .before .loop in
     let a = i .before .before .before .before .args in
-    omega (arith, row-high (a .n) (a .table .now) (a .x .now) (a .lower) (a .limit) (a .lo) (a .hi) (l .next) (l .left) (l .fmax) (toZ w32 (l .kmax)) (l .inv .0) (l .inv .1) (i .loop-test .taken) (c .turned .result) (c .turned .ensures))
+    row-there (a .x .now) (a .lower) (a .limit) (l .fmax) (toZ w32 (l .kmax)) (l .inv .0) (l .inv .1) (i .loop-test .taken) (c .step .ensures)
 
-rows-together-requires : tie.Need-rows-together-requires Inv-loop μ-loop
-rows-together-requires c κs =
-    let i = c .before in
-    let l = i .before .loop in
-    let a = i .before .before .before .before .args in
-    (i .loop-test .taken, omega (arith, row-high (a .n) (a .table .now) (a .x .now) (a .lower) (a .limit) (a .lo) (a .hi) (l .next) (l .left) (l .fmax) (toZ w32 (l .kmax)) (l .inv .0) (l .inv .1) (i .loop-test .taken) (c .turned .result) (c .turned .ensures)))
-
-look-at-requires : tie.Need-look-at-requires Inv-loop μ-loop
-look-at-requires c κs =
-    let i = c .before .before in
+band-past-requires : tie.Need-band-past-requires Inv-loop μ-loop
+band-past-requires c κs =
+    let s = c .before in
+    let i = s .before in
     let l = i .before .loop in
     let st = i .before .before .before .before in
     let a = st .args in
-    let t = c .before .turned in
+    legal-there (a .x .now) (a .lower) (a .limit) (l .fmax) (toZ w32 (l .kmax)) (l .inv .0) (l .inv .1) (i .loop-test .taken) (s .step .ensures)
+
+sub-rows-together : tie.Need-sub-rows-together Inv-loop μ-loop
+sub-rows-together c =
+    let r = c .before in
+    let s = r .before in
+    let i = s .before in
+    let l = i .before .loop in
+    let st = i .before .before .before .before in
+    let a = st .args in
+    omega (arith, row-before-past (a .x .now) (a .lower) (a .limit) (l .fmax) (toZ w32 (l .kmax)) (l .inv .0) (l .inv .1) (i .loop-test .taken) (s .step .ensures) (r .row-at .ensures) (c .band-past .ensures))
+
+rows-together-requires : tie.Need-rows-together-requires Inv-loop μ-loop
+rows-together-requires c κs =
+    let r = c .before in
+    let s = r .before in
+    let i = s .before in
+    let l = i .before .loop in
+    let st = i .before .before .before .before in
+    let a = st .args in
+    (i .loop-test .taken, omega (arith, row-before-past (a .x .now) (a .lower) (a .limit) (l .fmax) (toZ w32 (l .kmax)) (l .inv .0) (l .inv .1) (i .loop-test .taken) (s .step .ensures) (r .row-at .ensures) (c .band-past .ensures)))
+
+look-at-requires : tie.Need-look-at-requires Inv-loop μ-loop
+look-at-requires c κs =
+    let p = c .before in
+    let r = p .before in
+    let s = r .before in
+    let i = s .before in
+    let l = i .before .loop in
+    let st = i .before .before .before .before in
+    let a = st .args in
     let m = c .rows-together .ensures in (
       m .0,
-      omega (arith, m .2, row-high (a .n) (a .table .now) (a .x .now) (a .lower) (a .limit) (a .lo) (a .hi) (l .next) (l .left) (l .fmax) (toZ w32 (l .kmax)) (l .inv .0) (l .inv .1) (i .loop-test .taken) (t .result) (t .ensures), l .inv .0 .small),
-      rows-in (a .n) (a .table .now) (a .x .now) (a .lower) (a .limit) (a .lo) (a .hi) (l .next) (l .left) (l .fmax) (toZ w32 (l .kmax)) (l .inv .0) (l .inv .1) (i .loop-test .taken) (t .result) (t .ensures) (c .rows-together .result) (m .1) (m .2),
+      rows-small (a .x .now) (a .lower) (a .limit) (l .fmax) (toZ w32 (l .kmax)) (l .inv .0) (l .inv .1) (i .loop-test .taken) (s .step .ensures) (r .row-at .ensures) (p .band-past .ensures) (m .1) (m .2),
+      rows-in (a .x .now) (a .lower) (a .limit) (l .fmax) (toZ w32 (l .kmax)) (l .inv .0) (l .inv .1) (i .loop-test .taken) (s .step .ensures) (r .row-at .ensures) (p .band-past .ensures) (m .1) (m .2),
       st .pre .1,
     )
 
@@ -68,44 +90,49 @@ is-broken-requires c κs = tt
 
 returns : tie.Need-returns Inv-loop μ-loop
 returns c =
-    let i = c .before .before .before .before .before in
+    let b = c .before in
+    let k = b .before in
+    let m = k .before in
+    let p = m .before in
+    let r = p .before in
+    let s = r .before in
+    let i = s .before in
     let l = i .before .loop in
     let st = i .before .before .before .before in
     let a = st .args in
-    let t = c .before .before .before .before .turned in
-    let m = c .before .before .before .rows-together in
-    ends (a .n) (a .table .now) (a .x .now) (a .lower) (a .limit) (a .lo) (a .hi) (l .next) (l .left) (l .fmax) (toZ w32 (l .kmax)) (l .inv .0) (l .inv .1) (i .loop-test .taken) (t .result) (t .ensures) (m .result) (m .ensures .1) (m .ensures .2) (c .before .before .look-at .ensures) (sym (c .before .is-broken .ensures) ∙ c .if1 .taken)
-    ∙ ap (λ (k : ℤ). scanFrom (a .n) (a .table .now) (a .x .now) (a .lower) (At (a .limit)) (a .count) (canon (a .lo) (a .hi) (a .from)) (a .peak) k) (toZ-ofZ (st .fits .peak-row))
+    ends (a .x .now) (a .lower) (a .limit) (l .fmax) (toZ w32 (l .kmax)) (l .inv .0) (l .inv .1) (i .loop-test .taken) (s .step .ensures) (r .row-at .ensures) (p .band-past .ensures) (m .rows-together .ensures .1) (m .rows-together .ensures .2) (k .look-at .ensures) (sym (b .is-broken .ensures) ∙ c .if1 .taken)
+    ∙ ap (λ (k : ℤ). scanFrom (a .n) (a .table .now) (a .x .now) (a .lower) (At (a .limit)) (a .count) (a .start) (a .peak) k) (toZ-ofZ (st .fits .peak-row))
 
-add-next : tie.Need-add-next Inv-loop μ-loop
-add-next c =
-    let i = c .before .before .before .before .before .before in
-    let l = i .before .loop in
-    let a = i .before .before .before .before .args in
-    let t = c .before .before .before .before .before .turned in
-    let m = c .before .before .before .before .rows-together .ensures in
-    omega (arith, m .2, row-high (a .n) (a .table .now) (a .x .now) (a .lower) (a .limit) (a .lo) (a .hi) (l .next) (l .left) (l .fmax) (toZ w32 (l .kmax)) (l .inv .0) (l .inv .1) (i .loop-test .taken) (t .result) (t .ensures), l .inv .0 .small)
+moved-requires : tie.Need-moved-requires Inv-loop μ-loop
+moved-requires c κs = tt
 
 sub-left : tie.Need-sub-left Inv-loop μ-loop
-sub-left c = c .before .before .before .before .rows-together .ensures .1
+sub-left c = c .before .before .before .before .before .before .rows-together .ensures .1
 
 loop-less : tie.Need-loop-less Inv-loop μ-loop
-loop-less c = omega (arith, c .before .before .before .before .before .before .loop-test .taken, c .before .before .before .before .rows-together .ensures .1, some (c .before .before .before .before .rows-together .ensures .0))
+loop-less c =
+    let m = c .before .before .before .before .before .before in
+    omega (arith, m .before .before .before .before .loop-test .taken, m .rows-together .ensures .1, some (m .rows-together .ensures .0))
 
 loop-again : tie.Need-loop-again Inv-loop μ-loop
 loop-again c =
-    let i = c .before .before .before .before .before .before in
+    let u = c .before .before in
+    let b = u .before .before in
+    let k = b .before in
+    let m = k .before in
+    let p = m .before in
+    let r = p .before in
+    let s = r .before in
+    let i = s .before in
     let l = i .before .loop in
-    let a = i .before .before .before .before .args in
-    let t = c .before .before .before .before .before .turned in
-    let m = c .before .before .before .before .rows-together in (
-      still (a .n) (a .table .now) (a .x .now) (a .lower) (a .limit) (a .lo) (a .hi) (l .next) (l .left) (l .fmax) (toZ w32 (l .kmax)) (l .inv .0) (l .inv .1) (i .loop-test .taken) (t .result) (t .ensures) (m .result) (m .ensures .1) (m .ensures .2),
-      rw (toZ-ofZ (record { sfits = c .struct-told .given .1 .1 .0 .1 }))
-          (goes-on (a .n) (a .table .now) (a .x .now) (a .lower) (a .limit) (a .lo) (a .hi) (l .next) (l .left) (l .fmax) (toZ w32 (l .kmax)) (l .inv .0) (l .inv .1) (i .loop-test .taken) (t .result) (t .ensures) (m .result) (m .ensures .1) (m .ensures .2) (c .before .before .before .look-at .ensures) (sym (c .before .before .is-broken .ensures) ∙ c .before .if1 .left)),
+    let st = i .before .before .before .before in
+    let a = st .args in
+    let q = sym (b .is-broken .ensures) ∙ u .before .if1 .left in
+    let v = rw (toZ-ofZ (record { sfits = c .before .struct-told2 .given .1 .1 .1 .0 .1 })) at (c .moved .ensures) in (
+      still (a .x .now) (a .lower) (a .limit) (l .fmax) (toZ w32 (l .kmax)) (l .inv .0) (l .inv .1) (i .loop-test .taken) (s .step .ensures) (r .row-at .ensures) (p .band-past .ensures) (m .rows-together .ensures .1) (m .rows-together .ensures .2) (k .look-at .ensures) q v,
+      rw (toZ-ofZ (record { sfits = u .struct-told .given .1 .1 .0 .1 }))
+          (goes-on (a .x .now) (a .lower) (a .limit) (l .fmax) (toZ w32 (l .kmax)) (l .inv .0) (l .inv .1) (i .loop-test .taken) (s .step .ensures) (r .row-at .ensures) (p .band-past .ensures) (m .rows-together .ensures .1) (m .rows-together .ensures .2) (k .look-at .ensures) q v),
     )
-
-row-before-requires : tie.Need-row-before-requires Inv-loop μ-loop
-row-before-requires c κs = let l = c .before .loop in omega (arith, l .inv .0 .below, l .inv .0 .small)
 
 returns-2 : tie.Need-returns-2 Inv-loop μ-loop
 returns-2 c =
@@ -113,9 +140,9 @@ returns-2 c =
     let l = e .before .loop in
     let st = e .before .before .before .before in
     let a = st .args in
-    rw (c .row-before .ensures, toZ-ofZ (before-fits (l .next) (omega (arith, l .inv .0 .below, l .inv .0 .small))))
-    (clear (a .n) (a .table .now) (a .x .now) (a .lower) (a .limit) (a .lo) (a .hi) (l .next) (l .left) (l .fmax) (toZ w32 (l .kmax)) (l .inv .0) (l .inv .1) (e .loop-test .left)
-    ∙ ap (λ (k : ℤ). scanFrom (a .n) (a .table .now) (a .x .now) (a .lower) (At (a .limit)) (a .count) (canon (a .lo) (a .hi) (a .from)) (a .peak) k) (toZ-ofZ (st .fits .peak-row)))
+    rw (toZ-ofZ (cur-fits _ (l .inv .0 .legal)))
+    (clear (a .x .now) (a .lower) (a .limit) (l .fmax) (toZ w32 (l .kmax)) (l .inv .0) (l .inv .1) (e .loop-test .left)
+    ∙ ap (λ (k : ℤ). scanFrom (a .n) (a .table .now) (a .x .now) (a .lower) (At (a .limit)) (a .count) (a .start) (a .peak) k) (toZ-ofZ (st .fits .peak-row)))
 
 pub scan-rest-spec : {M : Type 1} → statement M
 scan-rest-spec =
@@ -124,15 +151,16 @@ scan-rest-spec =
     Inv-loop
     μ-loop
     loop-holds
-    turned-requires
+    step-requires
+    row-at-requires
+    band-past-requires
     sub-rows-together
     rows-together-requires
     look-at-requires
     is-broken-requires
     returns
-    add-next
+    moved-requires
     sub-left
     loop-less
     loop-again
-    row-before-requires
     returns-2)
