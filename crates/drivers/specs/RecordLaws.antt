@@ -40,6 +40,14 @@ rule-small i =
     let b = and-eq-true-iff (leb (r .factor) 8) (leb (r .power) 2) .0 (a .1) in
     (leb-true (r .base) 24 (a .0), leb-true (r .factor) 8 (b .0), leb-true (r .power) 2 (b .1))
 
+-- an element that is read within the table, whatever is read past it
+pub rule-within : (i : ℕ) (d : Rule) → i < 12 → getD rules i d ≡ ruleAt i
+unfolding ruleAt rules
+rule-within i d h =
+    let a = drop-cons rules i d h in
+    let b = drop-cons rules i (once 256 0 0 0) h in
+    cc
+
 -- the search for a tag: none passed, one that is found, one passed, and none left
 module _ (tag : ℕ) where
   pub index-start : indexOf tag ≡ 0 + indexIn (drop 0 rules) tag

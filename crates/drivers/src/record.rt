@@ -8,11 +8,12 @@ ghost use lib.ListN.{length};
 ghost use Rattle.drivers.specs.Record.{ruleAt, indexOf, ruleLength, tagAt, lengthAt, halfAt, numberAt, numbersAt, startOf, contentOf, is-row, rows-in, after, field-fault, is-fault, fields-of, walk-of, missing-fault, record-fault, lengths-fault, row-count};
 
 // A tag's rule: its field has base + factor × n ^ power bytes. A tag that repeats has a field for each row of the table; an optional one may be missing.
+// The fields are narrow since the table, a constant, is made anew at each use: it has 96 bytes.
 pub(crate) struct Rule {
-    pub(crate) tag: u64,
-    pub(crate) base: usize,
-    pub(crate) factor: usize,
-    pub(crate) power: usize,
+    pub(crate) tag: u16,
+    pub(crate) base: u8,
+    pub(crate) factor: u8,
+    pub(crate) power: u8,
     pub(crate) repeats: bool,
     pub(crate) optional: bool,
 }
@@ -151,14 +152,15 @@ fn rule_at(i: usize) -> Rule
     NO_RULE
 }
 
-// A tag's place in the table; 12 for a tag that is not there.
+// A tag's place in the table, which is made once for all turns; 12 for a tag that is not there.
 fn rule_index(tag: u64) -> usize
     ensures { λ r. ⌜ r ≡ indexOf tag ⌝ }
 {
+    let rules = RULES;
     let mut i = 0;
     while i < 12 {
-        let rule = rule_at(i);
-        if rule.tag == tag {
+        let rule = rules[i];
+        if rule.tag as u64 == tag {
             return i;
         }
         i += 1;
@@ -185,7 +187,7 @@ pub(crate) fn rule_length(i: usize, n: usize) -> usize
     ensures { λ r. ⌜ r ≡ ruleLength i n ⌝ }
 {
     let rule = rule_at(i);
-    rule.base + rule.factor * power(n, rule.power)
+    rule.base as usize + rule.factor as usize * power(n, rule.power as usize)
 }
 
 // ---- a field's header, and numbers in its content; bytes past the end count as 0

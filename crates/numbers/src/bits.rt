@@ -1,6 +1,6 @@
 // Floats as their 64 bits, and 64-bit words in bytes, the lowest byte first. A NaN has one pattern here; a word that does not fit is not written.
 ghost use mathlib.Core.Path.{_≡_};
-ghost use Prim.Native.Nat.{_+_, _≤_};
+ghost use Prim.Native.Nat.{_+_, _≤_, _<_};
 ghost use lib.ListN.{length};
 ghost use Rattle.numbers.specs.Bits.{floatOf, bitsOf, leNumber, wordAt, putWord, putBytes};
 
@@ -44,6 +44,24 @@ fn le_number(bytes: &[u8]) -> u64
     w
 }
 
+// The same of four bytes, and of eight: written out, so that a word is one load.
+fn le_half(bytes: &[u8]) -> u64
+    requires { ⌜ length (now bytes) ≡ 4 ⌝ }
+    ensures { λ r. ⌜ (r ≡ leNumber (now (bytes .entry))) × (r < 0x1_0000_0000) ⌝ }
+{
+    wide(bytes[0])
+        + 0x100 * wide(bytes[1])
+        + 0x1_0000 * wide(bytes[2])
+        + 0x100_0000 * wide(bytes[3])
+}
+
+fn le_word(bytes: &[u8]) -> u64
+    requires { ⌜ length (now bytes) ≡ 8 ⌝ }
+    ensures { λ r. ⌜ r ≡ leNumber (now (bytes .entry)) ⌝ }
+{
+    le_half(&bytes[..4]) + 0x1_0000_0000 * le_half(&bytes[4..])
+}
+
 // The word whose lowest byte is bytes[at]; bytes past the end count as 0.
 pub fn word_at(bytes: &[u8], at: usize) -> u64
     ensures { λ r. ⌜ r ≡ wordAt (now (bytes .entry)) at ⌝ }
@@ -55,7 +73,7 @@ pub fn word_at(bytes: &[u8], at: usize) -> u64
         return le_number(&bytes[at..]);
     }
     let end = at + 8;
-    le_number(&bytes[at..end])
+    le_word(&bytes[at..end])
 }
 
 fn put_bytes(bytes: &mut [u8], at: usize, w: u64)

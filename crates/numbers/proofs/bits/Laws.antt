@@ -1,4 +1,4 @@
--- What the proofs of `bits` cite: which patterns are a NaN's, and one byte more of a word, read from the top and written from the bottom.
+-- What the proofs of `bits` cite: which patterns are a NaN's, one byte more of a word, read from the top and written from the bottom, and a word from its halves.
 use mathlib.Core.Path.{_≡_, refl, sym, ap, _∙_, subst}
 use mathlib.Core.Bool.{true, false, not}
 use mathlib.Core.List.{List, [], _∷_, _++_, append-assoc, append-nil}
@@ -59,6 +59,25 @@ byte-more (suc (suc (suc (suc (suc (suc (suc (suc n)))))))) w b h lw lb = absurd
 pub number-down : (bytes : List ℕ) (i w : ℕ) → i < length bytes → w ≡ leNumber (drop (suc i) bytes) → w * 256 + getD bytes i 0 ≡ leNumber (drop i bytes)
 unfolding leNumber
 number-down bytes i w h e = rw (drop-cons bytes i 0 h, ← e) (omega arith)
+
+-- the number of the first four bytes, and that of all from it and the rest's
+number-four : (bytes : List ℕ)
+    → (getD bytes 0 0 + 0x100 * getD bytes 1 0 + 0x1_0000 * getD bytes 2 0 + 0x100_0000 * getD bytes 3 0 ≡ leNumber (take 4 bytes))
+    × (leNumber (take 4 bytes) + 0x1_0000_0000 * leNumber (drop 4 bytes) ≡ leNumber bytes)
+unfolding leNumber
+number-four [] = (refl, refl)
+number-four (a ∷ []) = (omega arith, omega arith)
+number-four (a ∷ b ∷ []) = (omega arith, omega arith)
+number-four (a ∷ b ∷ c ∷ []) = (omega arith, omega arith)
+number-four (a ∷ b ∷ c ∷ d ∷ rest) = (omega arith, omega arith)
+
+pub half-is : (bytes : List ℕ) (w : ℕ) → length bytes ≡ 4 → w ≡ getD bytes 0 0 + 0x100 * getD bytes 1 0 + 0x1_0000 * getD bytes 2 0 + 0x100_0000 * getD bytes 3 0 → w ≡ leNumber bytes
+half-is bytes w h e = e ∙ number-four bytes .0 ∙ ap leNumber (take-all 4 bytes (omega arith))
+
+pub halves-are : (bytes : List ℕ) (low high : ℕ) → low ≡ leNumber (take 4 bytes) → high ≡ leNumber (take (length bytes - 4) (drop 4 bytes)) → low + 0x1_0000_0000 * high ≡ leNumber bytes
+halves-are bytes low high a b =
+    let e = ap leNumber (take-all (length bytes - 4) (drop 4 bytes) (omega (arith, length-drop 4 bytes))) in
+    omega (arith, number-four bytes .1)
 
 -- w without its i lowest bytes
 unfoldable pub shift : ℕ → ℕ → ℕ

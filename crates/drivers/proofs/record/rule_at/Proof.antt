@@ -1,20 +1,12 @@
 -- `drivers::record::rule_at` meets its contract: the code's table is that of document 01. Assumes nothing.
 use mathlib.Core.Path.{_≡_, sym}
-use Prim.Native.Nat.{ℕ, _≤_, _<_}
-use lib.ListN.{getD, List·getD-eq-default}
-use lib.Seq.{drop-cons}
+use Prim.Native.Nat.{ℕ, _≤_}
+use lib.ListN.{List·getD-eq-default}
 use Rattle.drivers.specs.Record.{once, rules, ruleAt}
-use Rattle.drivers.specs.declared.record.Rule.{Rule}
+use Rattle.drivers.specs.RecordLaws.{rule-within}
 use borrow.Author.Needs.{needs}
 use Rattle.drivers.proofs.record.rule_at.Statement.{statement}
 use Rattle.drivers.proofs.record.rule_at.Tie as tie
-
-inside : (i : ℕ) (d : Rule) → i < 12 → getD rules i d ≡ ruleAt i
-unfolding ruleAt rules
-inside i d h =
-    let a = drop-cons rules i d h in
-    let b = drop-cons rules i (once 256 0 0 0) h in
-    cc
 
 outside : (i : ℕ) → 12 ≤ i → once 256 0 0 0 ≡ ruleAt i
 unfolding ruleAt rules
@@ -28,7 +20,7 @@ array-copy-out-result c = search needs
 
 returns : tie.Need-returns
 unfolding rules
-returns c = inside _ _ (c .before .if1 .taken)
+returns c = rule-within _ _ (c .before .if1 .taken)
 
 returns-2 : tie.Need-returns-2
 returns-2 c = outside _ (c .if1 .left)

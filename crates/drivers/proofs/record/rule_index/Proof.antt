@@ -3,29 +3,35 @@ use mathlib.Core.Path.{_≡_}
 use Prim.Native.Nat.{_≤_, _+_, _-_}
 use lib.ListN.{drop}
 use Rattle.drivers.specs.Record.{rules, indexIn, indexOf}
-use Rattle.drivers.specs.RecordLaws.{index-start, index-found, index-turn, index-end}
+use Rattle.drivers.specs.RecordLaws.{rule-within, index-start, index-found, index-turn, index-end}
 use borrow.Author.Needs.{needs}
 use Rattle.drivers.proofs.record.rule_index.Statement.{statement}
 use Rattle.drivers.proofs.record.rule_index.Tie as tie
 
 abbrev Inv-loop : tie.InvT-loop
-Inv-loop tag i₀ i = (i ≤ 12) × (indexOf tag ≡ i + indexIn (drop i rules) tag)
+Inv-loop tag table i₀ i = (i ≤ 12) × (indexOf tag ≡ i + indexIn (drop i rules) tag)
 
 abbrev μ-loop : tie.MeasureT-loop
-μ-loop tag i₀ i = 12 - i
+μ-loop tag table i₀ i = 12 - i
 
 loop-holds : tie.Need-loop-holds Inv-loop μ-loop
 loop-holds c = (search needs, index-start _)
 
-rule-at-requires : tie.Need-rule-at-requires Inv-loop μ-loop
-rule-at-requires c κs = search needs
+mul-rule : tie.Need-mul-rule Inv-loop μ-loop
+mul-rule c = search needs
+
+array-copy-out-rule : tie.Need-array-copy-out-rule Inv-loop μ-loop
+array-copy-out-rule c = search needs
+
+cast-if1 : tie.Need-cast-if1 Inv-loop μ-loop
+cast-if1 c = search needs
 
 returns : tie.Need-returns Inv-loop μ-loop
+unfolding rules
 returns c =
-    let ra = c .before .before in
-    let l2 = ra .before .before in
-    let l = l2 .loop in
-    index-found _ _ _ (ra .rule-at .ensures) (search needs) (c .if1 .taken) (l .inv .1)
+    let in-loop = c .before .before .before in
+    let h = in-loop .loop-test .taken in
+    index-found _ _ _ (rule-within _ _ h) h (c .if1 .taken) (in-loop .before .loop .inv .1)
 
 add-i : tie.Need-add-i Inv-loop μ-loop
 add-i c = search needs
@@ -34,11 +40,11 @@ loop-less : tie.Need-loop-less Inv-loop μ-loop
 loop-less c = search needs
 
 loop-again : tie.Need-loop-again Inv-loop μ-loop
+unfolding rules
 loop-again c =
-    let ra = c .before .before in
-    let l2 = ra .before .before in
-    let l = l2 .loop in
-    (search needs, index-turn _ _ _ (ra .rule-at .ensures) (search needs) (c .if1 .left) (l .inv .1))
+    let in-loop = c .before .before .before in
+    let h = in-loop .loop-test .taken in
+    (search needs, index-turn _ _ _ (rule-within _ _ h) h (c .if1 .left) (in-loop .before .loop .inv .1))
 
 returns-2 : tie.Need-returns-2 Inv-loop μ-loop
 returns-2 c = index-end _ _ (search needs) (c .before .loop .inv .1)
@@ -46,4 +52,4 @@ returns-2 c = index-end _ _ (search needs) (c .before .loop .inv .1)
 pub rule-index-spec : {M : Type 1} → statement M
 rule-index-spec =
     tie.close
-    (tie.spec Inv-loop μ-loop loop-holds rule-at-requires returns add-i loop-less loop-again returns-2)
+    (tie.spec Inv-loop μ-loop loop-holds mul-rule array-copy-out-rule cast-if1 returns add-i loop-less loop-again returns-2)

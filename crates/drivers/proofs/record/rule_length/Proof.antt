@@ -28,33 +28,38 @@ is i n p r e d = rw (d, e)
 rule-at-requires : tie.Need-rule-at-requires
 rule-at-requires c κs = search needs
 
+cast-result : tie.Need-cast-result
+cast-result c = search needs
+
+cast-result-2 : tie.Need-cast-result-2
+cast-result-2 c = search needs
+
+cast-power : tie.Need-cast-power
+cast-power c = search needs
+
 power-requires : tie.Need-power-requires
-power-requires c κs = (search needs, small _ _ (c .rule-at .ensures) .2)
+power-requires c κs = (search needs, small _ _ (c .before .before .before .rule-at .ensures) .2)
 
 mul-result : tie.Need-mul-result
 mul-result c =
-    let p2 = c .before in
-    let ra = p2 .before in
-    let s2 = ra .before in
+    let ra = c .before .before .before .before in
     let s = small _ _ (ra .rule-at .ensures) in
-    let p = product (ra .rule-at .result .factor) (p2 .power .result) (s2 .args .n) (ra .rule-at .result .power) (p2 .power .ensures) (s .1) (s2 .pre) (s .2) in
+    let p = product (ra .rule-at .result .factor) (c .power .result) (ra .before .args .n) (ra .rule-at .result .power) (c .power .ensures) (s .1) (ra .before .pre) (s .2) in
     record { fits = omega arith }
 
 add-result : tie.Need-add-result
 add-result c =
-    let p2 = c .before .before in
-    let ra = p2 .before in
-    let s2 = ra .before in
+    let ra = c .before .before .before .before in
     let s = small _ _ (ra .rule-at .ensures) in
-    let p = product (ra .rule-at .result .factor) (p2 .power .result) (s2 .args .n) (ra .rule-at .result .power) (p2 .power .ensures) (s .1) (s2 .pre) (s .2) in
+    let p = product (ra .rule-at .result .factor) (c .power .result) (ra .before .args .n) (ra .rule-at .result .power) (c .power .ensures) (s .1) (ra .before .pre) (s .2) in
     record { fits = omega arith }
 
 returns : tie.Need-returns
 returns c =
-    let p = c .before .before in
-    let ra = p .before in
-    is _ _ _ _ (ra .rule-at .ensures) (p .power .ensures)
+    let ra = c .before .before .before .before in
+    is _ _ _ _ (ra .rule-at .ensures) (c .power .ensures)
 
 pub rule-length-spec : {M : Type 1} → statement M
 rule-length-spec =
-    tie.close (tie.spec rule-at-requires power-requires mul-result add-result returns)
+    tie.close
+    (tie.spec rule-at-requires cast-result cast-result-2 cast-power power-requires mul-result add-result returns)

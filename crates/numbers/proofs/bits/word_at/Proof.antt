@@ -36,23 +36,23 @@ returns-2 c =
 add-end : tie.Need-add-end
 add-end c = search needs
 
-sub-le-number-2 : tie.Need-sub-le-number-2
-sub-le-number-2 c = search needs
+sub-le-word : tie.Need-sub-le-word
+sub-le-word c = search needs
 
-part-le-number-start-2 : tie.Need-part-le-number-start-2
-part-le-number-start-2 c = search needs
+part-le-word-start : tie.Need-part-le-word-start
+part-le-word-start c = search needs
 
-part-le-number-end-2 : tie.Need-part-le-number-end-2
-part-le-number-end-2 c = search needs
+part-le-word-end : tie.Need-part-le-word-end
+part-le-word-end c = search needs
 
-le-number-requires-2 : tie.Need-le-number-requires-2
-le-number-requires-2 c κs = search needs
+le-word-requires : tie.Need-le-word-requires
+le-word-requires c κs = search needs
 
 returns-3 : tie.Need-returns-3
 returns-3 c =
     let bytes = c .before .before .before .before .before .args .bytes .now in
     let at = c .before .before .before .before .before .args .at in
-    c .le-number2 .ensures ∙ word-whole bytes at (at + 8 - at) (omega arith)
+    c .le-word .ensures ∙ word-whole bytes at (at + 8 - at) (omega arith)
 
 pub word-at-spec : {M : Type 1} → statement M
 word-at-spec =
@@ -66,8 +66,8 @@ word-at-spec =
     le-number-requires
     returns-2
     add-end
-    sub-le-number-2
-    part-le-number-start-2
-    part-le-number-end-2
-    le-number-requires-2
+    sub-le-word
+    part-le-word-start
+    part-le-word-end
+    le-word-requires
     returns-3)
