@@ -187,7 +187,7 @@ pub(crate) fn feas_step(
             said: Said::Feasible,
         },
         Verdict::Cut(group, beta) => {
-            let moved = ell.advance(CutStrategy::BiasCut, grad, beta, mq, xc, grad_t);
+            let moved = ell.cut(CutStrategy::BiasCut, grad, beta, mq, xc, grad_t);
             let outcome = moved.outcome;
             FeasStep {
                 oracle: after,
@@ -375,11 +375,11 @@ fn optim_step(
     match verdict {
         OptimVerdict::Improved(beta) => {
             keep(true, xc, x_best);
-            let moved = ell.advance(CutStrategy::CentralCut, grad, beta, mq, xc, grad_t);
+            let moved = ell.cut(CutStrategy::CentralCut, grad, beta, mq, xc, grad_t);
             optim_stepped(after, ell, moved, offer, true)
         }
         OptimVerdict::Cut(_, beta) => {
-            let moved = ell.advance(CutStrategy::BiasCut, grad, beta, mq, xc, grad_t);
+            let moved = ell.cut(CutStrategy::BiasCut, grad, beta, mq, xc, grad_t);
             optim_stepped(after, ell, moved, offer, found)
         }
         OptimVerdict::Refused(why) => OptimStep {

@@ -35,12 +35,15 @@ valuesOf n table x i =
       d = valueOf n table x (i + 3);
     }
 
--- row i with the value v, after the largest value so far and its row
-abbrev pub judgedOf : Float → Float → ℕ → Float → Float → ℤ → Scan
-judgedOf lower limit i v fmax kmax =
-    pick (lt limit v) (record { viol = Broken i v true; fmax = fmax; kmax = kmax; last = pos i })
-    (pick (lt v lower) (record { viol = Broken i v false; fmax = fmax; kmax = kmax; last = pos i })
+-- row i with the value v, after the largest value so far and its row, by two tests: whether v lies above the limit, and below the lower one
+abbrev pub testedBy : Bool → Bool → ℕ → Float → Float → ℤ → Scan
+testedBy over under i v fmax kmax =
+    pick over (record { viol = Broken i v true; fmax = fmax; kmax = kmax; last = pos i })
+    (pick under (record { viol = Broken i v false; fmax = fmax; kmax = kmax; last = pos i })
     (record { viol = Nothing; fmax = pick (lt fmax v) v fmax; kmax = pick (lt fmax v) (pos i) kmax; last = pos i }))
+
+abbrev pub judgedOf : Float → Float → ℕ → Float → Float → ℤ → Scan
+judgedOf lower limit i v fmax kmax = testedBy (lt limit v) (lt v lower) i v fmax kmax
 
 -- the `count` rows from row i on, up to the first that breaks a limit
 unfoldable pub runOf : ℕ → List Float → List Float → Float → Float → ℕ → ℕ → Float → ℤ → Scan

@@ -190,7 +190,7 @@ impl Ell {
     }
 
     // What `update_core` changes. It is called by itself where a run keeps the rest: the ellipsoid is not copied there.
-    pub fn advance(
+    pub fn cut(
         self,
         strategy: CutStrategy,
         grad: &[f64],
@@ -226,7 +226,7 @@ impl Ell {
     ) -> EllUpdate
         ensures { λ r. ⌜ (r, record { mq = now (mq .exit); xc = now (xc .exit); grad-t = now («grad_t» .exit) }) ≡ ell-update-answer self strategy (now (grad .entry)) beta (record { mq = now (mq .entry); xc = now (xc .entry); grad-t = now («grad_t» .entry) }) ⌝ }
     {
-        let moved = self.advance(strategy, grad, beta, mq, xc, grad_t);
+        let moved = self.cut(strategy, grad, beta, mq, xc, grad_t);
         let outcome = moved.outcome;
         EllUpdate {
             ell: self.after(moved),

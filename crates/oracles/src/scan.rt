@@ -151,7 +151,7 @@ fn four_values(n: usize, table: &[f64], x: &[f64], i: usize) -> Four
 }
 
 // A row's value against the limits, and the largest value so far with this one.
-fn judge(row: usize, value: f64, lower: f64, limit: f64, fmax: f64, kmax: i32) -> Scan
+fn test_row(row: usize, value: f64, lower: f64, limit: f64, fmax: f64, kmax: i32) -> Scan
     requires { ⌜ row < 1024 ⌝ }
     ensures { λ r. ⌜ r ≡ judgedOf lower limit row value fmax kmax ⌝ }
 {
@@ -203,22 +203,22 @@ fn look_at_four(
     ensures { λ r. ⌜ r ≡ runOf n (now (table .entry)) (now (x .entry)) lower limit 4 row fmax kmax ⌝ }
 {
     let values = four_values(n, table, x, row);
-    let s = judge(row, values.a, lower, limit, fmax, kmax);
+    let s = test_row(row, values.a, lower, limit, fmax, kmax);
     let sv = s.viol;
     if is_broken(sv) {
         return s;
     }
-    let t = judge(row + 1, values.b, lower, limit, s.fmax, s.kmax);
+    let t = test_row(row + 1, values.b, lower, limit, s.fmax, s.kmax);
     let tv = t.viol;
     if is_broken(tv) {
         return t;
     }
-    let u = judge(row + 2, values.c, lower, limit, t.fmax, t.kmax);
+    let u = test_row(row + 2, values.c, lower, limit, t.fmax, t.kmax);
     let uv = u.viol;
     if is_broken(uv) {
         return u;
     }
-    judge(row + 3, values.d, lower, limit, u.fmax, u.kmax)
+    test_row(row + 3, values.d, lower, limit, u.fmax, u.kmax)
 }
 
 // The next row, or the next four.
@@ -240,7 +240,7 @@ fn look_at(
         return look_at_four(n, table, x, row, lower, limit, fmax, kmax);
     }
     let value = row_value(n, table, x, row);
-    judge(row, value, lower, limit, fmax, kmax)
+    test_row(row, value, lower, limit, fmax, kmax)
 }
 
 // How many rows to look at together, of those left and those before the band's end.
@@ -324,7 +324,7 @@ fn scan_rows(
     let rr = start.step();
     let row = row_at(rr);
     let value = row_value(n, table, x, row);
-    let s = judge(row, value, lower, limit, fmax, -1);
+    let s = test_row(row, value, lower, limit, fmax, -1);
     let viol = s.viol;
     if is_broken(viol) {
         return s;

@@ -11,7 +11,7 @@ use Rattle.numbers.specs.Pick.{pick, hit, skip}
 use Rattle.oracles.specs.RoundRobin.{advanced}
 use Rattle.oracles.specs.RoundRobinLaws.{canon, adv-next}
 use Rattle.oracles.specs.Scan.{valueOf, isOver, scanFrom}
-use Rattle.oracles.specs.ScanRun.{limitOf, isBroken, judgedOf, runOf}
+use Rattle.oracles.specs.ScanRun.{limitOf, isBroken, testedBy, judgedOf, runOf}
 use Rattle.oracles.specs.declared.round_robin.RoundRobin.{RoundRobin}
 use Rattle.oracles.specs.declared.scan.Upper.{Upper}
 use Rattle.oracles.specs.declared.scan.Upper.the-variants.{Absent, At}
@@ -36,13 +36,6 @@ after-after s t g rest e = go (isBroken (s .viol)) refl
     go : (b : Bool) → isBroken (s .viol) ≡ b → pick b s rest ≡ after (pick b s t) (g (pick b s t))
     go true h = after-broken s (g s) h
     go false h = e
-
--- a row's judgement, by its two tests
-abbrev way : ℕ → Float → Float → ℤ → Bool → Bool → Scan
-way i v f k over under =
-    pick over (record { viol = Broken i v true; fmax = f; kmax = k; last = pos i })
-    (pick under (record { viol = Broken i v false; fmax = f; kmax = k; last = pos i })
-    (record { viol = Nothing; fmax = pick (lt f v) v f; kmax = pick (lt f v) (pos i) k; last = pos i }))
 
 module _ (n : ℕ) (table x : List Float) (lower limit : Float) where
   abbrev judged : ℕ → Float → ℤ → Scan
@@ -70,8 +63,8 @@ module _ (n : ℕ) (table x : List Float) (lower limit : Float) where
     unfolding runOf pick
     run-one = e ∙ go (lt limit (valueOf n table x i)) (lt (valueOf n table x i) lower)
       where
-        go : (t u : Bool) → way i (valueOf n table x i) f k t u
-            ≡ after (way i (valueOf n table x i) f k t u) (record { viol = Nothing; fmax = way i (valueOf n table x i) f k t u .fmax; kmax = way i (valueOf n table x i) f k t u .kmax; last = pos i })
+        go : (t u : Bool) → testedBy t u i (valueOf n table x i) f k
+            ≡ after (testedBy t u i (valueOf n table x i) f k) (record { viol = Nothing; fmax = testedBy t u i (valueOf n table x i) f k .fmax; kmax = testedBy t u i (valueOf n table x i) f k .kmax; last = pos i })
         go true u = refl
         go false true = refl
         go false false = refl
@@ -124,7 +117,7 @@ module _ (n : ℕ) (table x : List Float) (lower limit : Float) (from past : ℕ
 
       go : (t u : Bool) → pick t (record { viol = Broken i v true; fmax = f; kmax = k; last = pos i }) (pick u (record { viol = Broken i v false; fmax = f; kmax = k; last = pos i })
           (scan left (suc i) (pick (lt f v) v f) (pick (lt f v) (pos i) k)))
-          ≡ after (way i v f k t u) (scan left (suc i) (way i v f k t u .fmax) (way i v f k t u .kmax))
+          ≡ after (testedBy t u i v f k) (scan left (suc i) (testedBy t u i v f k .fmax) (testedBy t u i v f k .kmax))
       go true u = refl
       go false true = refl
       go false false = refl

@@ -16,8 +16,8 @@ enum-told c = search needs
 enum-known-verdict : tie.Need-enum-known-verdict
 enum-known-verdict c = search needs
 
-advance-requires : tie.Need-advance-requires
-advance-requires c κs = tt
+cut-requires : tie.Need-cut-requires
+cut-requires c κs = tt
 
 after-requires : tie.Need-after-requires
 after-requires c κs = tt
@@ -58,7 +58,7 @@ same-length-6 c = search needs
 
 returns-2 : tie.Need-returns-2
 returns-2 c =
-    let u = c .before .before .before .before .before .before .before .before .before .advance in
+    let u = c .before .before .before .before .before .before .before .before .before .cut in
     let k = c .before .before .before .before .before .before .before .before .before .before .before .before .before .before .before .verdict .given in
     let d = c .before .before .before .before .before .before .before .before .before .before .before .before .before .before .before .before .before .before .before .before in
     let a = d .before .before .before .before .before .before .before .before .args in
@@ -84,5 +84,5 @@ returns-3 c =
 pub feas-step-spec : {M : Type 1} → statement M
 feas-step-spec =
     tie.close
-    (tie.spec assess-feas-requires enum-told enum-known-verdict advance-requires after-requires answer-requires said-of-requires enum-known-verdict-2 same-length same-length-2 returns same-length-3 same-length-4
+    (tie.spec assess-feas-requires enum-told enum-known-verdict cut-requires after-requires answer-requires said-of-requires enum-known-verdict-2 same-length same-length-2 returns same-length-3 same-length-4
     same-length-5 same-length-6 returns-2 same-length-7 same-length-8 returns-3)

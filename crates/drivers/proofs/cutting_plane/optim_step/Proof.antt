@@ -14,8 +14,8 @@ enum-known-verdict c = search needs
 keep-requires : tie.Need-keep-requires
 keep-requires c κs = tt
 
-advance-requires : tie.Need-advance-requires
-advance-requires c κs = tt
+cut-requires : tie.Need-cut-requires
+cut-requires c κs = tt
 
 optim-stepped-requires : tie.Need-optim-stepped-requires
 optim-stepped-requires c κs = tt
@@ -23,8 +23,8 @@ optim-stepped-requires c κs = tt
 enum-known-verdict-2 : tie.Need-enum-known-verdict-2
 enum-known-verdict-2 c = search needs
 
-advance-requires-2 : tie.Need-advance-requires-2
-advance-requires-2 c κs = search needs
+cut-requires-2 : tie.Need-cut-requires-2
+cut-requires-2 c κs = search needs
 
 optim-stepped-requires-2 : tie.Need-optim-stepped-requires-2
 optim-stepped-requires-2 c κs = search needs
@@ -49,7 +49,7 @@ same-length-5 c = search needs
 
 returns : tie.Need-returns
 returns c =
-    let u = c .before .before .before .before .before .before .before .advance in
+    let u = c .before .before .before .before .before .before .before .cut in
     let d = c .before .before .before .before .before .before .before .before .before .before .before .before .before .before .before .before .before .before .before .before .before .before .before in
     let k = c .before .before .before .before .before .before .before .before .before .before .before .before .before .before .before .before .before .before .verdict .given in
     let a = d .before .before .before .before .before .before .before .before .before .args in
@@ -70,7 +70,7 @@ same-length-9 c = search needs
 
 returns-2 : tie.Need-returns-2
 returns-2 c =
-    let u = c .before .before .before .before .before .before .before .advance2 in
+    let u = c .before .before .before .before .before .before .before .cut2 in
     let d = c .before .before .before .before .before .before .before .before .before .before .before .before .before .before .before .before .before .before in
     let k = c .before .before .before .before .before .before .before .before .before .before .before .before .before .verdict2 .given in
     let a = d .before .before .before .before .before .before .before .before .before .args in
@@ -98,10 +98,10 @@ optim-step-spec =
     assess-optim-requires
     enum-known-verdict
     keep-requires
-    advance-requires
+    cut-requires
     optim-stepped-requires
     enum-known-verdict-2
-    advance-requires-2
+    cut-requires-2
     optim-stepped-requires-2
     enum-known-verdict-3
     same-length

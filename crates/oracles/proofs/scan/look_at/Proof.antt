@@ -36,8 +36,8 @@ row-value-requires c κs =
     let e : s .args .many * s .args .n ≡ 1 * s .args .n = ap (λ (z : ℕ). z * s .args .n) (one (s .args .many) (s .pre .0) (c .if1 .left)) in
     omega (arith, e)
 
-judge-requires : tie.Need-judge-requires
-judge-requires c κs = let s = c .before .before .before .before in omega (arith, one (s .args .many) (s .pre .0) (c .before .if1 .left))
+test-row-requires : tie.Need-test-row-requires
+test-row-requires c κs = let s = c .before .before .before .before in omega (arith, one (s .args .many) (s .pre .0) (c .before .if1 .left))
 
 returns-2 : tie.Need-returns-2
 returns-2 c =
@@ -45,9 +45,9 @@ returns-2 c =
     let s = v .before .before .before .before in
     let a = s .args in
     run-one (a .n) (a .table .now) (a .x .now) (a .lower) (a .limit) (a .row) (a .fmax) (a .kmax)
-    (as-judged (a .n) (a .table .now) (a .x .now) (a .lower) (a .limit) (a .fmax) refl (v .row-value .ensures) (toZ-ofZ (s .fits .kmax)) (c .judge .ensures))
+    (as-judged (a .n) (a .table .now) (a .x .now) (a .lower) (a .limit) (a .fmax) refl (v .row-value .ensures) (toZ-ofZ (s .fits .kmax)) (c .test-row .ensures))
     ∙ ap (λ (m : ℕ). runOf (a .n) (a .table .now) (a .x .now) (a .lower) (a .limit) m (a .row) (a .fmax) (a .kmax)) (sym (one (a .many) (s .pre .0) (v .before .if1 .left)))
 
 pub look-at-spec : {M : Type 1} → statement M
 look-at-spec =
-    tie.close (tie.spec look-at-four-requires returns row-value-requires judge-requires returns-2)
+    tie.close (tie.spec look-at-four-requires returns row-value-requires test-row-requires returns-2)

@@ -22,8 +22,8 @@ next₃ i = omega arith
 four-values-requires : tie.Need-four-values-requires
 four-values-requires c κs = search needs
 
-judge-requires : tie.Need-judge-requires
-judge-requires c κs = search needs
+test-row-requires : tie.Need-test-row-requires
+test-row-requires c κs = search needs
 
 is-broken-requires : tie.Need-is-broken-requires
 is-broken-requires c κs = search needs
@@ -37,14 +37,14 @@ returns c =
     let a = st .args in
     let row = a .row in
     let value = v .four-values .ensures in
-    let e₁ = as-judged (a .n) (a .table .now) (a .x .now) (a .lower) (a .limit) (a .fmax) refl (ap (λ (z : Four). z .a) value) (toZ-ofZ (st .fits .kmax)) (j .judge .ensures) in
+    let e₁ = as-judged (a .n) (a .table .now) (a .x .now) (a .lower) (a .limit) (a .fmax) refl (ap (λ (z : Four). z .a) value) (toZ-ofZ (st .fits .kmax)) (j .test-row .ensures) in
     run-ends (a .n) (a .table .now) (a .x .now) (a .lower) (a .limit) row (a .fmax) (a .kmax) e₁ 3 (sym (i .is-broken .ensures) ∙ c .if1 .taken)
 
-add-judge : tie.Need-add-judge
-add-judge c = search needs
+add-test-row : tie.Need-add-test-row
+add-test-row c = search needs
 
-judge-requires-2 : tie.Need-judge-requires-2
-judge-requires-2 c κs = search needs
+test-row-requires-2 : tie.Need-test-row-requires-2
+test-row-requires-2 c κs = search needs
 
 is-broken-requires-2 : tie.Need-is-broken-requires-2
 is-broken-requires-2 c κs = search needs
@@ -61,17 +61,17 @@ returns-2 c =
     let a = st .args in
     let row = a .row in
     let value = v .four-values .ensures in
-    let s = j .judge .result in
-    let e₁ = as-judged (a .n) (a .table .now) (a .x .now) (a .lower) (a .limit) (a .fmax) refl (ap (λ (z : Four). z .a) value) (toZ-ofZ (st .fits .kmax)) (j .judge .ensures) in
-    let e₂ = as-judged (a .n) (a .table .now) (a .x .now) (a .lower) (a .limit) (s .fmax) (next row) (ap (λ (z : Four). z .b) value) (toZ-ofZ (record { sfits = t .struct-told .given .1 .1 .0 .1 })) (j₂ .judge2 .ensures) in
+    let s = j .test-row .result in
+    let e₁ = as-judged (a .n) (a .table .now) (a .x .now) (a .lower) (a .limit) (a .fmax) refl (ap (λ (z : Four). z .a) value) (toZ-ofZ (st .fits .kmax)) (j .test-row .ensures) in
+    let e₂ = as-judged (a .n) (a .table .now) (a .x .now) (a .lower) (a .limit) (s .fmax) (next row) (ap (λ (z : Four). z .b) value) (toZ-ofZ (record { sfits = t .struct-told .given .1 .1 .0 .1 })) (j₂ .test-row2 .ensures) in
     run-ends (a .n) (a .table .now) (a .x .now) (a .lower) (a .limit) (suc row) (s .fmax) (s .kmax) e₂ 2 (sym (i₂ .is-broken2 .ensures) ∙ c .if2 .taken)
     ∙ run-on (a .n) (a .table .now) (a .x .now) (a .lower) (a .limit) row (a .fmax) (a .kmax) e₁ 3 (sym (i .is-broken .ensures) ∙ t .before .if1 .left)
 
-add-judge-2 : tie.Need-add-judge-2
-add-judge-2 c = search needs
+add-test-row-2 : tie.Need-add-test-row-2
+add-test-row-2 c = search needs
 
-judge-requires-3 : tie.Need-judge-requires-3
-judge-requires-3 c κs = search needs
+test-row-requires-3 : tie.Need-test-row-requires-3
+test-row-requires-3 c κs = search needs
 
 is-broken-requires-3 : tie.Need-is-broken-requires-3
 is-broken-requires-3 c κs = search needs
@@ -91,20 +91,20 @@ returns-3 c =
     let a = st .args in
     let row = a .row in
     let value = v .four-values .ensures in
-    let s = j .judge .result in
-    let s₂ = j₂ .judge2 .result in
-    let e₁ = as-judged (a .n) (a .table .now) (a .x .now) (a .lower) (a .limit) (a .fmax) refl (ap (λ (z : Four). z .a) value) (toZ-ofZ (st .fits .kmax)) (j .judge .ensures) in
-    let e₂ = as-judged (a .n) (a .table .now) (a .x .now) (a .lower) (a .limit) (s .fmax) (next row) (ap (λ (z : Four). z .b) value) (toZ-ofZ (record { sfits = t .struct-told .given .1 .1 .0 .1 })) (j₂ .judge2 .ensures) in
-    let e₃ = as-judged (a .n) (a .table .now) (a .x .now) (a .lower) (a .limit) (s₂ .fmax) (next₂ row) (ap (λ (z : Four). z .c) value) (toZ-ofZ (record { sfits = t₂ .struct-told2 .given .1 .1 .0 .1 })) (j₃ .judge3 .ensures) in
+    let s = j .test-row .result in
+    let s₂ = j₂ .test-row2 .result in
+    let e₁ = as-judged (a .n) (a .table .now) (a .x .now) (a .lower) (a .limit) (a .fmax) refl (ap (λ (z : Four). z .a) value) (toZ-ofZ (st .fits .kmax)) (j .test-row .ensures) in
+    let e₂ = as-judged (a .n) (a .table .now) (a .x .now) (a .lower) (a .limit) (s .fmax) (next row) (ap (λ (z : Four). z .b) value) (toZ-ofZ (record { sfits = t .struct-told .given .1 .1 .0 .1 })) (j₂ .test-row2 .ensures) in
+    let e₃ = as-judged (a .n) (a .table .now) (a .x .now) (a .lower) (a .limit) (s₂ .fmax) (next₂ row) (ap (λ (z : Four). z .c) value) (toZ-ofZ (record { sfits = t₂ .struct-told2 .given .1 .1 .0 .1 })) (j₃ .test-row3 .ensures) in
     run-ends (a .n) (a .table .now) (a .x .now) (a .lower) (a .limit) (suc (suc row)) (s₂ .fmax) (s₂ .kmax) e₃ 1 (sym (i₃ .is-broken3 .ensures) ∙ c .if3 .taken)
     ∙ run-on (a .n) (a .table .now) (a .x .now) (a .lower) (a .limit) (suc row) (s .fmax) (s .kmax) e₂ 2 (sym (i₂ .is-broken2 .ensures) ∙ t₂ .before .if2 .left)
     ∙ run-on (a .n) (a .table .now) (a .x .now) (a .lower) (a .limit) row (a .fmax) (a .kmax) e₁ 3 (sym (i .is-broken .ensures) ∙ t .before .if1 .left)
 
-add-judge-3 : tie.Need-add-judge-3
-add-judge-3 c = omega (arith, c .before .before .before .before .before .before .before .before .before .before .before .before .before .before .pre .0)
+add-test-row-3 : tie.Need-add-test-row-3
+add-test-row-3 c = omega (arith, c .before .before .before .before .before .before .before .before .before .before .before .before .before .before .pre .0)
 
-judge-requires-4 : tie.Need-judge-requires-4
-judge-requires-4 c κs = omega (arith, c .before .before .before .before .before .before .before .before .before .before .before .before .before .before .before .pre .0)
+test-row-requires-4 : tie.Need-test-row-requires-4
+test-row-requires-4 c κs = omega (arith, c .before .before .before .before .before .before .before .before .before .before .before .before .before .before .before .pre .0)
 
 returns-4 : tie.Need-returns-4
 returns-4 c =
@@ -122,13 +122,13 @@ returns-4 c =
     let a = st .args in
     let row = a .row in
     let value = v .four-values .ensures in
-    let s = j .judge .result in
-    let s₂ = j₂ .judge2 .result in
-    let s₃ = j₃ .judge3 .result in
-    let e₁ = as-judged (a .n) (a .table .now) (a .x .now) (a .lower) (a .limit) (a .fmax) refl (ap (λ (z : Four). z .a) value) (toZ-ofZ (st .fits .kmax)) (j .judge .ensures) in
-    let e₂ = as-judged (a .n) (a .table .now) (a .x .now) (a .lower) (a .limit) (s .fmax) (next row) (ap (λ (z : Four). z .b) value) (toZ-ofZ (record { sfits = t .struct-told .given .1 .1 .0 .1 })) (j₂ .judge2 .ensures) in
-    let e₃ = as-judged (a .n) (a .table .now) (a .x .now) (a .lower) (a .limit) (s₂ .fmax) (next₂ row) (ap (λ (z : Four). z .c) value) (toZ-ofZ (record { sfits = t₂ .struct-told2 .given .1 .1 .0 .1 })) (j₃ .judge3 .ensures) in
-    let e₄ = as-judged (a .n) (a .table .now) (a .x .now) (a .lower) (a .limit) (s₃ .fmax) (next₃ row) (ap (λ (z : Four). z .d) value) (toZ-ofZ (record { sfits = t₃ .struct-told3 .given .1 .1 .0 .1 })) (c .judge4 .ensures) in
+    let s = j .test-row .result in
+    let s₂ = j₂ .test-row2 .result in
+    let s₃ = j₃ .test-row3 .result in
+    let e₁ = as-judged (a .n) (a .table .now) (a .x .now) (a .lower) (a .limit) (a .fmax) refl (ap (λ (z : Four). z .a) value) (toZ-ofZ (st .fits .kmax)) (j .test-row .ensures) in
+    let e₂ = as-judged (a .n) (a .table .now) (a .x .now) (a .lower) (a .limit) (s .fmax) (next row) (ap (λ (z : Four). z .b) value) (toZ-ofZ (record { sfits = t .struct-told .given .1 .1 .0 .1 })) (j₂ .test-row2 .ensures) in
+    let e₃ = as-judged (a .n) (a .table .now) (a .x .now) (a .lower) (a .limit) (s₂ .fmax) (next₂ row) (ap (λ (z : Four). z .c) value) (toZ-ofZ (record { sfits = t₂ .struct-told2 .given .1 .1 .0 .1 })) (j₃ .test-row3 .ensures) in
+    let e₄ = as-judged (a .n) (a .table .now) (a .x .now) (a .lower) (a .limit) (s₃ .fmax) (next₃ row) (ap (λ (z : Four). z .d) value) (toZ-ofZ (record { sfits = t₃ .struct-told3 .given .1 .1 .0 .1 })) (c .test-row4 .ensures) in
     run-one (a .n) (a .table .now) (a .x .now) (a .lower) (a .limit) (suc (suc (suc row))) (s₃ .fmax) (s₃ .kmax) e₄
     ∙ run-on (a .n) (a .table .now) (a .x .now) (a .lower) (a .limit) (suc (suc row)) (s₂ .fmax) (s₂ .kmax) e₃ 1 (sym (i₃ .is-broken3 .ensures) ∙ t₃ .before .if3 .left)
     ∙ run-on (a .n) (a .table .now) (a .x .now) (a .lower) (a .limit) (suc row) (s .fmax) (s .kmax) e₂ 2 (sym (i₂ .is-broken2 .ensures) ∙ t₂ .before .if2 .left)
@@ -139,17 +139,17 @@ look-at-four-spec =
     tie.close
     (tie.spec
     four-values-requires
-    judge-requires
+    test-row-requires
     is-broken-requires
     returns
-    add-judge
-    judge-requires-2
+    add-test-row
+    test-row-requires-2
     is-broken-requires-2
     returns-2
-    add-judge-2
-    judge-requires-3
+    add-test-row-2
+    test-row-requires-3
     is-broken-requires-3
     returns-3
-    add-judge-3
-    judge-requires-4
+    add-test-row-3
+    test-row-requires-4
     returns-4)

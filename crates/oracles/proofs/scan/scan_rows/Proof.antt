@@ -50,8 +50,8 @@ row-value-requires c κs =
     let a = st .args in
     first-in (st .pre .0) (p .band-from .ensures) (p .before .band-past .ensures) (a .lower) (a .upper) (p .before .before .limit-of .ensures) (s .before .if1 .left) (s .step .ensures) (c .row-at .ensures)
 
-judge-requires : tie.Need-judge-requires
-judge-requires c κs =
+test-row-requires : tie.Need-test-row-requires
+test-row-requires c κs =
     let r = c .before in
     let s = r .before in
     let p = s .before .before in
@@ -75,7 +75,7 @@ returns-2 c =
     let st = p .before .before .before .before .before in
     let a = st .args in
     first-ends (st .pre .0) (p .band-from .ensures) (p .before .band-past .ensures) (a .lower) (a .upper) (p .before .before .limit-of .ensures) (s .before .if1 .left) (s .step .ensures) (r .row-at .ensures)
-    (as-judged (a .n) (a .table .now) (a .x .now) (a .lower) _ −∞ refl (v .row-value .ensures) refl (j .judge .ensures)) (sym (b .is-broken .ensures) ∙ c .if2 .taken)
+    (as-judged (a .n) (a .table .now) (a .x .now) (a .lower) _ −∞ refl (v .row-value .ensures) refl (j .test-row .ensures)) (sym (b .is-broken .ensures) ∙ c .if2 .taken)
 
 sub-scan-rest : tie.Need-sub-scan-rest
 sub-scan-rest c = omega (arith, c .before .before .before .before .before .before .if1 .left)
@@ -103,7 +103,7 @@ returns-3 c =
     let a = st .args in
     rw (toZ-ofZ (record { sfits = d .struct-told2 .given .1 .1 .0 .1 })) at (c .scan-rest .ensures)
     ∙ first-goes-on (st .pre .0) (p .band-from .ensures) (p .before .band-past .ensures) (a .lower) (a .upper) (p .before .before .limit-of .ensures) (s .before .if1 .left) (s .step .ensures) (r .row-at .ensures)
-    (as-judged (a .n) (a .table .now) (a .x .now) (a .lower) _ −∞ refl (v .row-value .ensures) refl (j .judge .ensures)) (sym (b .is-broken .ensures) ∙ d .before .if2 .left)
+    (as-judged (a .n) (a .table .now) (a .x .now) (a .lower) _ −∞ refl (v .row-value .ensures) refl (j .test-row .ensures)) (sym (b .is-broken .ensures) ∙ d .before .if2 .left)
 
 pub scan-rows-spec : {M : Type 1} → statement M
 scan-rows-spec =
@@ -117,7 +117,7 @@ scan-rows-spec =
     step-requires
     row-at-requires
     row-value-requires
-    judge-requires
+    test-row-requires
     is-broken-requires
     returns-2
     sub-scan-rest

@@ -3,8 +3,8 @@ use borrow.Author.Needs.{needs}
 use Rattle.oracles.proofs.ell.Ell.update_core.Statement.{statement}
 use Rattle.oracles.proofs.ell.Ell.update_core.Tie as tie
 
-advance-requires : tie.Need-advance-requires
-advance-requires c κs = search needs
+cut-requires : tie.Need-cut-requires
+cut-requires c κs = search needs
 
 after-requires : tie.Need-after-requires
 after-requires c κs = tt
@@ -22,13 +22,13 @@ same-length-3 : tie.Need-same-length-3
 same-length-3 c = search needs
 
 returns : tie.Need-returns
-returns c = rw (c .answer .ensures, c .before .after .ensures) (c .before .before .before .before .before .before .before .before .advance .ensures)
+returns c = rw (c .answer .ensures, c .before .after .ensures) (c .before .before .before .before .before .before .before .before .cut .ensures)
 
 pub update-core-spec : {M : Type 1} → statement M
 update-core-spec =
     tie.close
     (tie.spec
-    advance-requires
+    cut-requires
     after-requires
     answer-requires
     same-length

@@ -1,4 +1,4 @@
--- `oracles::scan::judge` meets its contract. Assumes nothing.
+-- `oracles::scan::test_row` meets its contract. Assumes nothing.
 use mathlib.Core.Path.{refl}
 use Prim.Native.Nat.{ℕ, _<_}
 use native.Mathlib.Omega.{arith}
@@ -9,8 +9,8 @@ use mir.Facts.{toZ-ofZ}
 use Rattle.numbers.specs.Pick.{pick, hit, skip}
 use Rattle.oracles.proofs.Signed.{pos-fits}
 use borrow.Author.Needs.{needs}
-use Rattle.oracles.proofs.scan.judge.Statement.{statement}
-use Rattle.oracles.proofs.scan.judge.Tie as tie
+use Rattle.oracles.proofs.scan.test_row.Statement.{statement}
+use Rattle.oracles.proofs.scan.test_row.Tie as tie
 
 row-fits : (row : ℕ) → row < 1024 → SFits w32 (pos row)
 row-fits row h = pos-fits row (omega arith)
@@ -40,5 +40,5 @@ returns-4 c =
     let s = c .before .before .before in
     rw (toZ-ofZ (s .fits .kmax), toZ-ofZ (row-fits (s .args .row) (s .pre))) (skip _ _ _ _ (c .before .before .if1 .left) (skip _ _ _ _ (c .before .if2 .left) (rw (c .if3 .left))))
 
-pub judge-spec : {M : Type 1} → statement M
-judge-spec = tie.close (tie.spec cast-last returns returns-2 returns-3 returns-4)
+pub test-row-spec : {M : Type 1} → statement M
+test-row-spec = tie.close (tie.spec cast-last returns returns-2 returns-3 returns-4)

@@ -1,12 +1,12 @@
--- `oracles::ell::Ell::advance` meets its contract. Assumes nothing.
+-- `oracles::ell::Ell::cut` meets its contract. Assumes nothing.
 use mathlib.Core.Path.{_∙_}
 use borrow.Author.Needs.{needs}
 use borrow.Author.Tests.{eq-eqb, ne-eqb}
 use Rattle.numbers.specs.ArrLaws.{dimension-most, wrong-dimension, wrong-length, accepted}
 use Rattle.oracles.specs.LoopLaws.{says-no, says-yes}
 use Rattle.oracles.proofs.ell_common.Laws.{no-left, no-right, both, lengths}
-use Rattle.oracles.proofs.ell.Ell.advance.Statement.{statement}
-use Rattle.oracles.proofs.ell.Ell.advance.Tie as tie
+use Rattle.oracles.proofs.ell.Ell.cut.Statement.{statement}
+use Rattle.oracles.proofs.ell.Ell.cut.Tie as tie
 
 is-dimension-requires : tie.Need-is-dimension-requires
 is-dimension-requires c κs = search needs
@@ -60,8 +60,8 @@ returns-4 c =
     (both _ _ (says-yes _ _ (c .before .before .before .before .before .before .before .before .before .before .before .before .lengths-fit .ensures) (c .before .before .before .before .before .before .before .before .before .before .before .if2 .left))
     (eq-eqb _ _ (c .before .before .before .before .before .before .before .before .before .before .if3 .left)))
 
-pub advance-spec : {M : Type 1} → statement M
-advance-spec =
+pub cut-spec : {M : Type 1} → statement M
+cut-spec =
     tie.close
     (tie.spec
     is-dimension-requires
