@@ -2,7 +2,7 @@
 use mathlib.Core.Path.{_≡_, refl, sym, ap, _∙_, subst}
 use mathlib.Core.Logic.{_⊎_, inl, inr}
 use mathlib.Core.Bool.{Bool, true, false, not}
-use Prim.Native.Nat.{ℕ, zero, suc, _+_, _-_, _*_, _/_, _%_, _^_, _≤_, _<_, compare, Ordering·eq}
+use Prim.Native.Nat.{ℕ, zero, suc, _+_, _-_, _*_, _/_, _%_, _^_, _≤_, _<_}
 use native.Mathlib.Nat.{mul-le-mul, mul-le-mul-right, lt-of-mul-lt-mul-right, lt-of-not-le, not-le-of-lt, le-of-lt, le-trans, lt-of-lt-of-le, lt-of-le-of-lt, le-of-eq, le-of-suc-le-suc, mul-pos, pow-succ', mul-lt-mul-of-pos-left, sub-le, not-suc-le-zero, zero-lt-suc}
 use native.Mathlib.Numerals.{add-one-le}
 use native.Mathlib.Omega.{arith}
@@ -17,10 +17,10 @@ use lib.Ieee.Positive.{positive}
 use lib.Ieee.Scale.{finite}
 use lib.Ieee.Fits.{nan-fits, inf-fits}
 use lib.Ieee.Bits.{ofBits-fits}
-use Rattle.numbers.specs.Sqrt.{unitsOf, squareOf, middle, rounded, sqrtOf}
-use Rattle.numbers.specs.Rounded.{Form, form, rounded-scaled, root-least, half-least, half-most, even-square, from-kept, below-next, below-middle, above-middle, no-tie-at}
+use Rattle.numbers.specs.Sqrt.{unitsOf, squareOf, rounded, sqrtOf, negative, Nearer, NearestRoot}
+use Rattle.numbers.specs.Rounded.{Form, form, rounded-scaled, root-least, half-least, half-most, even-square, from-kept, below-next, below-middle, above-middle}
 use Rattle.numbers.specs.Values.{pow-join, value-unique}
-use Rattle.numbers.specs.Units.{placed, value-units, units-bits, in-range, negative, at-positive}
+use Rattle.numbers.specs.Units.{placed, value-units, units-bits, in-range, at-positive}
 
 -- No value of the format lies between q * 2 ^ k and (q + 1) * 2 ^ k units, for a q of 53 digits.
 grid : (q k n j : ℕ) → 2 ^ 52 ≤ q → n < 2 ^ 53 → q * 2 ^ k < n * 2 ^ j → (q + 1) * 2 ^ k ≤ n * 2 ^ j
@@ -37,13 +37,6 @@ grid q k n j l h g =
     low b = twice n (2 ^ j) (q * 2 ^ k) h (le-trans (le-of-eq (ap (λ (x : ℕ). 2 ^ 52 * x) (sym (pow-succ' 2 j)))) (mul-le-mul l (pow-mono b)))
 
 -- ---- nearer to √N
-
--- r lies nearer to √N than u does, or than -u where s is true; all in units. Between two numbers r and u the middle is (r + u) / 2, so r is
--- nearer where 2 * √N lies on its side of r + u, which the squares say. -u lies farther than r does where
--- r - √N < √N + u; `r - u` is 0 where r ≤ u, and there 0 < 4 * N says no less.
-abbrev pub Nearer : ℕ → ℕ → Bool → ℕ → Type 0
-Nearer N r false u = ((r < u) × (4 * N < (r + u) * (r + u))) ⊎ ((u < r) × ((r + u) * (r + u) < 4 * N))
-Nearer N r true u = (r - u) * (r - u) < 4 * N
 
 sq-mono : {a b : ℕ} → a ≤ b → a * a ≤ b * b
 sq-mono h = mul-le-mul h h
@@ -157,25 +150,21 @@ module _ (x : Float) (r : Rooted x) where
           (above-middle (F .m * 2 ^ 54) (F .a) (F .g) (even-square (F .m)) (F .scaled .root) o)
           (λ h. ne (h ∙ ap (λ (z : ℕ). z * 2 ^ place) (sym i))))
 
--- A tie can't happen: 4 * N never equals the square of the middle.
-pub no-tie : (m : ℕ) (e : ℤ) → T (fits binary64 (fin false (suc m) e)) → let N = squareOf (unitsOf (fin false (suc m) e)) in compare (4 * N) (middle N * middle N) ≡ Ordering·eq → ⊥
-no-tie m e f = let F = rooted m e f .parts in subst (λ (N : ℕ). compare (4 * N) (middle N * middle N) ≡ Ordering·eq → ⊥) (sym (F .square)) (no-tie-at (F .m) (F .a) (F .g) (F .scaled))
-
 -- zero lies farther than r: r * r < 4 * N
 zero-farther : (N r : ℕ) → Nearer N r false 0 → r * r < 4 * N
 zero-farther N r (inl h) = absurd (not-suc-le-zero (h .0))
 zero-farther N r (inr h) = lt-of-le-of-lt (le-of-eq (omega arith)) (h .1)
 
--- For every other f64 the root lies strictly nearer: x positive and finite, y finite. (An infinity lies infinitely far from the root.)
-pub sqrt-nearest : (x y : Float) → T (fits binary64 x) → T (positive x) → T (fits binary64 y) → T (finite y) → (y ≡ sqrtOf x → ⊥)
+-- For every other f64 the root lies strictly nearer: x positive and finite, y finite.
+strictly-nearer : (x y : Float) → T (fits binary64 x) → T (positive x) → T (fits binary64 y) → T (finite y) → (y ≡ sqrtOf x → ⊥)
     → Nearer (squareOf (unitsOf x)) (unitsOf (sqrtOf x)) (negative y) (unitsOf y)
-sqrt-nearest nan y f p g h ne = absurd p
-sqrt-nearest (inf s) y f p g h ne = absurd p
-sqrt-nearest (fin true m e) y f p g h ne = absurd p
-sqrt-nearest (fin false zero e) y f p g h ne = absurd p
-sqrt-nearest (fin false (suc m) e) nan f p g h ne = absurd h
-sqrt-nearest (fin false (suc m) e) (inf s) f p g h ne = absurd h
-sqrt-nearest (fin false (suc m) e) (fin t n d) f p g h ne = go t g ne
+strictly-nearer nan y f p g h ne = absurd p
+strictly-nearer (inf s) y f p g h ne = absurd p
+strictly-nearer (fin true m e) y f p g h ne = absurd p
+strictly-nearer (fin false zero e) y f p g h ne = absurd p
+strictly-nearer (fin false (suc m) e) nan f p g h ne = absurd h
+strictly-nearer (fin false (suc m) e) (inf s) f p g h ne = absurd h
+strictly-nearer (fin false (suc m) e) (fin t n d) f p g h ne = go t g ne
   where
     x : Float
     x = fin false (suc m) e
@@ -214,3 +203,19 @@ sqrt-fits (inf true) f = nan-fits binary64
 sqrt-fits (fin s zero e) f = f
 sqrt-fits (fin true (suc m) e) f = nan-fits binary64
 sqrt-fits (fin false (suc m) e) f = rooted-fits (fin false (suc m) e) (rooted m e f)
+
+value-finite : (x : Float) (s : Bool) (a c : ℕ) → HasValue x s a c → T (finite x) × (negative x ≡ s)
+value-finite nan s a c v = absurd v
+value-finite (inf t) s a c v = absurd v
+value-finite (fin t m e) s a c v = (tt, v .0)
+
+-- `sqrtOf` gives IEEE 754's root.
+pub sqrt-nearest : (x : Float) → T (fits binary64 x) → T (positive x) → NearestRoot x (sqrtOf x)
+sqrt-nearest nan f p = absurd p
+sqrt-nearest (inf s) f p = absurd p
+sqrt-nearest (fin true m e) f p = absurd p
+sqrt-nearest (fin false zero e) f p = absurd p
+sqrt-nearest (fin false (suc m) e) f p =
+    let x = fin false (suc m) e in
+    let v = value-finite (sqrtOf x) false _ _ (rooted-value x (rooted m e f)) in
+    record { is-f64 = sqrt-fits x f; is-finite = v .0; not-below-zero = v .1; nearer = λ y. strictly-nearer x y f p }

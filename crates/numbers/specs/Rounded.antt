@@ -196,13 +196,6 @@ module _ (m a g : ℕ) (s : Scaled m a) where
   side-is : compare (4 * N) (middle N * middle N) ≡ sideOf (a % 2)
   side-is = ap (λ (x : ℕ). compare (4 * N) (x * x)) middle-is ∙ side (m * 2 ^ 54) a g (even-square m) (s .root)
 
-  pub no-tie-at : compare (4 * N) (middle N * middle N) ≡ Ordering·eq → ⊥
-  no-tie-at e = go (a % 2) (sym side-is ∙ e)
-    where
-      go : (d : ℕ) → sideOf d ≡ Ordering·eq → ⊥
-      go zero h = let z : _≡_ {A = ℕ} 0 1 = cc in omega arith
-      go (suc d) h = let z : _≡_ {A = ℕ} 0 1 = cc in omega arith
-
   -- the 53 leading digits of a, rounded at the 54th
   pub rounded-scaled : rounded N ≡ units binary64 false ((a + 1) / 2) (g + 1)
   unfolding rounded

@@ -1,10 +1,13 @@
 -- The square root of IEEE 754: the value of binary64 that is nearest to the true root, by comparing squares of whole numbers. Definitions only.
 -- Whole numbers count units of 2 ^ -1074, the least value above zero.
-use Prim.Native.Nat.{ℕ, zero, suc, _+_, _-_, _*_, _/_, _^_, compare}
-use mathlib.Core.Bool.{true, false, cond}
-use lib.Dec.{leb}
-use lib.Ieee.{Float, nan, inf, fin, binary64, prec, low, size, nearest, units}
+use mathlib.Core.Path.{_≡_}
+use mathlib.Core.Logic.{_⊎_}
+use Prim.Native.Nat.{ℕ, zero, suc, _+_, _-_, _*_, _/_, _^_, _<_, compare}
+use mathlib.Core.Bool.{Bool, true, false, cond}
+use lib.Dec.{T, leb}
+use lib.Ieee.{Float, nan, inf, fin, binary64, prec, low, size, nearest, units, fits}
 use lib.Ieee.Positive.{num, den}
+use lib.Ieee.Scale.{finite}
 
 -- The whole part of √N, for N below 4 ^ k: the root of the number without its last two binary digits, and one digit more.
 unfoldable pub isqrtTo : ℕ → ℕ → ℕ
@@ -37,11 +40,11 @@ kept N = isqrt N / 2 ^ dropped N
 abbrev pub middle : ℕ → ℕ
 middle N = (2 * kept N + 1) * 2 ^ dropped N
 
--- √N units rounded to binary64: 2 * √N lies below, at or above the middle as the squares do. (A tie would go to the even number; none occurs: `no-tie` in Nearest.)
+-- √N units rounded to binary64: 2 * √N lies below, at or above the middle as the squares do. (A tie would go to the even number; none occurs, since every other number lies strictly farther: NearestRoot below.)
 unfoldable pub rounded : ℕ → Float
 rounded N = units binary64 false (nearest (kept N) (compare (4 * N) (middle N * middle N))) (dropped N)
 
--- NaN and numbers below zero give NaN; each zero and plus infinity give themselves; any other x the rounded root, which is IEEE 754's: `sqrt-nearest` in Nearest.
+-- NaN and numbers below zero give NaN; each zero and plus infinity give themselves; any other x the rounded root.
 unfoldable pub sqrtOf : Float → Float
 sqrtOf nan = nan
 sqrtOf (inf false) = inf false
@@ -49,3 +52,25 @@ sqrtOf (inf true) = nan
 sqrtOf (fin s zero e) = fin s zero e
 sqrtOf (fin true (suc m) e) = nan
 sqrtOf (fin false (suc m) e) = rounded (squareOf (unitsOf (fin false (suc m) e)))
+
+-- ---- IEEE 754's root: what the contract of `sqrt` says of a positive finite x beside the equation with `sqrtOf`
+
+-- a float's sign
+abbrev pub negative : Float → Bool
+negative nan = false
+negative (inf s) = s
+negative (fin s m e) = s
+
+-- r lies nearer to √N than u does, or than -u where s is true; all in units. Between two numbers r and u the middle is (r + u) / 2, so r is
+-- nearer where 2 * √N lies on its side of r + u, which the squares say. -u lies farther than r does where
+-- r - √N < √N + u; `r - u` is 0 where r ≤ u, and there 0 < 4 * N says no less.
+abbrev pub Nearer : ℕ → ℕ → Bool → ℕ → Type 0
+Nearer N r false u = ((r < u) × (4 * N < (r + u) * (r + u))) ⊎ ((u < r) × ((r + u) * (r + u) < 4 * N))
+Nearer N r true u = (r - u) * (r - u) < 4 * N
+
+-- r is the f64 nearest to √x: a finite f64, not below zero, and strictly nearer than every other finite f64, so that no tie occurs. (An infinity lies infinitely far from the root.)
+pub record NearestRoot (x r : Float) : Type 0 where
+  pub is-f64 : T (fits binary64 r)
+  pub is-finite : T (finite r)
+  pub not-below-zero : negative r ≡ false
+  pub nearer : (y : Float) → T (fits binary64 y) → T (finite y) → (y ≡ r → ⊥) → Nearer (squareOf (unitsOf x)) (unitsOf r) (negative y) (unitsOf y)

@@ -14,7 +14,7 @@ use lib.Ieee.Exact.{HasValue}
 use borrow.Author.Tests.{lt-leb, ne-eqb, lt-ltb}
 use lib.Ieee.Positive.{first-pos}
 use lib.Ieee.Scale.{finite}
-use Rattle.numbers.specs.Sqrt.{unitsOf, squareOf, rounded, sqrtOf}
+use Rattle.numbers.specs.Sqrt.{unitsOf, squareOf, rounded, sqrtOf, negative}
 use Rattle.numbers.specs.Values.{place-lt, Parts, fits-parts, whole}
 
 -- ---- q * 2 ^ k units as bits: the field is k + 1, and the leading digit of q adds one to it
@@ -94,12 +94,6 @@ placed s zero e f = record {
   reach = lit≤ tt;
 }
 placed s (suc m) e f = placed-at s (suc m) e (zero-lt-suc m) (fits-parts binary64 s m e f)
-
--- a float's sign
-abbrev pub negative : Float → Bool
-negative nan = false
-negative (inf s) = s
-negative (fin s m e) = s
 
 -- so `unitsOf` drops nothing of a finite value of the format
 pub units-exact : (x : Float) → T (fits binary64 x) → T (finite x) → HasValue x (negative x) (unitsOf x) (2 ^ 1074)

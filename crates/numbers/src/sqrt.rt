@@ -3,7 +3,9 @@ ghost use mathlib.Core.Path.{_≡_};
 ghost use mathlib.Core.Bool.{true};
 ghost use Prim.Native.Nat.{_+_, _-_, _*_, _≤_, _<_, _^_};
 ghost use lib.Ieee.{binary64, ofBits};
-ghost use Rattle.numbers.specs.Sqrt.{sqrtOf};
+ghost use lib.Dec.{T};
+ghost use lib.Ieee.Positive.{positive};
+ghost use Rattle.numbers.specs.Sqrt.{sqrtOf, NearestRoot};
 ghost use Rattle.numbers.specs.Isqrt.{IsRoot};
 ghost use Rattle.numbers.specs.Rounded.{SquareOfBits};
 
@@ -174,9 +176,10 @@ fn guessed_root(x: f64, bits: u64) -> f64
     root_of(bits)
 }
 
-// A normal number above zero comes first, being the usual case. What is left at the end is a zero or plus infinity.
+// A normal number above zero comes first, being the usual case. What is left at the end is a zero or plus infinity. The second `ensures` is IEEE 754's root.
 pub fn sqrt(x: f64) -> f64
     ensures { λ r. ⌜ r ≡ sqrtOf x ⌝ }
+    ensures { λ r. ⌜ (T (positive x) → NearestRoot x r) ⌝ }
 {
     if x != x {
         return 0.0 / 0.0;

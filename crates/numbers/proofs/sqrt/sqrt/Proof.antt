@@ -1,7 +1,10 @@
 -- `numbers::sqrt::sqrt` meets its contract. Assumes nothing.
-use mathlib.Core.Path.{sym, subst}
+use mathlib.Core.Path.{_≡_, sym, subst}
 use lib.Dec.{T}
-use lib.Ieee.{binary64, fits}
+use lib.Ieee.{Float, binary64, fits}
+use lib.Ieee.Positive.{positive}
+use Rattle.numbers.specs.Sqrt.{sqrtOf, NearestRoot}
+use Rattle.numbers.specs.Nearest.{sqrt-nearest}
 use Rattle.numbers.proofs.sqrt.Patterns.{nan-root, not-a-nan, negative-root, positive-root, normal-bits, positive-bits, other-root}
 use Rattle.numbers.proofs.sqrt.sqrt.Statement.{statement}
 use Rattle.numbers.proofs.sqrt.sqrt.Tie as tie
@@ -9,8 +12,12 @@ use Rattle.numbers.proofs.sqrt.sqrt.Tie as tie
 float-fits : (c : tie.Start) → T (fits binary64 (c .args .x))
 float-fits c = subst T (sym (c .good .0 .1)) tt
 
+-- what is equal to `sqrtOf` is the nearest root
+both : (x r : Float) → T (fits binary64 x) → r ≡ sqrtOf x → (r ≡ sqrtOf x) × (T (positive x) → NearestRoot x r)
+both x r f e = (e, λ p. subst (NearestRoot x) (sym e) (sqrt-nearest x f p))
+
 returns : tie.Need-returns
-returns c = nan-root _ (c .if1 .taken)
+returns c = both _ _ (float-fits (c .before)) (nan-root _ (c .if1 .taken))
 
 float-to-bits-bits : tie.Need-float-to-bits-bits
 float-to-bits-bits c = not-a-nan _ (c .if1 .left)
@@ -19,19 +26,21 @@ guessed-root-requires : tie.Need-guessed-root-requires
 guessed-root-requires c κs = normal-bits _ (c .if2 .taken)
 
 returns-2 : tie.Need-returns-2
-returns-2 c = positive-root _ (float-fits (c .before .before .before)) _ (c .guessed-root .ensures)
+returns-2 c = let f = float-fits (c .before .before .before) in both _ _ f (positive-root _ f _ (c .guessed-root .ensures))
 
 root-of-requires : tie.Need-root-of-requires
 root-of-requires c κs = positive-bits _ (c .if3 .taken)
 
 returns-3 : tie.Need-returns-3
-returns-3 c = positive-root _ (float-fits (c .before .before .before .before)) _ (c .root-of .ensures)
+returns-3 c = let f = float-fits (c .before .before .before .before) in both _ _ f (positive-root _ f _ (c .root-of .ensures))
 
 returns-4 : tie.Need-returns-4
-returns-4 c = negative-root _ (float-fits (c .before .before .before .before)) (c .if4 .taken)
+returns-4 c = let f = float-fits (c .before .before .before .before) in both _ _ f (negative-root _ f (c .if4 .taken))
 
 returns-5 : tie.Need-returns-5
-returns-5 c = other-root _ (float-fits (c .before .before .before .before)) (c .before .before .before .if1 .left) (c .before .if3 .left) (c .if4 .left)
+returns-5 c =
+    let f = float-fits (c .before .before .before .before) in
+    both _ _ f (other-root _ f (c .before .before .before .if1 .left) (c .before .if3 .left) (c .if4 .left))
 
 pub sqrt-spec : {M : Type 1} → statement M
 sqrt-spec =

@@ -11,18 +11,18 @@ sqrt-requires c κs = tt
 
 returns : tie.Need-returns
 unfolding calc-bias-cut-q
-returns c = rw (← c .before .sqrt .ensures) (hit _ _ _ _ (c .if1 .taken) refl)
+returns c = rw (← c .before .sqrt .ensures .0) (hit _ _ _ _ (c .if1 .taken) refl)
 
 returns-2 : tie.Need-returns-2
 unfolding calc-bias-cut-q
-returns-2 c = rw (← c .before .before .before .sqrt .ensures) (skip _ _ _ _ (c .before .before .if1 .left) (hit _ _ _ _ (c .if2 .taken) refl))
+returns-2 c = rw (← c .before .before .before .sqrt .ensures .0) (skip _ _ _ _ (c .before .before .if1 .left) (hit _ _ _ _ (c .if2 .taken) refl))
 
 calc-bias-cut-fast-requires : tie.Need-calc-bias-cut-fast-requires
 calc-bias-cut-fast-requires c κs = tt
 
 returns-3 : tie.Need-returns-3
 unfolding calc-bias-cut-q
-returns-3 c = rw (← c .before .before .before .before .before .sqrt .ensures) (skip _ _ _ _ (c .before .before .before .before .if1 .left) (skip _ _ _ _ (c .before .before .if2 .left) (ap success (c .calc-bias-cut-fast .ensures))))
+returns-3 c = rw (← c .before .before .before .before .before .sqrt .ensures .0) (skip _ _ _ _ (c .before .before .before .before .if1 .left) (skip _ _ _ _ (c .before .before .if2 .left) (ap success (c .calc-bias-cut-fast .ensures))))
 
 pub calc-bias-cut-q-spec : {M : Type 1} → statement M
 calc-bias-cut-q-spec =

@@ -10,7 +10,7 @@ sqrt-requires c κs = tt
 
 returns : tie.Need-returns
 unfolding core-parallel-bias-cut-fast
-returns c = rw (c .before .before .before .sqrt .ensures)
+returns c = rw (c .before .before .before .sqrt .ensures .0)
 
 pub calc-parallel-bias-cut-fast-spec : {M : Type 1} → statement M
 calc-parallel-bias-cut-fast-spec = tie.close (tie.spec sqrt-requires returns)
