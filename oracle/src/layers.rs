@@ -12,6 +12,8 @@ pub struct Layer {
     pub fill: fn(u64, &mut Source, &mut Case),
     /// Cases that every list begins with.
     pub fixed: fn() -> Vec<Case>,
+    /// Seed and count of the list that the gate replays.
+    pub gate: (u64, u64),
 }
 
 pub const LAYERS: &[Layer] = &[
@@ -20,18 +22,21 @@ pub const LAYERS: &[Layer] = &[
         ops: numbers::OPS,
         fill: numbers::fill,
         fixed: Vec::new,
+        gate: (20261115, 24_000),
     },
     Layer {
         name: "oracles",
         ops: oracles::OPS,
         fill: oracles::fill,
-        fixed: Vec::new,
+        fixed: oracles::fixed,
+        gate: (20261115, 24_001),
     },
     Layer {
         name: "drivers",
         ops: drivers::OPS,
         fill: drivers::fill,
         fixed: drivers::fixed,
+        gate: (20261116, 5_001),
     },
 ];
 
@@ -53,6 +58,24 @@ impl Layer {
         Ok(rounds.map(|op| op.0).collect())
     }
 
+    /// Writes the fixed cases, then drawn ones, of the operations in `only` or, if it is empty, of all.
+    pub fn write_list(
+        &self,
+        only: &[u64],
+        seed: u64,
+        count: u64,
+        to: &mut impl Write,
+    ) -> io::Result<()> {
+        let wheel = self.wheel(only)?;
+        let mut fixed = (self.fixed)();
+        fixed.retain(|case| only.is_empty() || only.contains(&case.op));
+        fixed.truncate(count as usize);
+        for case in &fixed {
+            case.write(to)?;
+        }
+        self.write_drawn(&wheel, seed, count - fixed.len() as u64, to)
+    }
+
     /// Writes so many drawn cases.
     pub fn write_drawn(
         &self,
@@ -69,5 +92,36 @@ impl Layer {
             case.write(to)?;
         }
         to.flush()
+    }
+
+    /// Writes the list that the gate replays. At its end stands a case of each operation whose last
+    /// word is wrong on purpose, so that a replay that compares nothing is noticed.
+    pub fn write_gate(&self, to: &mut impl Write) -> io::Result<()> {
+        let (seed, count) = self.gate;
+        self.write_list(&[], seed, count, to)?;
+        let mut src = Source::new(!seed);
+        let mut case = Case::default();
+        for (op, ..) in self.ops {
+            (self.fill)(*op, &mut src, &mut case);
+            *case.output.last_mut().unwrap() ^= 1;
+            case.write(to)?;
+        }
+        to.flush()
+    }
+}
+
+#[cfg(test)]
+mod tests {
+    use super::*;
+
+    /// The lists that the gate replays are what their seeds give.
+    #[test]
+    fn committed_lists_are_made_anew() {
+        for layer in LAYERS {
+            let mut made = Vec::new();
+            layer.write_gate(&mut made).unwrap();
+            let path = format!("../crates/{}_vectors/stdin", layer.name);
+            assert!(std::fs::read(&path).unwrap() == made, "{path}");
+        }
     }
 }

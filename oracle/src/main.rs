@@ -22,6 +22,7 @@ use std::process::ExitCode;
 
 const USAGE: &str = "usage:
   oracle gen LAYER --seed S --count N [--only OP[,OP..]]   write a list to standard output
+  oracle gate LAYER                                        write the list that the gate replays
   oracle check-sqrt                                        check the roots of a list
   oracle count                                             count a list's cases and answers
   oracle show                                              print a list as text
@@ -38,6 +39,7 @@ fn main() -> ExitCode {
     let args: Vec<&str> = args.iter().map(String::as_str).collect();
     let done = match args[..] {
         ["gen", layer, ref rest @ ..] => gen(layer, rest),
+        ["gate", layer] => gate(layer),
         ["check-sqrt"] => sqrt_check::check(&mut input(), &mut output()),
         ["count"] => show::count(&mut input(), &mut output()),
         ["show"] => show::show(&mut input(), &mut output()),
@@ -76,9 +78,18 @@ fn wrong(text: &str) -> io::Error {
     io::Error::new(ErrorKind::InvalidInput, text)
 }
 
-fn gen(name: &str, args: &[&str]) -> io::Result<bool> {
+fn layer_of(name: &str) -> io::Result<&'static Layer> {
     let layer = LAYERS.iter().find(|l| l.name == name);
-    let layer = layer.ok_or_else(|| wrong("no such layer"))?;
+    layer.ok_or_else(|| wrong("no such layer"))
+}
+
+fn gate(name: &str) -> io::Result<bool> {
+    layer_of(name)?.write_gate(&mut output())?;
+    Ok(true)
+}
+
+fn gen(name: &str, args: &[&str]) -> io::Result<bool> {
+    let layer = layer_of(name)?;
     let (mut seed, mut count, mut only) = (None, None, Vec::new());
     for pair in args.chunks(2) {
         match *pair {
@@ -96,7 +107,8 @@ fn gen(name: &str, args: &[&str]) -> io::Result<bool> {
             "this Rust library begins a sum at plus zero: use Rust 1.95",
         ));
     }
-    write_list(layer, &layer.wheel(&only)?, seed, count)
+    layer.write_list(&only, seed, count, &mut output())?;
+    Ok(true)
 }
 
 fn whole(text: &str) -> io::Result<u64> {
@@ -107,16 +119,4 @@ fn whole(text: &str) -> io::Result<u64> {
 fn sum_begins_at_minus_zero() -> bool {
     let zeros = Arr::from(vec![-0.0, -0.0]);
     zeros.dot(&Arr::ones(2)).is_sign_negative()
-}
-
-fn write_list(layer: &Layer, wheel: &[u64], seed: u64, count: u64) -> io::Result<bool> {
-    let mut to = output();
-    let mut fixed = (layer.fixed)();
-    fixed.retain(|case| wheel.contains(&case.op));
-    fixed.truncate(count as usize);
-    for case in &fixed {
-        case.write(&mut to)?;
-    }
-    layer.write_drawn(wheel, seed, count - fixed.len() as u64, &mut to)?;
-    Ok(true)
 }

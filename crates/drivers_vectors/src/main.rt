@@ -10,6 +10,7 @@ mod texts;
 
 use crate::answers::Bytes;
 use crate::belonging::replay_belongs;
+use crate::records::replay_default;
 use crate::records::replay_read_answer;
 use crate::records::replay_read_job;
 use crate::records::replay_write_answer;
@@ -41,6 +42,7 @@ fn replay(
     let op = case.op;
     match op {
         70 | 71 | 140 | 141 => replay_run(op, ins, inputs, floats, got, a, b, c, d, e),
+        142 => replay_default(ins, got),
         150 => replay_read_job(ins, inputs, got, a, b, c),
         151 => replay_read_answer(ins, inputs, got, a),
         152 => replay_write_answer(ins, inputs, floats, got),

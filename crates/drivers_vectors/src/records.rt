@@ -1,4 +1,4 @@
-// Operations 150 to 152: the readers and the writer.
+// Operations 142 and 150 to 152: the values of `Options`, the readers and the writer.
 use crate::answers::Bytes;
 use crate::answers::push_floats;
 use crate::answers::push_words;
@@ -8,11 +8,14 @@ use crate::packed::pad;
 use crate::packed::put_bytes;
 use crate::packed::words_of;
 use crate::places::half_of;
+use crate::state::push_bands;
+use crate::state::push_state;
 use drivers::answer::Answer;
 use drivers::answer::AnswerRead;
 use drivers::answer::AnswerWritten;
 use drivers::answer::read_answer;
 use drivers::answer::write_answer;
+use drivers::cutting_plane::Options;
 use drivers::job::Job;
 use drivers::job::JobAnswer;
 use drivers::job::read_job;
@@ -31,13 +34,10 @@ fn push_refused(got: &mut Bytes, why: Refusal, place: usize) -> usize {
     push_words(got, 0, &[why.number() as u64, place as u64])
 }
 
-// What a job has beside its slices.
+// What a job has beside its slices, with all that its oracle starts with.
 fn push_job(got: &mut Bytes, job: Job) -> usize {
     let oracle = job.oracle;
     let options = job.options;
-    let rr1 = oracle.rr1;
-    let rr2 = oracle.rr2;
-    let rr3 = oracle.rr3;
     let words = [
         0,
         0,
@@ -47,15 +47,25 @@ fn push_job(got: &mut Bytes, job: Job) -> usize {
         word_of(oracle.nwstop),
         to_bits(oracle.lp_sq),
         to_bits(oracle.up_sq),
-        to_bits(oracle.sp_sq),
-        word_of(rr1.cur),
-        word_of(rr2.cur),
-        word_of(rr3.cur),
-        to_bits(job.kappa),
-        options.max_iters as u64,
-        to_bits(options.tolerance),
     ];
-    push_words(got, 0, &words)
+    let k = push_words(got, 0, &words);
+    let k = push_state(got, k, oracle);
+    let k = push_bands(got, k, oracle);
+    let k = push_words(got, k, &[to_bits(job.kappa)]);
+    push_options(got, k, options)
+}
+
+fn push_options(got: &mut Bytes, k: usize, options: Options) -> usize {
+    let words = [options.max_iters as u64, to_bits(options.tolerance)];
+    push_words(got, k, &words)
+}
+
+// Operation 142 has no inputs.
+pub(crate) fn replay_default(ins: usize, got: &mut Bytes) -> Replayed {
+    if ins != 0 {
+        return Replayed::Unfit;
+    }
+    Replayed::Words(push_options(got, 0, Options::default()))
 }
 
 // The slices are at the fronts of the rooms.

@@ -9,6 +9,7 @@ use crate::places::options_of;
 use crate::places::places_right;
 use crate::places::places_told;
 use crate::state::oracle_of;
+use crate::state::push_bands;
 use crate::state::push_state;
 use drivers::answer::Answer;
 use drivers::cutting_plane::FeasAnswer;
@@ -224,9 +225,10 @@ fn put_gamma(got: &mut Bytes, k: usize, p: Places, gamma: f64) -> usize {
     push_float(got, k, gamma)
 }
 
-fn put_space(got: &mut Bytes, k: usize, came: Came) -> usize {
+fn put_space(got: &mut Bytes, k: usize, told: bool, came: Came) -> usize {
     let oracle = came.oracle;
     let k = push_state(got, k, oracle);
+    let k = if told { push_bands(got, k, oracle) } else { k };
     let k = push_float(got, k, came.kappa);
     push_float(got, k, came.tsq)
 }
@@ -264,12 +266,12 @@ fn put_came(
         let k = put_gamma(got, k, p, came.gamma);
         let k = push_floats(got, k, best, p.best_len);
         let k = put_slices(got, k, p, xc, mq, grad, grad_t);
-        return put_space(got, k, came);
+        return put_space(got, k, true, came);
     }
     let shown = if answer.found { p.best_len } else { 0 };
     let k = push_floats(got, k, best, shown);
     let k = put_gamma(got, k, p, came.gamma);
-    let k = put_space(got, k, came);
+    let k = put_space(got, k, false, came);
     put_slices(got, k, p, xc, mq, grad, grad_t)
 }
 

@@ -116,3 +116,19 @@ pub(crate) fn push_state(got: &mut Bytes, k: usize, oracle: LowpassOracle) -> us
     ];
     push_words(got, k, &words)
 }
+
+// Lo and hi of its cursors.
+pub(crate) fn push_bands(got: &mut Bytes, k: usize, oracle: LowpassOracle) -> usize {
+    let rr1 = oracle.rr1;
+    let rr2 = oracle.rr2;
+    let rr3 = oracle.rr3;
+    let words = [
+        word_of(rr1.lo),
+        word_of(rr1.hi),
+        word_of(rr2.lo),
+        word_of(rr2.hi),
+        word_of(rr3.lo),
+        word_of(rr3.hi),
+    ];
+    push_words(got, k, &words)
+}

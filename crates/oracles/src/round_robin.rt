@@ -50,7 +50,7 @@ impl RoundRobin {
     pub fn is_at(self) -> bool
         ensures { λ r. ⌜ r ≡ isAt self ⌝ }
     {
-        self.cur < self.hi && self.lo <= self.cur + 1
+        (self.cur < self.hi) && self.lo <= self.cur + 1
     }
 
     // The cursor at another row.

@@ -51,7 +51,7 @@ struct Places {
 // What a call came to: its verdict, and gamma and the state.
 struct Came {
     said: Said,
-    rest: [u64; 11],
+    rest: [u64; 17],
 }
 
 // Operations 42 and 43; `more` is gamma's one word, or 0.
@@ -167,8 +167,8 @@ fn oracle_of(told: bool, inputs: &[u8], p: Places) -> LowpassOracle {
     oracle_with(inputs, p, rr1, rr2, rr3)
 }
 
-// The state, and one more word.
-fn state_words(oracle: LowpassOracle, more: u64) -> [u64; 11] {
+// One more word, the state, and lo and hi of its cursors.
+fn state_words(oracle: LowpassOracle, more: u64) -> [u64; 17] {
     let rr1 = oracle.rr1;
     let rr2 = oracle.rr2;
     let rr3 = oracle.rr3;
@@ -184,6 +184,12 @@ fn state_words(oracle: LowpassOracle, more: u64) -> [u64; 11] {
         word_of(oracle.kmax),
         oracle.more_alt as u64,
         to_bits(oracle.sp_sq),
+        word_of(rr1.lo),
+        word_of(rr1.hi),
+        word_of(rr2.lo),
+        word_of(rr2.hi),
+        word_of(rr3.lo),
+        word_of(rr3.hi),
     ]
 }
 
@@ -259,14 +265,15 @@ fn optim(
     }
 }
 
-// Operation 42 shows no gradient of a feasible point. Gamma stands before the gradient where it is told, and in operation 43 after it.
+// Operation 42 shows no gradient of a feasible point. Gamma stands before the gradient where it is told, and in operation 43 after it. The cursors' bands stand where they are told.
 fn put_came(got: &mut Bytes, op: u64, came: Came, grad: &[f64], len: usize) -> usize {
     let said = came.said;
     let rest = came.rest;
     let shown = if (op > 100) | (said.len > 1) { len } else { 0 };
     let k = put_said(got, op > 100, said);
     let k = push_floats(got, k, grad, shown);
-    push_words(got, k, &rest, if op == 43 { 0 } else { 1 }, 11)
+    let from = if op == 43 { 0 } else { 1 };
+    push_words(got, k, &rest, from, if op > 100 { 17 } else { 11 })
 }
 
 // In operation 43 refusal 6 is the word 3 alone.

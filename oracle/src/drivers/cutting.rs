@@ -5,6 +5,7 @@ use super::walk::{feas, optim, End};
 use crate::lists::Case;
 use crate::oracles::lowpass::{give_state, take_oracle};
 use crate::words::Source;
+use ellalgo_rs::cutting_plane::Options;
 
 pub fn cutting_plane_feas(src: &mut Source, case: &mut Case) {
     feas_of(&Run::draw(src, false).started(), case);
@@ -58,4 +59,11 @@ fn give_rest(end: &End, case: &mut Case) {
         &end.space.scratch[0],
     ];
     parts.iter().for_each(|part| case.give_floats(part));
+}
+
+/// The two values that belong to the type.
+pub fn default_options(case: &mut Case) {
+    let options = Options::default();
+    case.give(options.max_iters as u64);
+    case.give_floats(&[options.tolerance]);
 }

@@ -6,7 +6,7 @@ use crate::draw::vector;
 use crate::lengths::{resize, wrong};
 use crate::lists::Case;
 use crate::oracles::filter::State;
-use crate::oracles::lowpass::give_state;
+use crate::oracles::lowpass::{give_bands, give_state};
 use crate::oracles::lowpass_any::Call;
 use crate::words::Source;
 
@@ -134,6 +134,7 @@ impl AnyRun {
         let parts = [&self.best, &held[1], &self.mq, &held[2], &self.grad_t];
         parts.iter().for_each(|part| case.give_floats(part));
         give_state(state, case);
+        give_bands(state, case);
         let space = &self.run.space;
         case.give_floats(&if ellipsoid {
             [space.kappa, space.tsq]

@@ -4,7 +4,7 @@
 
 use super::answer::{read_of as read_answer_of, write_of, Answer};
 use super::belongs::{asked_of, Asked};
-use super::cutting::{feas_of, optim_of};
+use super::cutting::{default_options, feas_of, optim_of};
 use super::cutting_any::{any_of, AnyRun};
 use super::damage::{faults, put, Fault};
 use super::filterrun::{text_case, LONGEST};
@@ -28,6 +28,7 @@ pub fn fixed() -> Vec<Case> {
     long_files(&mut cases);
     pairs_of_job(&mut cases);
     pairs_of_answer(&mut cases);
+    push(&mut cases, 142, default_options);
     cases
 }
 

@@ -7,6 +7,7 @@ use crate::lengths::{contents, LARGEST};
 use crate::lists::Case;
 use crate::oracles::cursor::{Cursor, MOST_ROWS};
 use crate::oracles::filter::{Filter, State};
+use crate::oracles::lowpass::{give_bands, give_state};
 use crate::oracles::spaces::Space;
 use crate::words::Source;
 
@@ -211,14 +212,16 @@ pub fn give_refusal(refused: No, case: &mut Case) {
     case.give(refused.place as u64);
 }
 
-/// Everything but table, point and matrix.
+/// Everything but table, point and matrix, with all that the job's oracle starts with.
 fn give_numbers(job: &Job, case: &mut Case) {
     case.give(job.n as u64);
     case.give(job.rows() as u64);
     case.give(job.nwpass as u64);
     case.give(job.nwstop as u64);
-    case.give_floats(&job.limits);
-    job.cur.iter().for_each(|&cur| case.give_signed(cur as i32));
+    case.give_floats(&job.limits[..2]);
+    let state = job.run().filter.state;
+    give_state(&state, case);
+    give_bands(&state, case);
     case.give_floats(&[job.kappa]);
     case.give(job.limit as u64);
     case.give_floats(&[job.tolerance]);

@@ -23,12 +23,14 @@ use crate::words::Source;
 
 pub use fixed::fixed;
 
-/// Each operation, its name, and how often it stands in a round of a mixed list.
+/// Each operation, its name, and how often it stands in a round of a mixed list. One that has no
+/// inputs stands in the fixed part alone.
 pub const OPS: &[(u64, &str, usize)] = &[
     (70, "cutting_plane_feas", 6),
     (71, "cutting_plane_optim", 6),
     (140, "cutting_plane_feas, any lengths", 5),
     (141, "cutting_plane_optim, any lengths", 5),
+    (142, "Options::default", 0),
     (150, "read_job", 6),
     (151, "read_answer", 4),
     (152, "write_answer", 3),
@@ -44,6 +46,7 @@ pub fn fill(op: u64, src: &mut Source, case: &mut Case) {
         71 => cutting::cutting_plane_optim(src, case),
         140 => cutting_any::cutting_plane_feas(src, case),
         141 => cutting_any::cutting_plane_optim(src, case),
+        142 => cutting::default_options(case),
         150 => job::read_any(src, case),
         151 => answer::read_any(src, case),
         152 => answer::write_any(src, case),

@@ -193,6 +193,14 @@ pub fn give_state(state: &State, case: &mut Case) {
     case.give_floats(&[state.sp_sq]);
 }
 
+/// The bands that the cursors have at exit, for calls that are told them.
+pub fn give_bands(state: &State, case: &mut Case) {
+    for c in &state.cursors {
+        case.give_signed(c.lo);
+        case.give_signed(c.hi);
+    }
+}
+
 pub fn take_oracle(f: &Filter, case: &mut Case) {
     case.take(f.n as u64);
     for i in [f.rows(), f.nwpass, f.nwstop] {

@@ -3,7 +3,7 @@
 
 use super::cursor::{any_i32, Cursor};
 use super::filter::{Filter, State};
-use super::lowpass::{give_best, give_state, take_rest, Bench, Optim};
+use super::lowpass::{give_bands, give_best, give_state, take_rest, Bench, Optim};
 use super::tables::Held;
 use crate::draw::vector;
 use crate::lists::Case;
@@ -135,6 +135,7 @@ impl Call {
     fn give_rest(&self, state: &State, case: &mut Case) {
         case.give_floats(&self.held.slices[2]);
         give_state(state, case);
+        give_bands(state, case);
     }
 }
 

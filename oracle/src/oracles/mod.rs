@@ -48,6 +48,21 @@ pub const OPS: &[(u64, &str, usize)] = &[
     (130, "verdicts from every cursor position", 3),
 ];
 
+/// The scope's example of refusal 5: a witness at (0, 0).
+pub fn fixed() -> Vec<Case> {
+    let mut case = Case::default();
+    case.start(116);
+    let call = ldlt::Call {
+        m: 2,
+        start: 0,
+        end: 0,
+        held: [vec![1.0, 2.0, 2.0, 1.0], vec![3.0, 4.0]],
+        squares: [true, false],
+    };
+    ldlt::any_witness_of(call, &mut case);
+    vec![case]
+}
+
 /// Fills one case of the operation.
 pub fn fill(op: u64, src: &mut Source, case: &mut Case) {
     case.start(op);

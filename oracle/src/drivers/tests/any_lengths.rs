@@ -62,6 +62,9 @@ fn read_run(case: &Case) -> Any {
             assert_eq!(to.words(part.len()), part);
         }
         to.words(10);
+        // The cursors' lo and hi; the cursors stand from word 13 on.
+        let bands = [14, 15, 17, 18, 20, 21].map(|k| case.input[k]);
+        assert_eq!(to.words(6), bands);
         assert!(number != 1 || to.words(2) == [0, 0]);
     }
     seen

@@ -175,6 +175,9 @@ fn read_lowpass(case: &Case) -> Any {
     seen.keep(&cursors.map(|c| c[0] as u64));
     seen.keep(rest);
     seen.keep(&limits[2..]);
+    cursors
+        .iter()
+        .for_each(|c| seen.keep(&[c[1] as u64, c[2] as u64]));
     let mut to = Reader(&case.output);
     let no = to.word();
     if seen.accepted() && no == 6 {

@@ -102,6 +102,7 @@ fn no_stop_band() {
     let mut right = vec![6];
     right.extend(floats(&[4.0, 7.0, 8.0]));
     right.extend(state([MINUS_ONE, 0, 2], f64::NEG_INFINITY, MINUS_ONE, 1));
+    right.extend([0, 1, 1, 3, 3, 3]);
     let call = LowpassCall::new(f, vec![7.0, 8.0]);
     assert_eq!(output(|case| any_optim_of(call, case)), right);
 }
