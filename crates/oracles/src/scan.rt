@@ -431,11 +431,11 @@ pub(crate) fn scan_ready(
 {
     let end = scan_lent(n, rows, table, x, start, lower, upper);
     let answer = end.answer;
+    let cursor = end.cursor;
     match answer {
-        // its lo and hi are the start's, which the caller has at hand
         ScanAnswer::Scanned(scan) => Swept {
             scan: scan,
-            cursor: start.moved(scan.last),
+            cursor: cursor,
         },
         // does not occur
         ScanAnswer::Refused(_) => Swept {
@@ -445,7 +445,7 @@ pub(crate) fn scan_ready(
                 kmax: -1,
                 last: -1,
             },
-            cursor: start,
+            cursor: cursor,
         },
     }
 }
