@@ -34,19 +34,9 @@ dotOf (x ∷ a) (y ∷ b) = dotFrom (x ⊗ y) a b
 abbrev pub rowOf : ℕ → List Float → ℕ → List Float
 rowOf n table i = take n (drop (i * n) table)
 
--- s, and the products from column j on of the row of n that begins at `at`, with x
-abbrev pub partFrom : ℕ → List Float → List Float → ℕ → ℕ → Float → Float
-partFrom n table x j at s = dotFrom s (drop j (take n (drop at table))) (drop j x)
-
--- `dot` with x of each of the first four rows of a table whose rows are as long as x: where it ends before, of what there is of the row
-abbrev pub fourOf : List Float → List Float → Four
-fourOf table x =
-    record {
-      a = dotOf (rowOf (length x) table 0) x;
-      b = dotOf (rowOf (length x) table 1) x;
-      c = dotOf (rowOf (length x) table 2) x;
-      d = dotOf (rowOf (length x) table 3) x;
-    }
+-- `dot` of each of four rows with x
+abbrev pub fourOf : List Float → List Float → List Float → List Float → List Float → Four
+fourOf a b c d x = record { a = dotOf a x; b = dotOf b x; c = dotOf c x; d = dotOf d x }
 
 -- f 0, f 1, .. f (n - 1)
 unfoldable pub tab {ℓ} : {X : Type ℓ} → (ℕ → X) → ℕ → List X
@@ -57,6 +47,26 @@ tab f (suc n) = tab f n ++ (f n ∷ [])
 unfoldable pub mvOf : ℕ → List Float → List Float → List Float
 unfolding tab
 mvOf n mat x = tab (λ i. dotFrom 0ᶠ (rowOf n mat i) x) n
+
+-- four rows' sums, each from its own start: the products with x from column j on
+abbrev pub fourFrom : Four → List Float → List Float → List Float → List Float → List Float → ℕ → Four
+fourFrom s a b c d x j =
+    record {
+      a = dotFrom (s .a) (drop j a) (drop j x);
+      b = dotFrom (s .b) (drop j b) (drop j x);
+      c = dotFrom (s .c) (drop j c) (drop j x);
+      d = dotFrom (s .d) (drop j d) (drop j x);
+    }
+
+-- the four rows from row i on, times x
+abbrev pub fourRows : ℕ → List Float → List Float → ℕ → Four
+fourRows n mat x i =
+    record {
+      a = dotFrom 0ᶠ (rowOf n mat i) x;
+      b = dotFrom 0ᶠ (rowOf n mat (i + 1)) x;
+      c = dotFrom 0ᶠ (rowOf n mat (i + 2)) x;
+      d = dotFrom 0ᶠ (rowOf n mat (i + 3)) x;
+    }
 
 -- the entries (i, i) for i below k set to v's
 unfoldable pub setDiag : ℕ → List Float → ℕ → List Float → List Float

@@ -3,7 +3,7 @@ use mathlib.Core.Bool.{and-eq-true-iff, Bool, true, false, not}
 use mathlib.Core.Path.{_≡_, refl, sym, ap, _∙_}
 use mathlib.Core.List.{List, [], _∷_, _++_, append-nil}
 use mathlib.Core.Logic.{⊎-elim}
-use Prim.Native.Nat.{ℕ, zero, suc, _≤_, _<_, _+_, _*_, min}
+use Prim.Native.Nat.{ℕ, zero, suc, _≤_, _<_, _+_, _-_, _*_, min}
 use native.Mathlib.Nat.{le-of-suc-le-suc, eq-or-lt-of-le, suc-mul, mul-le-mul-right}
 use native.Mathlib.Numerals.{add-one}
 use native.Mathlib.Omega.{arith}
@@ -11,10 +11,10 @@ use borrow.Author.Tests.{ltb-true, ltb-false, leb-true, leb-false, eqb-true, eqb
 use lib.Dec.{leb, ltb, eqb}
 use lib.Ieee.{binary64, Float, nan}
 use lib.Ieee.Fits.{mul-fits}
-use lib.ListN.{length, take, drop, getD, set, replicate, length-append, length-drop, length-set, length-replicate, drop-of-length-le, getD-replicate, replicate-append-replicate}
-use lib.Seq.{length-take-le, drop-cons, take-suc, take-take, drop-drop, set-at, append-snoc, getD-take, getD-drop, getD-set-same, getD-set-other}
+use lib.ListN.{length, take, drop, getD, set, replicate, length-append, length-set, length-replicate, drop-of-length-le, getD-replicate, replicate-append-replicate}
+use lib.Seq.{drop-cons, take-suc, set-at, append-snoc, getD-set-same, getD-set-other}
 use Rattle.numbers.specs.F64.{−0ᶠ, _⊕_, _⊗_, 0ᶠ, 1ᶠ}
-use Rattle.numbers.specs.Arr.{dotOf, isDimension, dotFrom, tab, setDiag, diagOf, tested}
+use Rattle.numbers.specs.Arr.{dotOf, rowOf, isDimension, dotFrom, tab, setDiag, diagOf, tested}
 use Rattle.numbers.specs.Pick.{pick, hit, skip}
 use Rattle.numbers.specs.Values.{minus-zero-adds}
 
@@ -107,23 +107,9 @@ module _ {ℓ} {X : Type ℓ} (f : ℕ → X) (xs₀ : List X) where
 pub row-in : (n i m : ℕ) → i < m → i * n + n ≤ m * n
 row-in n i m h = omega (arith, suc-mul i n, mul-le-mul-right n h)
 
--- ---- the n numbers from `at` on
-
-pub part-long : (n at : ℕ) (l : List Float) → at + n ≤ length l → length (take n (drop at l)) ≡ n
-part-long n at l h = length-take-le n (drop at l) (rw (length-drop at l) (omega arith))
-
-pub part-entry : (n at j : ℕ) (l : List Float) → j < n → getD (take n (drop at l)) j nan ≡ getD l (at + j) nan
-part-entry n at j l h = getD-take n (drop at l) j nan h ∙ getD-drop at l j nan
-
--- of a part that is m long
-pub part-of-part : (n a at m : ℕ) (l : List Float) → a + n ≤ m → take n (drop a (take m (drop at l))) ≡ take n (drop (at + a) l)
-part-of-part n a at m l h = drop-take n a m (drop at l) h ∙ ap (λ (k : List Float). take n k) (drop-drop a at l)
-  where
-    drop-take : (n a m : ℕ) (l : List Float) → a + n ≤ m → take n (drop a (take m l)) ≡ take n (drop a l)
-    drop-take n zero m l h = take-take n m l (omega arith)
-    drop-take n (suc a) zero l h = absurd (omega arith)
-    drop-take n (suc a) (suc m) [] h = refl
-    drop-take n (suc a) (suc m) (x ∷ l) h = drop-take n a m l (omega arith)
+-- the part of a table that begins at i × n and has n numbers is row i
+pub row-part : (n i at end : ℕ) (l : List Float) → at ≡ i * n → end ≡ at + n → take (end - at) (drop at l) ≡ rowOf n l i
+row-part n i at end l p q = let m : end - at ≡ n = omega arith in rw (m, p)
 
 -- equal places with columns below n are in one row
 row-le : (n i j k l : ℕ) → l < n → i * n + j ≡ k * n + l → i ≤ k

@@ -2,9 +2,9 @@
 use crate::refusal::Refusal;
 ghost use mathlib.Core.Path.{_≡_};
 ghost use Prim.Native.Nat.{_+_, _*_, _≤_, _<_, min};
-ghost use lib.ListN.{length, take, drop, replicate};
+ghost use lib.ListN.{length, drop, replicate};
 ghost use Rattle.numbers.specs.F64.{0ᶠ};
-ghost use Rattle.numbers.specs.Arr.{isDimension, dotFrom, dotOf, partFrom, fourOf, mvOf, diagOf, setDiag, dot-answer, dot-mv-into-answer, copy-from-answer, eye-answer, from-diag-answer};
+ghost use Rattle.numbers.specs.Arr.{isDimension, dotFrom, dotOf, fourOf, fourFrom, rowOf, fourRows, mvOf, diagOf, setDiag, dot-answer, dot-mv-into-answer, copy-from-answer, eye-answer, from-diag-answer};
 
 pub enum Number {
     Value(f64),
@@ -82,87 +82,67 @@ pub fn dot(n: usize, a: &[f64], b: &[f64]) -> Number
     Number::Value(dot_zip(a, b))
 }
 
-// The products of four rows of n, one after the other in `rows`, from `from` on: side by side, so that an addition does not wait for another row's, and
-// each added to its row's start left to right.
-fn add_four(start: Four, n: usize, rows: &[f64], x: &[f64], from: usize) -> Four
-    requires { ⌜ (from ≤ n) × (4 * n ≤ length (now rows)) × (length (now x) ≡ n) ⌝ }
-    ensures { λ r. ⌜ (r .a ≡ partFrom n (now (rows .entry)) (now (x .entry)) from 0 (start .a)) × (r .b ≡ partFrom n (now (rows .entry)) (now (x .entry)) from n (start .b)) × (r .c ≡ partFrom n (now (rows .entry)) (now (x .entry)) from (2 * n) (start .c)) × (r .d ≡ partFrom n (now (rows .entry)) (now (x .entry)) from (3 * n) (start .d)) ⌝ }
+// The products of four rows and x from `from` on: side by side, so that an addition does not wait for another row's, and each added to its row's start left
+// to right.
+fn add_four(start: Four, a: &[f64], b: &[f64], c: &[f64], d: &[f64], x: &[f64], from: usize) -> Four
+    requires { ⌜ (length (now a) ≡ length (now x)) × (length (now b) ≡ length (now x)) × (length (now c) ≡ length (now x)) × (length (now d) ≡ length (now x)) ⌝ }
+    ensures { λ r. ⌜ r ≡ fourFrom start (now (a .entry)) (now (b .entry)) (now (c .entry)) (now (d .entry)) (now (x .entry)) from ⌝ }
 {
-    let mut a = start.a;
-    let mut b = start.b;
-    let mut c = start.c;
-    let mut d = start.d;
+    let mut s = start.a;
+    let mut t = start.b;
+    let mut u = start.c;
+    let mut v = start.d;
     let mut j = from;
-    while j < n {
+    while j < x.len() {
         let y = x[j];
-        a = a + rows[j] * y;
-        b = b + rows[n + j] * y;
-        c = c + rows[2 * n + j] * y;
-        d = d + rows[3 * n + j] * y;
+        s = s + a[j] * y;
+        t = t + b[j] * y;
+        u = u + c[j] * y;
+        v = v + d[j] * y;
         j += 1;
     }
     Four {
-        a: a,
-        b: b,
-        c: c,
-        d: d,
+        a: s,
+        b: t,
+        c: u,
+        d: v,
     }
 }
 
-// The row as long as x that begins at `at`, or what there is of it, with x.
-fn dot_part(rows: &[f64], x: &[f64], at: usize) -> f64
-    ensures { λ r. ⌜ r ≡ dotOf (take (length (now (x .entry))) (drop at (now (rows .entry)))) (now (x .entry)) ⌝ }
-{
-    let from = shorter(at, rows.len());
-    let end = shorter(from + x.len(), rows.len());
-    dot_zip(&rows[from..end], x)
-}
-
-// `dot_four` where the table may end before its fourth row does.
-fn dot_parts(rows: &[f64], x: &[f64]) -> Four
-    ensures { λ r. ⌜ r ≡ fourOf (now (rows .entry)) (now (x .entry)) ⌝ }
+// `dot_zip` of each of four rows with x.
+pub fn dot_four(a: &[f64], b: &[f64], c: &[f64], d: &[f64], x: &[f64]) -> Four
+    ensures { λ r. ⌜ r ≡ fourOf (now (a .entry)) (now (b .entry)) (now (c .entry)) (now (d .entry)) (now (x .entry)) ⌝ }
 {
     let n = x.len();
+    if (0 < n) & (a.len() == n) & (b.len() == n) & (c.len() == n) & (d.len() == n) {
+        let y = x[0];
+        let first = Four {
+            a: a[0] * y,
+            b: b[0] * y,
+            c: c[0] * y,
+            d: d[0] * y,
+        };
+        return add_four(first, a, b, c, d, x, 1);
+    }
     Four {
-        a: dot_part(rows, x, 0),
-        b: dot_part(rows, x, n),
-        c: dot_part(rows, x, 2 * n),
-        d: dot_part(rows, x, 3 * n),
+        a: dot_zip(a, x),
+        b: dot_zip(b, x),
+        c: dot_zip(c, x),
+        d: dot_zip(d, x),
     }
 }
 
-// `dot_zip` of the first four rows of a table of rows as long as x; where it has fewer, of what there is.
-pub fn dot_four(rows: &[f64], x: &[f64]) -> Four
-    ensures { λ r. ⌜ r ≡ fourOf (now (rows .entry)) (now (x .entry)) ⌝ }
+// A row of 2 or 3 times x.
+fn short_row(row: &[f64], x: &[f64]) -> f64
+    requires { ⌜ (2 ≤ length (now x)) × (length (now x) ≤ 3) × (length (now row) ≡ length (now x)) ⌝ }
+    ensures { λ r. ⌜ r ≡ dotFrom 0ᶠ (now (row .entry)) (now (x .entry)) ⌝ }
 {
-    let n = x.len();
-    if n == 0 {
-        return dot_parts(rows, x);
-    }
-    if rows.len() < 4 * n {
-        return dot_parts(rows, x);
-    }
-    let y = x[0];
-    let first = Four {
-        a: rows[0] * y,
-        b: rows[n] * y,
-        c: rows[2 * n] * y,
-        d: rows[3 * n] * y,
-    };
-    add_four(first, n, rows, x, 1)
-}
-
-// The row of n that begins at `at` times x, with n 2 or 3.
-fn short_row(n: usize, mat: &[f64], x: &[f64], at: usize) -> f64
-    requires { ⌜ (2 ≤ n) × (n ≤ 3) × (at + n ≤ length (now mat)) × (length (now x) ≡ n) ⌝ }
-    ensures { λ r. ⌜ r ≡ dotFrom 0ᶠ (take n (drop at (now (mat .entry)))) (now (x .entry)) ⌝ }
-{
-    let s = 0.0 + mat[at] * x[0];
-    let t = s + mat[at + 1] * x[1];
-    if n == 2 {
+    let s = 0.0 + row[0] * x[0];
+    let t = s + row[1] * x[1];
+    if x.len() == 2 {
         return t;
     }
-    t + mat[at + 2] * x[2]
+    t + row[2] * x[2]
 }
 
 // A matrix of 2 or 3 times x, with no loop to set up.
@@ -170,17 +150,29 @@ fn short_rows_into(n: usize, mat: &[f64], x: &[f64], out: &mut [f64])
     requires { ⌜ (2 ≤ n) × (n ≤ 3) × (length (now mat) ≡ n * n) × (length (now x) ≡ n) × (length (now out) ≡ n) ⌝ }
     ensures { λ _. ⌜ now (out .exit) ≡ mvOf n (now (mat .entry)) (now (x .entry)) ⌝ }
 {
-    out[0] = short_row(n, mat, x, 0);
-    out[1] = short_row(n, mat, x, n);
+    let two = 2 * n;
+    out[0] = short_row(&mat[0..n], x);
+    out[1] = short_row(&mat[n..two], x);
     if n == 3 {
-        out[2] = short_row(n, mat, x, 2 * n);
+        let three = 3 * n;
+        out[2] = short_row(&mat[two..three], x);
     }
 }
 
-// Each row of the matrix, lent as a part that begins at i × n, times x: four rows at a time, and the last ones singly.
-fn long_rows_into(n: usize, mat: &[f64], x: &[f64], out: &mut [f64])
-    requires { ⌜ (n ≤ 32) × (length (now mat) ≡ n * n) × (length (now x) ≡ n) × (length (now out) ≡ n) ⌝ }
-    ensures { λ _. ⌜ now (out .exit) ≡ mvOf n (now (mat .entry)) (now (x .entry)) ⌝ }
+// Row i, lent as the part of the matrix that begins at i × n, times x.
+fn one_row(n: usize, mat: &[f64], x: &[f64], i: usize) -> f64
+    requires { ⌜ i * n + n ≤ length (now mat) ⌝ }
+    ensures { λ r. ⌜ r ≡ dotFrom 0ᶠ (rowOf n (now (mat .entry)) i) (now (x .entry)) ⌝ }
+{
+    let at = i * n;
+    let end = at + n;
+    add_products(0.0, &mat[at..end], x, 0)
+}
+
+// The four rows from row i on, each lent as its part of the matrix, times x.
+fn four_rows(n: usize, mat: &[f64], x: &[f64], i: usize) -> Four
+    requires { ⌜ (i * n + 4 * n ≤ length (now mat)) × (length (now x) ≡ n) ⌝ }
+    ensures { λ r. ⌜ r ≡ fourRows n (now (mat .entry)) (now (x .entry)) i ⌝ }
 {
     let zeros = Four {
         a: 0.0,
@@ -188,20 +180,38 @@ fn long_rows_into(n: usize, mat: &[f64], x: &[f64], out: &mut [f64])
         c: 0.0,
         d: 0.0,
     };
+    let a = i * n;
+    let b = a + n;
+    let c = b + n;
+    let d = c + n;
+    let end = d + n;
+    add_four(
+        zeros,
+        &mat[a..b],
+        &mat[b..c],
+        &mat[c..d],
+        &mat[d..end],
+        x,
+        0,
+    )
+}
+
+// Each row of the matrix times x: four rows at a time, and the last ones singly.
+fn long_rows_into(n: usize, mat: &[f64], x: &[f64], out: &mut [f64])
+    requires { ⌜ (n ≤ 32) × (length (now mat) ≡ n * n) × (length (now x) ≡ n) × (length (now out) ≡ n) ⌝ }
+    ensures { λ _. ⌜ now (out .exit) ≡ mvOf n (now (mat .entry)) (now (x .entry)) ⌝ }
+{
     let mut i = 0;
     while i < n {
-        let at = i * n;
         if i + 4 <= n {
-            let end = at + 4 * n;
-            let four = add_four(zeros, n, &mat[at..end], x, 0);
+            let four = four_rows(n, mat, x, i);
             out[i] = four.a;
             out[i + 1] = four.b;
             out[i + 2] = four.c;
             out[i + 3] = four.d;
             i += 4;
         } else {
-            let end = at + n;
-            out[i] = add_products(0.0, &mat[at..end], x, 0);
+            out[i] = one_row(n, mat, x, i);
             i += 1;
         }
     }

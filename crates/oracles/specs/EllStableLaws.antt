@@ -17,19 +17,6 @@ use Rattle.oracles.specs.MatrixLaws.{tab-entry, tab-cong, length-grid, g
 use Rattle.oracles.specs.LoopLaws.{is-hit, is-skip, pick-cong}
 use Rattle.oracles.specs.EllStable.{forward, inv-ml-gOf, inv-md-inv-ml-gOf, gg-tOf, omegaOf, lowered, backward, tOf, updated}
 
--- ---- row i of `forward`
-
--- the matrix with row i's first j products stored
-abbrev pub stored-to : ℕ → List Float → List Float → ℕ → ℕ → ℕ → ℕ → Float
-stored-to n mq w i j r c = pick (eqb r i) (pick (ltb c j) (at n mq c r ⊗ entry w c) (at n mq r c)) (at n mq r c)
-
-unfoldable pub row-stored : ℕ → List Float → List Float → ℕ → List Float
-row-stored n mq w i = grid (stored-to n mq w i i) n n
-
--- w with the first j products subtracted from its entry i
-abbrev pub solved-to : ℕ → List Float → List Float → ℕ → ℕ → List Float
-solved-to n mq w i j = set w i (total _⊖_ (entry w i) (λ k. at n mq k i ⊗ entry w k) j)
-
 -- ---- row i of `backward`
 
 -- q with the first k products of row i subtracted from its entry i

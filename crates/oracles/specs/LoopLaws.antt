@@ -164,39 +164,39 @@ module _ (a k : ℕ) (xs ys : List Float) (h : a + k ≤ length xs) (l : length 
       ap (λ (z : ℕ). entry (putMid a k xs ys) z) e ∙ past-front (length ys + m) ∙ getD-append-add ys (drop k (drop a xs)) m nan
       ∙ getD-drop k (drop a xs) m nan ∙ getD-drop a xs (k + m) nan ∙ ap (λ (z : ℕ). entry xs z) (sym e′)
 
--- row i's entries from a on, lent as a part, and back
-pub matrix-put : (n : ℕ) (f g : ℕ → ℕ → Float) (mat ys : List Float) (i a : ℕ) → MatrixOf n f mat → i < n → a ≤ n → length ys ≡ n - a
-    → ((c : ℕ) → c < n - a → entry ys c ≡ g i (a + c)) → ((r c : ℕ) → r < n → c < n → (r ≡ i → a ≤ c → ⊥) → f r c ≡ g r c)
-    → MatrixOf n g (putMid (i * n + a) (n - a) mat ys)
-matrix-put n f g mat ys i a h l b e p o = record {
-  long = same-len-mid (i * n + a) (n - a) mat ys (e ∙ sym (length-take-le (n - a) (drop (i * n + a) mat) (rw (length-drop (i * n + a) mat) (omega (arith, inside))))) ∙ h .long;
-  each = λ r c x y. go r c x y (ltb (r * n + c) (i * n + a)) refl (ltb (r * n + c) (i * n + n)) refl;
+-- the k entries of row i from a on, lent as a part, and back
+pub matrix-put : (n : ℕ) (f g : ℕ → ℕ → Float) (mat ys : List Float) (i a k : ℕ) → MatrixOf n f mat → i < n → a + k ≤ n → length ys ≡ k
+    → ((c : ℕ) → c < k → entry ys c ≡ g i (a + c)) → ((r c : ℕ) → r < n → c < n → (r ≡ i → a ≤ c → c < a + k → ⊥) → f r c ≡ g r c)
+    → MatrixOf n g (putMid (i * n + a) k mat ys)
+matrix-put n f g mat ys i a k h l b e p o = record {
+  long = same-len-mid (i * n + a) k mat ys (e ∙ sym (length-take-le k (drop (i * n + a) mat) (rw (length-drop (i * n + a) mat) (omega (arith, inside))))) ∙ h .long;
+  each = λ r c x y. go r c x y (ltb (r * n + c) (i * n + a)) refl (ltb (r * n + c) (i * n + a + k)) refl;
 }
   where
-    inside : i * n + a + (n - a) ≤ length mat
+    inside : i * n + a + k ≤ length mat
     inside = omega (arith, row-in n i n l, h .long)
 
     same-row : (r : ℕ) → r ≡ i → r * n ≡ i * n
     same-row r q = ap (λ (z : ℕ). z * n) q
 
-    go : (r c : ℕ) → r < n → c < n → (s : Bool) → ltb (r * n + c) (i * n + a) ≡ s → (t : Bool) → ltb (r * n + c) (i * n + n) ≡ t
-        → at n (putMid (i * n + a) (n - a) mat ys) r c ≡ g r c
+    go : (r c : ℕ) → r < n → c < n → (s : Bool) → ltb (r * n + c) (i * n + a) ≡ s → (t : Bool) → ltb (r * n + c) (i * n + a + k) ≡ t
+        → at n (putMid (i * n + a) k mat ys) r c ≡ g r c
     go r c x y true q t w =
         let u : r * n + c < i * n + a = ltb-true (r * n + c) (i * n + a) q in
-        put-before (i * n + a) (n - a) mat ys inside e (r * n + c) u ∙ h .each r c x y
-        ∙ o r c x y (λ z m. absurd (omega (arith, same-row r z)))
+        put-before (i * n + a) k mat ys inside e (r * n + c) u ∙ h .each r c x y
+        ∙ o r c x y (λ z m _. absurd (omega (arith, same-row r z)))
     go r c x y false q true w =
         let u : i * n + a ≤ r * n + c = ltb-false (r * n + c) (i * n + a) q in
-        let v : r * n + c < i * n + n = ltb-true (r * n + c) (i * n + n) w in
+        let v : r * n + c < i * n + a + k = ltb-true (r * n + c) (i * n + a + k) w in
         let z : r ≡ i = row-unique n r c i (r * n + c - i * n) y (omega arith) (omega arith) in
         let m : a ≤ c = omega (arith, same-row r z) in
         let d : r * n + c ≡ i * n + a + (c - a) = omega (arith, same-row r z) in
         let d′ : a + (c - a) ≡ c = omega arith in
-        rw d (put-in (i * n + a) (n - a) mat ys inside e (c - a) (omega arith)) ∙ p (c - a) (omega arith) ∙ rw (d′, z)
+        rw d (put-in (i * n + a) k mat ys inside e (c - a) (omega arith)) ∙ p (c - a) (omega arith) ∙ rw (d′, z)
     go r c x y false q false w =
-        let v : i * n + n ≤ r * n + c = ltb-false (r * n + c) (i * n + n) w in
-        put-after (i * n + a) (n - a) mat ys inside e (r * n + c) (omega arith) ∙ h .each r c x y
-        ∙ o r c x y (λ z m. absurd (omega (arith, same-row r z)))
+        let v : i * n + a + k ≤ r * n + c = ltb-false (r * n + c) (i * n + a + k) w in
+        put-after (i * n + a) k mat ys inside e (r * n + c) v ∙ h .each r c x y
+        ∙ o r c x y (λ z _ m. absurd (omega (arith, same-row r z)))
 
 pub matrix-grid : (n : ℕ) (f : ℕ → ℕ → Float) (mat : List Float) → MatrixOf n f mat → mat ≡ grid f n n
 matrix-grid n f mat h = grid-ext f n n mat (h .long) (h .each)
@@ -240,30 +240,28 @@ module _ (n : ℕ) (key : ℕ → ℕ → ℕ) (f g : ℕ → ℕ → Float) (i 
 pub by-zero : (n : ℕ) (key : ℕ → ℕ → ℕ) (f : ℕ → ℕ → Float) (mat : List Float) → length mat ≡ n * n → MatrixOf n (swept-by key f (λ r c. at n mat r c) 0) mat
 by-zero n key f mat l = by-start n key f (λ r c. at n mat r c) 0 mat l (λ r c. refl) (λ r c _ _ m. absurd (omega (arith, m)))
 
--- row i's entries from a on, lent as the part of k entries that begins at s, and back
-module _ (n : ℕ) (f g : ℕ → ℕ → Float) (i : ℕ) (mat : List Float) (h : MatrixOf n (swept-by (λ r c. r) f g i) mat) (a s k : ℕ) (l : i < n) (b : a ≤ n) (p : s ≡ i * n + a) (q : k ≡ n - a) where
-  pub part-long : length (take k (drop s mat)) ≡ n - a
-  part-long = length-take-le k (drop s mat) (rw (length-drop s mat) (omega (arith, row-in n i n l, h .long))) ∙ q
+-- the k entries of row i from a on, lent as the part that begins at s, and back
+module _ (n : ℕ) (f g : ℕ → ℕ → Float) (i : ℕ) (mat : List Float) (h : MatrixOf n (swept-by (λ r c. r) f g i) mat) (a s k : ℕ) (l : i < n) (b : a + k ≤ n) (p : s ≡ i * n + a) where
+  pub part-long : length (take k (drop s mat)) ≡ k
+  part-long = length-take-le k (drop s mat) (rw (length-drop s mat) (omega (arith, row-in n i n l, h .long)))
 
-  pub part-entry : (c : ℕ) → c < n - a → entry (take k (drop s mat)) c ≡ g i (a + c)
+  pub part-entry : (c : ℕ) → c < k → entry (take k (drop s mat)) c ≡ g i (a + c)
   part-entry c m =
       let e : s + c ≡ i * n + (a + c) = omega arith in
-      getD-take k (drop s mat) c nan (omega arith) ∙ getD-drop s mat c nan ∙ ap (λ (z : ℕ). entry mat z) e
+      getD-take k (drop s mat) c nan m ∙ getD-drop s mat c nan ∙ ap (λ (z : ℕ). entry mat z) e
       ∙ by-left n (λ r c. r) f g i mat h i (a + c) l (omega arith) (omega arith)
 
-  pub part-turn : (ys : List Float) → length ys ≡ n - a → ((c : ℕ) → c < n - a → entry ys c ≡ f i (a + c)) → ((c : ℕ) → c < a → g i c ≡ f i c)
+  pub part-turn : (ys : List Float) → length ys ≡ k → ((c : ℕ) → c < k → entry ys c ≡ f i (a + c)) → ((c : ℕ) → c < n → (a ≤ c → c < a + k → ⊥) → g i c ≡ f i c)
       → MatrixOf n (swept-by (λ r c. r) f g (i + 1)) (putMid s k mat ys)
   part-turn ys m e o =
-      rw (p, q)
-      (matrix-put n (swept-by (λ r c. r) f g i) (swept-by (λ r c. r) f g (i + 1)) mat ys i a h l b m
+      rw p
+      (matrix-put n (swept-by (λ r c. r) f g i) (swept-by (λ r c. r) f g (i + 1)) mat ys i a k h l b m
       (λ c y. hit (ltb i (i + 1)) (f i (a + c)) (g i (a + c)) (entry ys c) (lt-ltb i (i + 1) (omega arith)) (e c y))
-      (λ r c x y z. go r c z (eqb r i) refl (ltb c a) refl))
+      (λ r c x y z. go r c y z (eqb r i) refl))
     where
-      go : (r c : ℕ) → (r ≡ i → a ≤ c → ⊥) → (t : Bool) → eqb r i ≡ t → (u : Bool) → ltb c a ≡ u
-          → swept-by (λ r c. r) f g i r c ≡ swept-by (λ r c. r) f g (i + 1) r c
-      go r c z false t u w = pick-grow r i (f r c) (g r c) (eqb-false r i t)
-      go r c z true t true w =
-          let y : r ≡ i = eqb-true r i t in
-          is-skip (ltb r i) (f r c) (g r c) (le-ltb r i (omega arith)) ∙ rw y (o c (ltb-true c a w))
+      go : (r c : ℕ) → c < n → (r ≡ i → a ≤ c → c < a + k → ⊥) → (t : Bool) → eqb r i ≡ t → swept-by (λ r c. r) f g i r c ≡ swept-by (λ r c. r) f g (i + 1) r c
+      go r c y z false t = pick-grow r i (f r c) (g r c) (eqb-false r i t)
+      go r c y z true t =
+          let q : r ≡ i = eqb-true r i t in
+          is-skip (ltb r i) (f r c) (g r c) (le-ltb r i (omega arith)) ∙ rw q (o c y (z q))
           ∙ sym (is-hit (ltb r (i + 1)) (f r c) (g r c) (lt-ltb r (i + 1) (omega arith)))
-      go r c z true t false w = absurd (z (eqb-true r i t) (ltb-false c a w))

@@ -15,16 +15,17 @@ use numbers::ell_calc::NewEllCalc;
 use numbers::refusal::Refusal;
 ghost use mathlib.Core.Path.{_≡_};
 ghost use mathlib.Core.Bool.{true, _&&_};
+ghost use mathlib.Core.List.{_++_};
 ghost use Prim.Native.Nat.{_+_, _*_, _-_, _≤_, _<_};
 ghost use lib.Dec.{eqb};
-ghost use lib.ListN.{length};
+ghost use lib.ListN.{length, drop};
 ghost use Rattle.numbers.specs.Arr.{isDimension, tab};
-ghost use Rattle.numbers.specs.F64.{_⊕_, _⊗_, _⊘_, 0ᶠ};
+ghost use Rattle.numbers.specs.F64.{_⊕_, _⊖_, _⊗_, _⊘_, 0ᶠ};
 ghost use Rattle.oracles.specs.declared.ell_common.Update.the-variants.{Refused};
 ghost use Rattle.oracles.specs.Matrix.{entry, at, total};
 ghost use Rattle.oracles.specs.EllCommon.{centreOf};
 ghost use Rattle.oracles.specs.EllStable.{new-ell-stable-answer, inv-ml-gOf, inv-md-inv-ml-gOf, gg-tOf, omegaOf, lowered, backward, t-start, with-tsq, stable-said, stable-updateOf, stable-update-answer};
-ghost use Rattle.oracles.specs.EllStableLaws.{row-stored, solved-to, solved-back, column-taken, row-updated, less-columns, factors-after};
+ghost use Rattle.oracles.specs.EllStableLaws.{solved-back, column-taken, row-updated, less-columns, factors-after};
 
 // What is kept beside the factors mq and the centre xc.
 pub struct EllStable {
@@ -44,28 +45,47 @@ pub struct EllStableUpdate {
     pub answer: Update,
 }
 
-// Row i of inv(L) g; what is subtracted stays in the lower triangle.
-fn forward_row(n: usize, mq: &mut [f64], w: &mut [f64], i: usize)
-    requires { ⌜ (n ≤ 32) × (length (now mq) ≡ n * n) × (length (now w) ≡ n) × (i < n) ⌝ }
-    ensures { λ _. ⌜ (now (mq .exit) ≡ row-stored n (now (mq .entry)) (now (w .entry)) i) × (now (w .exit) ≡ solved-to n (now (mq .entry)) (now (w .entry)) i i) ⌝ }
+// L's row i, which stands above the diagonal in column i, to the front of `column`.
+fn column_into(n: usize, mq: &[f64], i: usize, column: &mut [f64])
+    requires { ⌜ (n ≤ 32) × (length (now mq) ≡ n * n) × (i < n) × (length (now column) ≡ n) ⌝ }
+    ensures { λ _. ⌜ now (column .exit) ≡ tab (λ j. at n (now (mq .entry)) j i) i ++ drop i (now (column .entry)) ⌝ }
 {
     let mut j = 0;
     while j < i {
-        let val = mq[j * n + i] * w[j];
-        mq[i * n + j] = val;
-        w[i] = w[i] - val;
+        column[j] = mq[j * n + i];
         j += 1;
     }
 }
 
-// inv(L) g in place of g.
-fn forward(n: usize, mq: &mut [f64], w: &mut [f64])
-    requires { ⌜ (n ≤ 32) × (length (now mq) ≡ n * n) × (length (now w) ≡ n) ⌝ }
+// A row of the lower triangle, lent to be written: the products of L's row and w, which are taken from `start` in turn.
+fn forward_row(row: &mut [f64], column: &[f64], w: &[f64], start: f64) -> f64
+    requires { ⌜ (length (now row) ≤ length (now column)) × (length (now row) ≤ length (now w)) ⌝ }
+    ensures { λ r. ⌜ (r ≡ total _⊖_ start (λ j. entry (now (column .entry)) j ⊗ entry (now (w .entry)) j) (length (now (row .entry)))) × (now (row .exit) ≡ tab (λ j. entry (now (column .entry)) j ⊗ entry (now (w .entry)) j) (length (now (row .entry)))) ⌝ }
+{
+    let mut s = start;
+    let mut j = 0;
+    while j < row.len() {
+        let val = column[j] * w[j];
+        row[j] = val;
+        s = s - val;
+        j += 1;
+    }
+    s
+}
+
+// inv(L) g in place of g. `column` is scratch: a row and its column cannot be lent at once.
+fn forward(n: usize, mq: &mut [f64], w: &mut [f64], column: &mut [f64])
+    requires { ⌜ (n ≤ 32) × (length (now mq) ≡ n * n) × (length (now w) ≡ n) × (length (now column) ≡ n) ⌝ }
     ensures { λ _. ⌜ (now (mq .exit) ≡ lowered n (now (mq .entry)) (now (w .entry))) × (now (w .exit) ≡ tab (inv-ml-gOf n (now (mq .entry)) (now (w .entry))) n) ⌝ }
 {
     let mut i = 1;
     while i < n {
-        forward_row(n, mq, w, i);
+        column_into(n, mq, i, column);
+        let at = i * n;
+        let end = at + i;
+        let start = w[i];
+        let s = forward_row(&mut mq[at..end], column, w, start);
+        w[i] = s;
         i += 1;
     }
 }
@@ -178,7 +198,7 @@ fn prepare(
     ensures { λ r. ⌜ (r ≡ omegaOf n (now (mq .entry)) (now (grad .entry))) × (now (mq .exit) ≡ lowered n (now (mq .entry)) (now (grad .entry))) × (now («inv_ml_g» .exit) ≡ tab (inv-ml-gOf n (now (mq .entry)) (now (grad .entry))) n) × (now («inv_md_inv_ml_g» .exit) ≡ tab (inv-md-inv-ml-gOf n (now (mq .entry)) (now (grad .entry))) n) × (now («gg_t» .exit) ≡ tab (gg-tOf n (now (mq .entry)) (now (grad .entry))) n) ⌝ }
 {
     copy_from(n, inv_ml_g, grad);
-    forward(n, mq, inv_ml_g);
+    forward(n, mq, inv_ml_g, gg_t);
     scale_into(n, mq, inv_ml_g, inv_md_inv_ml_g);
     omega_into(inv_ml_g, inv_md_inv_ml_g, gg_t)
 }

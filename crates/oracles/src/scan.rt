@@ -140,14 +140,17 @@ fn row_value(n: usize, table: &[f64], x: &[f64], i: usize) -> f64
     dot_zip(&table[at..end], x)
 }
 
-// The values of the four rows from row i on.
+// The values of the four rows from row i on, each handed on as its part of the table.
 fn four_values(n: usize, table: &[f64], x: &[f64], i: usize) -> Four
-    requires { ⌜ (i * n + 4 * n ≤ length (now table)) × (length (now x) ≡ n) ⌝ }
+    requires { ⌜ i * n + 4 * n ≤ length (now table) ⌝ }
     ensures { λ r. ⌜ r ≡ valuesOf n (now (table .entry)) (now (x .entry)) i ⌝ }
 {
-    let at = i * n;
-    let end = at + 4 * n;
-    dot_four(&table[at..end], x)
+    let a = i * n;
+    let b = a + n;
+    let c = b + n;
+    let d = c + n;
+    let end = d + n;
+    dot_four(&table[a..b], &table[b..c], &table[c..d], &table[d..end], x)
 }
 
 // A row's value against the limits, and the largest value so far with this one.
@@ -199,7 +202,7 @@ fn look_at_four(
     fmax: f64,
     kmax: i32,
 ) -> Scan
-    requires { ⌜ (row + 4 ≤ 1024) × (row * n + 4 * n ≤ length (now table)) × (length (now x) ≡ n) ⌝ }
+    requires { ⌜ (row + 4 ≤ 1024) × (row * n + 4 * n ≤ length (now table)) ⌝ }
     ensures { λ r. ⌜ r ≡ runOf n (now (table .entry)) (now (x .entry)) lower limit 4 row fmax kmax ⌝ }
 {
     let values = four_values(n, table, x, row);
@@ -233,7 +236,7 @@ fn look_at(
     fmax: f64,
     kmax: i32,
 ) -> Scan
-    requires { ⌜ ((many ≡ 1) ⊎ (many ≡ 4)) × (row + many ≤ 1024) × (row * n + many * n ≤ length (now table)) × (length (now x) ≡ n) ⌝ }
+    requires { ⌜ ((many ≡ 1) ⊎ (many ≡ 4)) × (row + many ≤ 1024) × (row * n + many * n ≤ length (now table)) ⌝ }
     ensures { λ r. ⌜ r ≡ runOf n (now (table .entry)) (now (x .entry)) lower limit many row fmax kmax ⌝ }
 {
     if many == 4 {
@@ -269,7 +272,7 @@ fn scan_rest(
     peak: f64,
     peak_row: i32,
 ) -> Scan
-    requires { ⌜ Going n (now table) start count × (length (now x) ≡ n) ⌝ }
+    requires { ⌜ Going n (now table) start count ⌝ }
     ensures { λ r. ⌜ r ≡ scanFrom n (now (table .entry)) (now (x .entry)) lower (At limit) count start peak «peak_row» ⌝ }
 {
     let mut rr = start;
@@ -307,7 +310,7 @@ fn scan_rows(
     lower: f64,
     upper: Upper,
 ) -> Scan
-    requires { ⌜ Ready n (now table) (now x) start × (length (now x) ≡ n) ⌝ }
+    requires { ⌜ Ready n (now table) (now x) start ⌝ }
     ensures { λ r. ⌜ r ≡ scanOf n (now (table .entry)) (now (x .entry)) start lower upper ⌝ }
 {
     let limit = limit_of(upper);
@@ -431,11 +434,11 @@ pub(crate) fn scan_ready(
 {
     let end = scan_lent(n, rows, table, x, start, lower, upper);
     let answer = end.answer;
+    let cursor = end.cursor;
     match answer {
-        // its lo and hi are the start's, which the caller has at hand
         ScanAnswer::Scanned(scan) => Swept {
             scan: scan,
-            cursor: start.moved(scan.last),
+            cursor: cursor,
         },
         // does not occur
         ScanAnswer::Refused(_) => Swept {
@@ -445,7 +448,7 @@ pub(crate) fn scan_ready(
                 kmax: -1,
                 last: -1,
             },
-            cursor: start,
+            cursor: cursor,
         },
     }
 }

@@ -1,20 +1,20 @@
 -- Laws that the proofs of arr alone use. Assumes nothing.
 use mathlib.Core.Path.{_≡_, refl, sym, ap, _∙_}
-use mathlib.Core.Bool.{Bool, true, false, not, _&&_}
+use mathlib.Core.Bool.{Bool, true, false, not, _&&_, and-eq-true-iff}
 use mathlib.Core.List.{List, [], _∷_}
 use Prim.Native.Nat.{ℕ, zero, suc, _≤_, _<_, _+_, _*_, _-_, min}
-use native.Mathlib.Nat.{zero-add, add-zero, zero-mul, one-mul, le-of-lt, mul-le-mul, le-of-suc-le-suc}
+use native.Mathlib.Nat.{mul-le-mul, le-of-suc-le-suc}
 use native.Mathlib.Numerals.{add-one}
 use native.Mathlib.Omega.{arith}
-use borrow.Author.Tests.{not-true, not-false, leb-true, leb-false}
-use lib.Dec.{leb}
-use lib.ListN.{length, take, drop, getD, set, replicate, length-drop, length-replicate, drop-of-length-le}
-use lib.Seq.{take-all, take-nil}
+use borrow.Author.Tests.{not-true, not-false, ltb-true, eqb-true}
+use lib.Dec.{ltb, eqb}
+use lib.ListN.{length, take, drop, getD, set, replicate, length-replicate}
+use lib.Seq.{take-all}
 use lib.Ieee.{Float, nan, neg, ofBits}
 use Rattle.numbers.specs.F64.{_⊕_, _⊗_, 0ᶠ}
-use Rattle.numbers.specs.Arr.{isDimension, dotFrom, dotOf, rowOf, partFrom, fourOf, tab, mvOf, setDiag, diagOf}
+use Rattle.numbers.specs.Arr.{isDimension, dotFrom, dotOf, rowOf, fourOf, fourFrom, fourRows, tab, mvOf, setDiag, diagOf}
 use Rattle.numbers.specs.declared.arr.Four.{Four}
-use Rattle.numbers.specs.ArrLaws.{dot-step, dot-end, part-long, part-entry, part-of-part, tab-getD, FilledTo, filled-start, filled-turn, filled-done, row-in, dimension-most}
+use Rattle.numbers.specs.ArrLaws.{dot-step, dot-end, row-part, tab-getD, FilledTo, filled-start, filled-turn, filled-done, row-in, dimension-most}
 
 -- ---- the sum's loop, from its invariant `dotFrom s (drop i a) (drop i b) ≡ d`
 
@@ -31,69 +31,16 @@ module _ (a b : List Float) (s : Float) (i : ℕ) {d : Float} (e : dotFrom s (dr
   pub sum-done : min (length a) (length b) ≤ i → s ≡ d
   sum-done h = sym (dot-end s a b i h) ∙ e
 
--- ---- four rows side by side: of each, `at` is where it begins in `rows`
+-- a row of 2 or 3
+module _ (row x : List Float) (long : length row ≡ length x) where
+  two : 2 ≤ length x → dotFrom (0ᶠ ⊕ getD row 0 nan ⊗ getD x 0 nan ⊕ getD row 1 nan ⊗ getD x 1 nan) (drop 2 row) (drop 2 x) ≡ dotFrom 0ᶠ row x
+  two h = sum-two row x 0ᶠ 0 refl (omega arith) (omega arith)
 
-module _ (n : ℕ) (rows x : List Float) (j at : ℕ) (s : Float) {d : Float} (long : length x ≡ n) (within : at + n ≤ length rows) (e : partFrom n rows x j at s ≡ d) where
-  wide : length (take n (drop at rows)) ≡ n
-  wide = part-long n at rows within
+  pub short-two : length x ≡ 2 → 0ᶠ ⊕ getD row 0 nan ⊗ getD x 0 nan ⊕ getD row 1 nan ⊗ getD x 1 nan ≡ dotFrom 0ᶠ row x
+  short-two e = sum-done row x _ 2 (two (omega arith)) (omega arith)
 
-  pub part-again : j < n → partFrom n rows x (j + 1) at (s ⊕ getD rows (at + j) nan ⊗ getD x j nan) ≡ d
-  part-again h = rw (← part-entry n at j rows h) (sum-again (take n (drop at rows)) x s j e (rw wide h) (rw long h))
-
-  pub part-done : n ≤ j → s ≡ d
-  part-done h = sum-done (take n (drop at rows)) x s j e (rw (wide, long) (omega arith))
-
-pub part-again-first : (n : ℕ) (rows x : List Float) (j : ℕ) (s : Float) {d : Float} → length x ≡ n → n ≤ length rows → partFrom n rows x j 0 s ≡ d → j < n
-    → partFrom n rows x (j + 1) 0 (s ⊕ getD rows j nan ⊗ getD x j nan) ≡ d
-part-again-first n rows x j s long within e h = rw (zero-add j) at (part-again n rows x j 0 s long (omega arith) e h)
-
--- the row of 2 or 3 that begins at `at`
-module _ (n at : ℕ) (m x : List Float) (long : length x ≡ n) (within : at + n ≤ length m) where
-  one : 2 ≤ n → partFrom n m x 1 at (0ᶠ ⊕ getD m at nan ⊗ getD x 0 nan) ≡ partFrom n m x 0 at 0ᶠ
-  one h = rw (add-zero at) at (part-again n m x 0 at 0ᶠ long within refl (omega arith))
-
-  two : 2 ≤ n → partFrom n m x 2 at (0ᶠ ⊕ getD m at nan ⊗ getD x 0 nan ⊕ getD m (at + 1) nan ⊗ getD x 1 nan) ≡ partFrom n m x 0 at 0ᶠ
-  two h = part-again n m x 1 at _ long within (one h) (omega arith)
-
-  pub short-two : n ≡ 2 → 0ᶠ ⊕ getD m at nan ⊗ getD x 0 nan ⊕ getD m (at + 1) nan ⊗ getD x 1 nan ≡ dotFrom 0ᶠ (take n (drop at m)) x
-  short-two e = part-done n m x 2 at _ long within (two (omega arith)) (omega arith)
-
-  pub short-three : n ≡ 3
-      → 0ᶠ ⊕ getD m at nan ⊗ getD x 0 nan ⊕ getD m (at + 1) nan ⊗ getD x 1 nan ⊕ getD m (at + 2) nan ⊗ getD x 2 nan ≡ dotFrom 0ᶠ (take n (drop at m)) x
-  short-three e = part-done n m x 3 at _ long within (part-again n m x 2 at _ long within (two (omega arith)) (omega arith)) (omega arith)
-
--- row k is the part that begins at k × n
-pub first-row : (n : ℕ) (m : List Float) → take n (drop 0 m) ≡ rowOf n m 0
-first-row n m = rw (zero-mul n)
-
-pub second-row : (n : ℕ) (m : List Float) → take n (drop n m) ≡ rowOf n m 1
-second-row n m = rw (one-mul n)
-
--- what there is of the n numbers from `at` on: f and e are where it begins and ends
-pub clipped : (n at : ℕ) (l : List Float) (f e : ℕ) → f ≡ min at (length l) → e ≡ min (f + n) (length l) → take (e - f) (drop f l) ≡ take n (drop at l)
-clipped n at l f e p q = go (leb at (length l)) (leb (at + n) (length l)) refl refl
-  where
-    go : (s t : Bool) → leb at (length l) ≡ s → leb (at + n) (length l) ≡ t → take (e - f) (drop f l) ≡ take n (drop at l)
-    go true true h k =
-        let from : f ≡ at = omega (arith, leb-true at (length l) h) in
-        let long : e - at ≡ n = omega (arith, leb-true (at + n) (length l) k) in
-        rw (from, long)
-    go true false h k =
-        let from : f ≡ at = omega (arith, leb-true at (length l) h) in
-        let m : length l < at + n = leb-false (at + n) (length l) k in
-        rw from (take-all (e - at) (drop at l) (rw (length-drop at l) (omega (arith, m))) ∙ sym (take-all n (drop at l) (rw (length-drop at l) (omega (arith, m)))))
-    go false t h k =
-        let m : length l < at = leb-false at (length l) h in
-        rw (drop-of-length-le l (let w : length l ≤ f = omega (arith, m) in w), drop-of-length-le l (le-of-lt m)) (take-nil (e - f) ∙ sym (take-nil n))
-
--- the four numbers from their parts
-module _ (rows x : List Float) where
-  pub four-is : (r : Four) → r .a ≡ dotOf (take (length x) (drop 0 rows)) x → r .b ≡ dotOf (take (length x) (drop (length x) rows)) x
-      → r .c ≡ dotOf (rowOf (length x) rows 2) x → r .d ≡ dotOf (rowOf (length x) rows 3) x → r ≡ fourOf rows x
-  four-is r p q u w =
-      let p′ : r .a ≡ dotOf (rowOf (length x) rows 0) x = p ∙ ap (λ (l : List Float). dotOf l x) (first-row (length x) rows) in
-      let q′ : r .b ≡ dotOf (rowOf (length x) rows 1) x = q ∙ ap (λ (l : List Float). dotOf l x) (second-row (length x) rows) in
-      λ i. record { a = p′ i; b = q′ i; c = u i; d = w i }
+  pub short-three : length x ≡ 3 → 0ᶠ ⊕ getD row 0 nan ⊗ getD x 0 nan ⊕ getD row 1 nan ⊗ getD x 1 nan ⊕ getD row 2 nan ⊗ getD x 2 nan ≡ dotFrom 0ᶠ row x
+  short-three e = sum-done row x _ 3 (sum-again row x _ 2 (two (omega arith)) (omega arith) (omega arith)) (omega arith)
 
 -- ---- `dotOf` by the tests of the code
 
@@ -109,12 +56,23 @@ first-on [] b h k = absurd (omega (arith, h))
 first-on (x ∷ a) [] h k = absurd (omega (arith, k))
 first-on (x ∷ a) (y ∷ b) h k = refl
 
--- of the row that begins at `at`
-pub first-of : (n at : ℕ) (rows x : List Float) {s : Float} → length x ≡ n → 0 < n → at + n ≤ length rows → s ≡ partFrom n rows x 1 at (getD rows at nan ⊗ getD x 0 nan)
-    → s ≡ dotOf (take n (drop at rows)) x
-first-of n at rows x long some within e =
-    let q : getD (take n (drop at rows)) 0 nan ≡ getD rows at nan = part-entry n at 0 rows some ∙ rw (add-zero at) in
-    e ∙ rw q at (first-on (take n (drop at rows)) x (rw (part-long n at rows within) some) (omega arith))
+-- of four rows. What the test of their lengths says:
+pub rows-fit : (a b c d x : List Float) → (ltb 0 (length x) && eqb (length a) (length x) && eqb (length b) (length x) && eqb (length c) (length x) && eqb (length d) (length x)) ≡ true
+    → (0 < length x) × (length a ≡ length x) × (length b ≡ length x) × (length c ≡ length x) × (length d ≡ length x)
+rows-fit a b c d x h =
+    let n = length x in
+    let p = and-eq-true-iff (ltb 0 n && eqb (length a) n && eqb (length b) n && eqb (length c) n) (eqb (length d) n) .0 h in
+    let q = and-eq-true-iff (ltb 0 n && eqb (length a) n && eqb (length b) n) (eqb (length c) n) .0 (p .0) in
+    let r = and-eq-true-iff (ltb 0 n && eqb (length a) n) (eqb (length b) n) .0 (q .0) in
+    let s = and-eq-true-iff (ltb 0 n) (eqb (length a) n) .0 (r .0) in
+    (ltb-true 0 n (s .0), eqb-true (length a) n (s .1), eqb-true (length b) n (r .1), eqb-true (length c) n (q .1), eqb-true (length d) n (p .1))
+
+pub four-on : (a b c d x : List Float) {r : Four} → (0 < length x) × (length a ≡ length x) × (length b ≡ length x) × (length c ≡ length x) × (length d ≡ length x)
+    → r ≡ fourFrom (record { a = getD a 0 nan ⊗ getD x 0 nan; b = getD b 0 nan ⊗ getD x 0 nan; c = getD c 0 nan ⊗ getD x 0 nan; d = getD d 0 nan ⊗ getD x 0 nan }) a b c d x 1
+    → r ≡ fourOf a b c d x
+four-on a b c d x h e =
+    let f : (l : List Float) → length l ≡ length x → dotFrom (getD l 0 nan ⊗ getD x 0 nan) (drop 1 l) (drop 1 x) ≡ dotOf l x = λ l z. first-on l x (omega (arith, h .0)) (h .0) in
+    e ∙ (λ i. record { a = f a (h .1) i; b = f b (h .2) i; c = f c (h .3) i; d = f d (h .4) i })
 
 -- ---- what the filling loops leave
 
@@ -125,35 +83,37 @@ pub multiplied : (n : ℕ) (mat x out : List Float) → length out ≡ n → tab
 unfolding mvOf
 multiplied n mat x out e = rw e
 
--- a matrix of 2 or 3
-module _ (n : ℕ) (mat x out : List Float) (long : length out ≡ n) {a b : Float} (p : a ≡ dotFrom 0ᶠ (take n (drop 0 mat)) x) (q : b ≡ dotFrom 0ᶠ (take n (drop n mat)) x) where
-  abbrev entry : ℕ → Float
-  entry k = dotFrom 0ᶠ (rowOf n mat k) x
+-- a matrix of 2 or 3, from the products of its rows
+module _ (n : ℕ) (mat x out : List Float) (long : length out ≡ n) {a b : Float} (p : a ≡ dotFrom 0ᶠ (take (n - 0) (drop 0 mat)) x) (q : b ≡ dotFrom 0ᶠ (take (2 * n - n) (drop n mat)) x) where
+  abbrev product : ℕ → Float
+  product k = dotFrom 0ᶠ (rowOf n mat k) x
 
-  first-two : 2 ≤ n → FilledTo entry out (set (set out 0 a) 1 b) 2
+  first-two : 2 ≤ n → FilledTo product out (set (set out 0 a) 1 b) 2
   first-two h =
-      let one = filled-turn entry out out 0 a (filled-start entry out) (omega arith) (p ∙ ap (λ (l : List Float). dotFrom 0ᶠ l x) (first-row n mat)) in
-      filled-turn entry out (set out 0 a) 1 b one (omega arith) (q ∙ ap (λ (l : List Float). dotFrom 0ᶠ l x) (second-row n mat))
+      let one = filled-turn product out out 0 a (filled-start product out) (omega arith) (p ∙ rw (row-part n 0 0 n mat (omega arith) (omega arith))) in
+      filled-turn product out (set out 0 a) 1 b one (omega arith) (q ∙ rw (row-part n 1 n (2 * n) mat (omega arith) (omega arith)))
 
   pub short-all-two : 2 ≤ n → n ≤ 3 → (n ≡ 3 → ⊥) → set (set out 0 a) 1 b ≡ mvOf n mat x
   short-all-two h m k =
       let e : n ≡ 2 = omega (arith, k) in
-      filled-done entry out _ 2 (first-two h) (omega arith) ∙ multiplied n mat x out long
+      filled-done product out _ 2 (first-two h) (omega arith) ∙ multiplied n mat x out long
 
-  pub short-all-three : {c : Float} → n ≡ 3 → c ≡ dotFrom 0ᶠ (rowOf n mat 2) x → set (set (set out 0 a) 1 b) 2 c ≡ mvOf n mat x
-  short-all-three {c} e r = filled-done entry out _ 3 (filled-turn entry out _ 2 c (first-two (omega arith)) (omega arith) r) (omega arith) ∙ multiplied n mat x out long
+  pub short-all-three : {c : Float} → n ≡ 3 → c ≡ dotFrom 0ᶠ (take (3 * n - 2 * n) (drop (2 * n) mat)) x → set (set (set out 0 a) 1 b) 2 c ≡ mvOf n mat x
+  short-all-three {c} e r =
+      filled-done product out _ 3 (filled-turn product out _ 2 c (first-two (omega arith)) (omega arith) (r ∙ rw (row-part n 2 (2 * n) (3 * n) mat refl (omega arith)))) (omega arith)
+      ∙ multiplied n mat x out long
 
-pub row-is : (n i : ℕ) (mat x : List Float) {d : Float} → d ≡ dotFrom 0ᶠ (take (i * n + n - i * n) (drop (i * n) mat)) x → d ≡ dotFrom 0ᶠ (rowOf n mat i) x
-row-is n i mat x e = let k : i * n + n - i * n ≡ n = omega arith in rw k at e
-
--- row r, the k-th of the four rows from row i on, is the part of them that begins at k × n
-pub block-row : (n i k at r : ℕ) (mat x : List Float) {d : Float} → k < 4 → at ≡ k * n → r ≡ i + k
-    → d ≡ partFrom n (take (i * n + 4 * n - i * n) (drop (i * n) mat)) x 0 at 0ᶠ → d ≡ dotFrom 0ᶠ (rowOf n mat r) x
-block-row n i k at r mat x h q t e =
-    let m : i * n + 4 * n - i * n ≡ 4 * n = omega arith in
-    let u : r * n ≡ i * n + at = ap (λ (z : ℕ). z * n) t ∙ omega (arith, q) in
-    let w : at + n ≤ 4 * n = omega (arith, q, row-in n k 4 h) in
-    (rw (m, part-of-part n at (i * n) (4 * n) mat w) at e) ∙ rw u
+-- four rows, each from its part of the matrix
+pub four-rows : (n i : ℕ) (mat x : List Float) {r : Four}
+    → r ≡ fourFrom (record { a = 0ᶠ; b = 0ᶠ; c = 0ᶠ; d = 0ᶠ }) (take (i * n + n - i * n) (drop (i * n) mat)) (take (i * n + n + n - (i * n + n)) (drop (i * n + n) mat))
+    (take (i * n + n + n + n - (i * n + n + n)) (drop (i * n + n + n) mat)) (take (i * n + n + n + n + n - (i * n + n + n + n)) (drop (i * n + n + n + n) mat)) x 0
+    → r ≡ fourRows n mat x i
+four-rows n i mat x e =
+    let p = row-part n i (i * n) (i * n + n) mat refl refl in
+    let q = row-part n (i + 1) (i * n + n) (i * n + n + n) mat (omega arith) refl in
+    let u = row-part n (i + 2) (i * n + n + n) (i * n + n + n + n) mat (omega arith) refl in
+    let w = row-part n (i + 3) (i * n + n + n + n) (i * n + n + n + n + n) mat (omega arith) refl in
+    e ∙ (λ j. record { a = dotFrom 0ᶠ (p j) x; b = dotFrom 0ᶠ (q j) x; c = dotFrom 0ᶠ (u j) x; d = dotFrom 0ᶠ (w j) x })
 
 pub block-in : (n i : ℕ) → i + 4 ≤ n → i * n + 4 * n ≤ n * n
 block-in n i h = let e : (i + 3) * n ≡ i * n + 3 * n = omega arith in omega (arith, e, row-in n (i + 3) n (omega arith))

@@ -3,7 +3,7 @@ use mathlib.Core.Path.{_≡_, refl, sym, ap, subst, _∙_}
 use mathlib.Core.Bool.{Bool, true, false, not}
 use mathlib.Core.List.{List}
 use Prim.Native.Nat.{ℕ, _≤_, _<_, _+_, _-_, _*_}
-use native.Mathlib.Nat.{zero-add, sub-zero}
+use native.Mathlib.Nat.{zero-add}
 use native.Mathlib.Omega.{arith}
 use borrow.Author.Tests.{ltb-true, ltb-false, leb-true, leb-false, le-leb, eqb-true, eq-eqb, ne-eqb, lt-ltb, le-ltb}
 use borrow.Rule.Slice.PartMut.{putMid}
@@ -87,16 +87,16 @@ rows-start n ratio gt mq l = by-zero n (λ r c. r) _ mq l
 
 pub row-long : (n : ℕ) (ratio : Float) (gt mq₀ mq : List Float) (i : ℕ) → MatrixOf n (lowered-to n ratio gt mq₀ i) mq → i < n
     → length (take (i * n + n - i * n) (drop (i * n) mq)) ≡ n
-row-long n ratio gt mq₀ mq i h l = part-long n _ _ i mq h 0 (i * n) (i * n + n - i * n) l (omega arith) (omega arith) (omega arith) ∙ sub-zero n
+row-long n ratio gt mq₀ mq i h l = part-long n _ _ i mq h 0 (i * n) (i * n + n - i * n) l (omega arith) (omega arith) ∙ omega arith
 
 pub rows-turn : (n : ℕ) (ratio : Float) (gt mq₀ mq : List Float) (i : ℕ) → MatrixOf n (lowered-to n ratio gt mq₀ i) mq → i < n
     → MatrixOf n (lowered-to n ratio gt mq₀ (i + 1))
     (putMid (i * n) (i * n + n - i * n) mq (row-lowered (take (i * n + n - i * n) (drop (i * n) mq)) (ratio ⊗ entry gt i) gt i))
 unfolding row-lowered
 rows-turn n ratio gt mq₀ mq i h l =
-    part-turn n _ _ i mq h 0 (i * n) (i * n + n - i * n) l (omega arith) (omega arith) (omega arith) (tab new (length row)) (length-tab new (length row) ∙ long)
+    part-turn n _ _ i mq h 0 (i * n) (i * n + n - i * n) l (omega arith) (omega arith) (tab new (length row)) (length-tab new (length row) ∙ long)
     (λ c m. tab-entry new (length row) c (omega (arith, long)) ∙ rw (each c m, zero-add))
-    (λ c m. absurd (omega (arith, m)))
+    (λ c m q. absurd (q (omega arith) (omega arith)))
   where
     row : List Float
     row = take (i * n + n - i * n) (drop (i * n) mq)
@@ -104,11 +104,11 @@ rows-turn n ratio gt mq₀ mq i h l =
     new : ℕ → Float
     new j = pick (leb j i) (entry row j ⊖ ratio ⊗ entry gt i ⊗ entry gt j) (entry row j)
 
-    long : length row ≡ n - 0
-    long = part-long n _ _ i mq h 0 (i * n) (i * n + n - i * n) l (omega arith) (omega arith) (omega arith)
+    long : length row ≡ i * n + n - i * n
+    long = part-long n _ _ i mq h 0 (i * n) (i * n + n - i * n) l (omega arith) (omega arith)
 
-    each : (c : ℕ) → c < n - 0 → entry row c ≡ at n mq₀ i (0 + c)
-    each c m = part-entry n _ _ i mq h 0 (i * n) (i * n + n - i * n) l (omega arith) (omega arith) (omega arith) c m
+    each : (c : ℕ) → c < i * n + n - i * n → entry row c ≡ at n mq₀ i (0 + c)
+    each c m = part-entry n _ _ i mq h 0 (i * n) (i * n + n - i * n) l (omega arith) (omega arith) c m
 
 pub rows-done : (n : ℕ) (ratio : Float) (gt mq₀ mq : List Float) (i : ℕ) → MatrixOf n (lowered-to n ratio gt mq₀ i) mq → n ≤ i → mq ≡ all-lowered n ratio gt mq₀
 unfolding all-lowered

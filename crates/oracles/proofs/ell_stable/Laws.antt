@@ -1,17 +1,17 @@
 -- The turns of the loops of ell_stable, and the ways through its update. Assumes nothing.
-use mathlib.Core.Path.{_≡_, refl, sym, ap, subst, _∙_}
+use mathlib.Core.Path.{_≡_, refl, sym, ap, _∙_}
 use mathlib.Core.Bool.{Bool, true, false, not, _&&_, and-eq-true-iff}
 use mathlib.Core.List.{List, _∷_, _++_}
 use mathlib.Core.Logic.{⊎-elim}
 use Prim.Native.Nat.{ℕ, zero, suc, _≤_, _<_, _+_, _-_, _*_}
-use native.Mathlib.Nat.{sub-zero, le-refl, eq-or-lt-of-le}
+use native.Mathlib.Nat.{zero-add, sub-zero, le-refl, eq-or-lt-of-le}
 use native.Mathlib.Numerals.{add-one}
 use native.Mathlib.Omega.{arith}
 use borrow.Author.Tests.{ltb-true, ltb-false, eqb-true, eqb-false, eq-eqb, ne-eqb, lt-ltb, le-ltb}
 use borrow.Rule.Slice.PartMut.{putMid}
 use lib.Dec.{ltb, eqb}
 use lib.Ieee.{Float, nan}
-use lib.ListN.{length, take, drop, set, length-drop}
+use lib.ListN.{length, take, drop, set, length-drop, length-append, List·getD-append}
 use lib.Seq.{getD-at, getD-append-add, getD-take, getD-drop, getD-set-same, getD-set-other, set-at, set-getD, set-set, append-snoc, take-all, take-suc, length-take-le}
 use Rattle.numbers.specs.F64.{_⊕_, _⊖_, _⊗_, _⊘_, 0ᶠ, 1ᶠ}
 use Rattle.numbers.specs.Pick.{pick, hit, skip}
@@ -23,10 +23,10 @@ use Rattle.numbers.specs.declared.cut.CutChoice.{CutChoice}
 use Rattle.numbers.specs.declared.cut.CutStatus.the-variants.{NoEffect}
 use Rattle.numbers.specs.declared.ell_calc.NewEllCalc.{NewEllCalc}
 use Rattle.numbers.specs.declared.ell_calc.NewEllCalc.the-variants.{Made as MadeCalc, Refused as NoCalc}
-use Rattle.numbers.specs.ArrLaws.{length-tab}
-use Rattle.oracles.specs.Matrix.{entry, at, grid, total}
-use Rattle.oracles.specs.MatrixLaws.{total-turn, tab-entry, tab-ext, tab-cong, length-grid, grid-at, total-cong}
-use Rattle.oracles.specs.LoopLaws.{is-hit, is-skip, both-ways, pick-cong, pick-grow, pick-map, VectorOf, MatrixOf, matrix-set, matrix-grid, swept, sweep-start, sweep-left, sweep-past, sweep-turn, swept-by, by-start, by-left, by-past, by-turn, by-done, part-long, part-entry, part-turn}
+use Rattle.numbers.specs.ArrLaws.{length-tab, FilledTo}
+use Rattle.oracles.specs.Matrix.{entry, at, total}
+use Rattle.oracles.specs.MatrixLaws.{total-turn, tab-entry, tab-ext, tab-cong, total-cong}
+use Rattle.oracles.specs.LoopLaws.{is-hit, is-skip, both-ways, pick-cong, pick-map, VectorOf, MatrixOf, swept, sweep-start, sweep-left, sweep-past, sweep-turn, swept-by, by-start, by-left, by-past, by-done, part-long, part-entry, part-turn}
 use Rattle.oracles.specs.EllCommon.{calcOf, is-tiny, is-success, centreOf}
 use Rattle.oracles.specs.declared.ell_common.CutStrategy.{CutStrategy}
 use Rattle.oracles.specs.declared.ell_stable.EllStable.{EllStable}
@@ -35,7 +35,7 @@ use Rattle.oracles.specs.declared.ell_stable.NewEllStable.{NewEllStable}
 use Rattle.oracles.specs.declared.ell_stable.NewEllStable.the-variants.{Made, Refused as NotMade}
 use Rattle.oracles.specs.EllStable.{StableBuffers, new-ell-stable-answer, forward, inv-ml-gOf, inv-md-inv-ml-gOf, gg-tOf, omegaOf, lowered, backward, t-start, updated, with-tsq, stable-said, succeeded, stable-updateOf}
 use Rattle.oracles.proofs.ell_common.Laws.{lengths}
-use Rattle.oracles.specs.EllStableLaws.{stored-to, row-stored, solved-to, solved-back, column-taken, row-updated, less-columns, t-after, factor-at, factors-after, forward-total, scaled, products, summed, columns-lowered, factors-lowered, backward-lowered}
+use Rattle.oracles.specs.EllStableLaws.{solved-back, column-taken, row-updated, less-columns, t-after, factor-at, factors-after, forward-total, scaled, products, summed, columns-lowered, factors-lowered, backward-lowered}
 
 -- ---- an entry from which a sum of products is taken, in place
 
@@ -54,32 +54,6 @@ module _ (w : List Float) (i : ℕ) (f : ℕ → Float) where
 
   pub taken-other : (w′ : List Float) (j k : ℕ) → w′ ≡ set w i (total _⊖_ (entry w i) f j) → (k ≡ i → ⊥) → entry w′ k ≡ entry w k
   taken-other w′ j k e o = ap (λ (z : List Float). entry z k) e ∙ getD-set-other w i k _ nan o
-
--- ---- row i of `forward`
-
-pub stored-start : (n i : ℕ) (mq w : List Float) → length mq ≡ n * n → MatrixOf n (stored-to n mq w i 0) mq
-stored-start n i mq w l = record {
-  long = l;
-  each = λ r c _ _. both-ways (eqb r i) (λ _. sym (is-skip (ltb c 0) (at n mq c r ⊗ entry w c) (at n mq r c) (le-ltb c 0 (omega arith)))) (λ _. refl);
-}
-
--- what is read of the row's column while the row is written
-pub stored-reads : (n i j : ℕ) (mq₀ w mq : List Float) → MatrixOf n (stored-to n mq₀ w i j) mq → j < i → i < n → at n mq j i ≡ at n mq₀ j i
-stored-reads n i j mq₀ w mq h a b = h .each j i (omega arith) b ∙ is-skip (eqb j i) _ _ (ne-eqb j i (λ q. absurd (omega (arith, q))))
-
-pub stored-turn : (n i j : ℕ) (mq₀ w mq : List Float) (v : Float) → MatrixOf n (stored-to n mq₀ w i j) mq → j < i → i < n → v ≡ at n mq₀ j i ⊗ entry w j
-    → MatrixOf n (stored-to n mq₀ w i (j + 1)) (set mq (i * n + j) v)
-stored-turn n i j mq₀ w mq v h a b e =
-    matrix-set n (stored-to n mq₀ w i j) (stored-to n mq₀ w i (j + 1)) mq i j v h b (omega arith)
-    (e ∙ sym (is-hit (eqb i i) _ _ (eq-eqb i i refl) ∙ is-hit (ltb j (j + 1)) (at n mq₀ j i ⊗ entry w j) (at n mq₀ i j) (lt-ltb j (j + 1) (omega arith))))
-    (λ r c _ _ q. pick-cong (eqb r i) (λ x. pick-grow c j (at n mq₀ c r ⊗ entry w c) (at n mq₀ r c) (λ z. q (eqb-true r i x) z)) (λ _. refl))
-
-pub stored-done : (n i j : ℕ) (mq₀ w mq : List Float) → MatrixOf n (stored-to n mq₀ w i j) mq → j ≡ i → mq ≡ row-stored n mq₀ w i
-unfolding row-stored
-stored-done n i j mq₀ w mq h e = matrix-grid n (stored-to n mq₀ w i i) mq (subst (λ (k : ℕ). MatrixOf n (stored-to n mq₀ w i k) mq) e h)
-
-pub solved-done : (n i j : ℕ) (mq w w′ : List Float) → w′ ≡ solved-to n mq w i j → j ≡ i → w′ ≡ solved-to n mq w i i
-solved-done n i j mq w w′ h e = h ∙ ap (solved-to n mq w i) e
 
 -- ---- row i of `backward`
 
@@ -124,6 +98,9 @@ row-done row ratio beta2 v h p =
 
 -- ---- every row of `forward`
 
+pub column-done : (f : ℕ → Float) (xs₀ xs : List Float) (i j : ℕ) → FilledTo f xs₀ xs j → j ≡ i → xs ≡ tab f i ++ drop i xs₀
+column-done f xs₀ xs i j h e = rw e at (h .is)
+
 abbrev pub lowered-to : ℕ → List Float → List Float → ℕ → ℕ → ℕ → Float
 lowered-to n mq g = swept-by (λ r c. r) (λ r c. pick (ltb c r) (at n mq c r ⊗ inv-ml-gOf n mq g c) (at n mq r c)) (λ r c. at n mq r c)
 
@@ -143,19 +120,39 @@ module _ (n : ℕ) (mq₀ g : List Float) (i : ℕ) (mq w : List Float) (h : Mat
   product k b =
       rw (by-past n _ _ _ i mq h k i (omega arith) l b ∙ is-skip (ltb i k) (at n mq₀ i k ⊗ inv-ml-gOf n mq₀ g i) (at n mq₀ k i) (le-ltb i k (omega arith)), sweep-past n _ _ i w s k b (omega arith))
 
-  pub lowered-turn : MatrixOf n (lowered-to n mq₀ g (i + 1)) (row-stored n mq w i)
-  unfolding row-stored
-  lowered-turn =
-      by-turn n _ _ _ i mq h (grid (stored-to n mq w i i) n n) (length-grid (stored-to n mq w i i) n n)
-      (λ r c a b q. grid-at (stored-to n mq w i i) n n r c a b ∙ is-hit (eqb r i) _ _ (eq-eqb r i q)
-      ∙ rw q (pick-cong (ltb c i) (λ t. product c (ltb-true c i t)) (λ t. by-left n _ _ _ i mq h i c l b (omega arith))))
-      (λ r c a b q. grid-at (stored-to n mq w i i) n n r c a b ∙ is-skip (eqb r i) _ _ (ne-eqb r i q))
+  -- with column i of the upper triangle in `column`
+  module _ (column₀ column : List Float) (e : column ≡ tab (λ j. at n mq j i) i ++ drop i column₀) where
+    abbrev row : List Float
+    row = take (i * n + i - i * n) (drop (i * n) mq)
 
-  pub solved-turn : VectorOf n (solved n mq₀ g (i + 1)) (solved-to n mq w i i)
-  unfolding inv-ml-gOf
-  solved-turn =
-      sweep-turn n _ _ i w s _ l
-      (rw (sweep-left n _ _ i w s i (omega arith) l) (total-cong _⊖_ (entry g i) _ _ i product) ∙ sym (forward-total n mq₀ g i i))
+    lower-long : length row ≡ i
+    lower-long = part-long n _ _ i mq h 0 (i * n) (i * n + i - i * n) l (omega arith) (omega arith) ∙ omega arith
+
+    taken : (k : ℕ) → k < i → entry column k ⊗ entry w k ≡ at n mq₀ k i ⊗ inv-ml-gOf n mq₀ g k
+    taken k b =
+        let q : entry column k ≡ at n mq k i = ap (λ (z : List Float). entry z k) e ∙ List·getD-append (tab _ i) (drop i column₀) nan k (rw (length-tab _ i) b) ∙ tab-entry _ i k b in
+        rw q (product k b)
+
+    -- what `forward_row` requires
+    pub row-fits : length column₀ ≡ n → (length row ≤ length column) × (length row ≤ length w)
+    row-fits m =
+        let q : length column ≡ i + (n - i) = ap length e ∙ simp (length-append, length-tab, length-drop, m) in
+        (omega (arith, lower-long, q), omega (arith, lower-long, s .long))
+
+    pub lowered-turn : (row′ : List Float) → row′ ≡ tab (λ j. entry column j ⊗ entry w j) (length row) → MatrixOf n (lowered-to n mq₀ g (i + 1)) (putMid (i * n) (i * n + i - i * n) mq row′)
+    lowered-turn row′ y =
+        part-turn n _ _ i mq h 0 (i * n) (i * n + i - i * n) l (omega arith) (omega arith)
+        row′ (ap length y ∙ length-tab _ _ ∙ part-long n _ _ i mq h 0 (i * n) (i * n + i - i * n) l (omega arith) (omega arith))
+        (λ c m. let b : c < i = omega arith in
+        ap (λ (r : List Float). entry r c) y ∙ tab-entry _ _ c (omega (arith, lower-long)) ∙ taken c b
+        ∙ rw (zero-add c) (sym (is-hit (ltb c i) _ _ (lt-ltb c i b))))
+        (λ c m q. both-ways (ltb c i) (λ t. absurd (q (omega arith) (omega (arith, ltb-true c i t)))) (λ _. refl))
+
+    pub solved-turn : (v : Float) → v ≡ total _⊖_ (entry w i) (λ j. entry column j ⊗ entry w j) (length row) → VectorOf n (solved n mq₀ g (i + 1)) (set w i v)
+    unfolding inv-ml-gOf
+    solved-turn v y =
+        sweep-turn n _ _ i w s v l
+        (y ∙ rw (lower-long, sweep-left n _ _ i w s i (omega arith) l) (total-cong _⊖_ (entry g i) _ _ i taken) ∙ sym (forward-total n mq₀ g i i))
 
 pub lowered-done : (n : ℕ) (mq₀ g : List Float) (i : ℕ) (mq : List Float) → MatrixOf n (lowered-to n mq₀ g i) mq → n ≤ i → mq ≡ lowered n mq₀ g
 unfolding lowered
@@ -247,7 +244,7 @@ module _ (n : ℕ) (mq₀ z v₀ : List Float) (t0 : Float) (j : ℕ) (mq v : Li
     columns-turn = rw taken columns-next
 
     row-long : length (take (j * n + n - (j * n + j)) (drop (j * n + j) mq)) ≡ n - j
-    row-long = part-long n _ _ j mq h j (j * n + j) (j * n + n - (j * n + j)) l (omega arith) refl (omega arith)
+    row-long = part-long n _ _ j mq h j (j * n + j) (j * n + n - (j * n + j)) l (omega arith) refl ∙ omega arith
 
     -- the row from its diagonal on, and the part of v′ beside it
     pub parts-fit : (0 < length (take (j * n + n - (j * n + j)) (drop (j * n + j) mq)))
@@ -270,11 +267,11 @@ module _ (n : ℕ) (mq₀ z v₀ : List Float) (t0 : Float) (j : ℕ) (mq v : Li
           → MatrixOf n (factored-to n mq₀ z v₀ t0 (j + 1)) (putMid (j * n + j) (j * n + n - (j * n + j)) mq row′)
       unfolding row-updated
       factored-turn row′ newt w y =
-          part-turn n _ _ j mq h j (j * n + j) (j * n + n - (j * n + j)) l (omega arith) refl (omega arith)
-          row′ (ap length y ∙ length-tab _ _ ∙ row-long)
+          part-turn n _ _ j mq h j (j * n + j) (j * n + n - (j * n + j)) l (omega arith) refl
+          row′ (ap length y ∙ length-tab _ _ ∙ part-long n _ _ j mq h j (j * n + j) (j * n + n - (j * n + j)) l (omega arith) refl)
           (λ c m.
           let e : entry (take (j * n + n - (j * n + j)) (drop (j * n + j) mq)) c ≡ at n mq₀ j (j + c) =
-          part-entry n _ _ j mq h j (j * n + j) (j * n + n - (j * n + j)) l (omega arith) refl (omega arith) c m
+          part-entry n _ _ j mq h j (j * n + j) (j * n + n - (j * n + j)) l (omega arith) refl c m
           in
           let w′ : newt ≡ t-after n mq₀ z v₀ t0 (suc j) = w ∙ t-turn ∙ ap (t-after n mq₀ z v₀ t0) (add-one j) in
           ap (λ (r : List Float). entry r c) y ∙ tab-entry _ _ c (omega (arith, row-long))
@@ -283,8 +280,8 @@ module _ (n : ℕ) (mq₀ z v₀ : List Float) (t0 : Float) (j : ℕ) (mq v : Li
           (λ t. let q : j ≡ j + c = eqb-true j (j + c) t in
           is-hit (eqb c 0) _ _ (eq-eqb c 0 (omega arith)) ∙ rw (e, o, w′))
           (λ t. let q : c ≡ 0 → ⊥ = λ x. eqb-false j (j + c) t (omega (arith, x)) in
-          is-skip (eqb c 0) _ _ (ne-eqb c 0 q) ∙ rw (e, w′, beside c (positive c q) m))))
-          (λ c m. hit (ltb c j) _ _ _ (lt-ltb c j m) refl)
+          is-skip (eqb c 0) _ _ (ne-eqb c 0 q) ∙ rw (e, w′, beside c (positive c q) (omega arith)))))
+          (λ c m q. both-ways (ltb c j) (λ _. refl) (λ t. absurd (q (ltb-false c j t) (omega arith))))
         where
           positive : (c : ℕ) → (c ≡ 0 → ⊥) → 0 < c
           positive zero q = absurd (q refl)

@@ -33,9 +33,6 @@ ready-of n rows table x c S =
     let e : length table ≡ rows * n = eqb-true (length table) (rows * n) (and-parts (eqb (length table) (rows * n)) (eqb (length x) n) (S .long) .0) in
     record { legal = L; high = le-trans (mul-le-mul-right n h) (le-of-eq (sym e)) }
 
-pub point-long : (n rows : ℕ) (table x : List Float) (c : RoundRobin) → Scannable n rows table x c → length x ≡ n
-point-long n rows table x c S = eqb-true (length x) n (and-parts (eqb (length table) (rows * n)) (eqb (length x) n) (S .long) .1)
-
 -- with nothing to refuse, the answer is the scan
 pub scanned : (n rows : ℕ) (table x : List Float) (c : RoundRobin) (lower : Float) (upper : Upper) → Scannable n rows table x c
     → (Scanned (scanOf n table x c lower upper), moved c (scanOf n table x c lower upper .last)) ≡ scan-band-answer n rows table x c lower upper

@@ -1,20 +1,20 @@
 -- `numbers::arr::add_four` meets its contract. The invariant: of each row, what is left to add, begun at the sum so far, gives the answer. Assumes nothing.
 use mathlib.Core.Path.{_≡_}
-use Prim.Native.Nat.{_-_, _*_}
-use native.Mathlib.Omega.{arith}
+use Prim.Native.Nat.{_-_}
+use lib.ListN.{length, drop}
+use Rattle.numbers.specs.Arr.{dotFrom}
+use Rattle.numbers.proofs.arr.Laws.{sum-again, sum-done}
 use borrow.Author.Needs.{needs}
-use Rattle.numbers.specs.Arr.{partFrom}
-use Rattle.numbers.proofs.arr.Laws.{part-again, part-again-first, part-done}
 use Rattle.numbers.proofs.arr.add_four.Statement.{statement}
 use Rattle.numbers.proofs.arr.add_four.Tie as tie
 
 abbrev Inv-loop : tie.InvT-loop
-Inv-loop n rows x from a₀ b₀ c₀ d₀ j₀ a b c d j =
-    (partFrom n rows x j 0 a ≡ partFrom n rows x from 0 a₀) × (partFrom n rows x j n b ≡ partFrom n rows x from n b₀)
-    × (partFrom n rows x j (2 * n) c ≡ partFrom n rows x from (2 * n) c₀) × (partFrom n rows x j (3 * n) d ≡ partFrom n rows x from (3 * n) d₀)
+Inv-loop a b c d x from s₀ t₀ u₀ v₀ j₀ s t u v j =
+    (dotFrom s (drop j a) (drop j x) ≡ dotFrom s₀ (drop from a) (drop from x)) × (dotFrom t (drop j b) (drop j x) ≡ dotFrom t₀ (drop from b) (drop from x))
+    × (dotFrom u (drop j c) (drop j x) ≡ dotFrom u₀ (drop from c) (drop from x)) × (dotFrom v (drop j d) (drop j x) ≡ dotFrom v₀ (drop from d) (drop from x))
 
 abbrev μ-loop : tie.MeasureT-loop
-μ-loop n rows x from a₀ b₀ c₀ d₀ j₀ a b c d j = n - j
+μ-loop a b c d x from s₀ t₀ u₀ v₀ j₀ s t u v j = length x - j
 
 loop-holds : tie.Need-loop-holds Inv-loop μ-loop
 loop-holds c = search needs
@@ -25,44 +25,29 @@ mul-y c = search needs
 shared-slice-read-y : tie.Need-shared-slice-read-y Inv-loop μ-loop
 shared-slice-read-y c = search needs
 
-mul-a : tie.Need-mul-a Inv-loop μ-loop
-mul-a c = search needs
+mul-s : tie.Need-mul-s Inv-loop μ-loop
+mul-s c = search needs
 
-shared-slice-read-a : tie.Need-shared-slice-read-a Inv-loop μ-loop
-shared-slice-read-a c = search needs
+shared-slice-read-s : tie.Need-shared-slice-read-s Inv-loop μ-loop
+shared-slice-read-s c = search needs
 
-add-b : tie.Need-add-b Inv-loop μ-loop
-add-b c = search needs
+mul-t : tie.Need-mul-t Inv-loop μ-loop
+mul-t c = search needs
 
-mul-b : tie.Need-mul-b Inv-loop μ-loop
-mul-b c = search needs
+shared-slice-read-t : tie.Need-shared-slice-read-t Inv-loop μ-loop
+shared-slice-read-t c = search needs
 
-shared-slice-read-b : tie.Need-shared-slice-read-b Inv-loop μ-loop
-shared-slice-read-b c = search needs
+mul-u : tie.Need-mul-u Inv-loop μ-loop
+mul-u c = search needs
 
-mul-c : tie.Need-mul-c Inv-loop μ-loop
-mul-c c = search needs
+shared-slice-read-u : tie.Need-shared-slice-read-u Inv-loop μ-loop
+shared-slice-read-u c = search needs
 
-add-c : tie.Need-add-c Inv-loop μ-loop
-add-c c = search needs
+mul-v : tie.Need-mul-v Inv-loop μ-loop
+mul-v c = search needs
 
-mul-c-2 : tie.Need-mul-c-2 Inv-loop μ-loop
-mul-c-2 c = search needs
-
-shared-slice-read-c : tie.Need-shared-slice-read-c Inv-loop μ-loop
-shared-slice-read-c c = search needs
-
-mul-d : tie.Need-mul-d Inv-loop μ-loop
-mul-d c = search needs
-
-add-d : tie.Need-add-d Inv-loop μ-loop
-add-d c = search needs
-
-mul-d-2 : tie.Need-mul-d-2 Inv-loop μ-loop
-mul-d-2 c = search needs
-
-shared-slice-read-d : tie.Need-shared-slice-read-d Inv-loop μ-loop
-shared-slice-read-d c = search needs
+shared-slice-read-v : tie.Need-shared-slice-read-v Inv-loop μ-loop
+shared-slice-read-v c = search needs
 
 add-j : tie.Need-add-j Inv-loop μ-loop
 add-j c = search needs
@@ -72,36 +57,23 @@ loop-less c = search needs
 
 loop-again : tie.Need-loop-again Inv-loop μ-loop
 loop-again c =
-    let st = c .before .before .before .before .before .before .before in
-    let a = st .args in
-    let n = a .n in
-    let rows = a .rows .now in
-    let x = a .x .now in
-    let t = c .before .before .before .before .before in
-    let l = t .before .loop in
-    let h = t .loop-test .taken in
-    let long = st .pre .2 in (
-      part-again-first n rows x (l .j) (l .a) long (omega arith) (l .inv .0) h,
-      part-again n rows x (l .j) n (l .b) long (omega arith) (l .inv .1) h,
-      part-again n rows x (l .j) (2 * n) (l .c) long (omega arith) (l .inv .2) h,
-      part-again n rows x (l .j) (3 * n) (l .d) long (omega arith) (l .inv .3) h,
+    let a = c .before .before .before .before .before .before .before .args in
+    let l = c .before .before .before .before .before .before .loop in (
+      sum-again (a .a .now) (a .x .now) (l .s) (l .j) (l .inv .0) (search needs) (search needs),
+      sum-again (a .b .now) (a .x .now) (l .t) (l .j) (l .inv .1) (search needs) (search needs),
+      sum-again (a .c .now) (a .x .now) (l .u) (l .j) (l .inv .2) (search needs) (search needs),
+      sum-again (a .d .now) (a .x .now) (l .v) (l .j) (l .inv .3) (search needs) (search needs),
     )
 
 returns : tie.Need-returns Inv-loop μ-loop
 returns c =
-    let st = c .before .before in
-    let a = st .args in
-    let n = a .n in
-    let rows = a .rows .now in
-    let x = a .x .now in
+    let a = c .before .before .args in
     let l = c .before .loop in
-    let h = c .loop-test .left in
-    let long = st .pre .2 in (
-      part-done n rows x (l .j) 0 (l .a) long (omega arith) (l .inv .0) h,
-      part-done n rows x (l .j) n (l .b) long (omega arith) (l .inv .1) h,
-      part-done n rows x (l .j) (2 * n) (l .c) long (omega arith) (l .inv .2) h,
-      part-done n rows x (l .j) (3 * n) (l .d) long (omega arith) (l .inv .3) h,
-    )
+    let p = sum-done (a .a .now) (a .x .now) (l .s) (l .j) (l .inv .0) (search needs) in
+    let q = sum-done (a .b .now) (a .x .now) (l .t) (l .j) (l .inv .1) (search needs) in
+    let u = sum-done (a .c .now) (a .x .now) (l .u) (l .j) (l .inv .2) (search needs) in
+    let w = sum-done (a .d .now) (a .x .now) (l .v) (l .j) (l .inv .3) (search needs) in
+    λ i. record { a = p i; b = q i; c = u i; d = w i }
 
 pub add-four-spec : {M : Type 1} → statement M
 add-four-spec =
@@ -112,19 +84,14 @@ add-four-spec =
     loop-holds
     mul-y
     shared-slice-read-y
-    mul-a
-    shared-slice-read-a
-    add-b
-    mul-b
-    shared-slice-read-b
-    mul-c
-    add-c
-    mul-c-2
-    shared-slice-read-c
-    mul-d
-    add-d
-    mul-d-2
-    shared-slice-read-d
+    mul-s
+    shared-slice-read-s
+    mul-t
+    shared-slice-read-t
+    mul-u
+    shared-slice-read-u
+    mul-v
+    shared-slice-read-v
     add-j
     loop-less
     loop-again

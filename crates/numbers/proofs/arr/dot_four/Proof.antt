@@ -1,89 +1,86 @@
 -- `numbers::arr::dot_four` meets its contract. Assumes nothing.
-use mathlib.Core.Path.{refl}
-use Prim.Native.Nat.{_*_}
 use native.Mathlib.Omega.{arith}
-use lib.ListN.{length}
-use Rattle.numbers.proofs.arr.Laws.{four-is, first-of}
+use Rattle.numbers.proofs.arr.Laws.{rows-fit, four-on}
 use borrow.Author.Needs.{needs}
 use Rattle.numbers.proofs.arr.dot_four.Statement.{statement}
 use Rattle.numbers.proofs.arr.dot_four.Tie as tie
 
-dot-parts-requires : tie.Need-dot-parts-requires
-dot-parts-requires c κs = search needs
-
-returns : tie.Need-returns
-returns c = search needs
-
-mul-if2 : tie.Need-mul-if2
-mul-if2 c = search needs
-
-dot-parts-requires-2 : tie.Need-dot-parts-requires-2
-dot-parts-requires-2 c κs = search needs
-
-returns-2 : tie.Need-returns-2
-returns-2 c = search needs
-
 shared-slice-read-y : tie.Need-shared-slice-read-y
-shared-slice-read-y c = search needs
-
-shared-slice-read-t10 : tie.Need-shared-slice-read-t10
-shared-slice-read-t10 c = search needs
-
-mul-t7 : tie.Need-mul-t7
-mul-t7 c = search needs
-
-shared-slice-read-t14 : tie.Need-shared-slice-read-t14
-shared-slice-read-t14 c = search needs
-
-mul-t8 : tie.Need-mul-t8
-mul-t8 c = search needs
-
-mul-t16 : tie.Need-mul-t16
-mul-t16 c = search needs
-
-shared-slice-read-t18 : tie.Need-shared-slice-read-t18
-shared-slice-read-t18 c = search needs
-
-mul-t20 : tie.Need-mul-t20
-mul-t20 c = search needs
-
-mul-t21 : tie.Need-mul-t21
-mul-t21 c = search needs
+shared-slice-read-y c =
+    let t = c .before in
+    let a = t .before .before .before .before .before .before .args in
+    let h = rows-fit (a .a .now) (a .b .now) (a .c .now) (a .d .now) (a .x .now) (t .if1 .taken) in
+    omega (arith, h .0)
 
 shared-slice-read-t23 : tie.Need-shared-slice-read-t23
-shared-slice-read-t23 c = search needs
+shared-slice-read-t23 c =
+    let t = c .before .before in
+    let a = t .before .before .before .before .before .before .args in
+    let h = rows-fit (a .a .now) (a .b .now) (a .c .now) (a .d .now) (a .x .now) (t .if1 .taken) in
+    omega (arith, h .0, h .1)
+
+shared-slice-read-t27 : tie.Need-shared-slice-read-t27
+shared-slice-read-t27 c =
+    let t = c .before .before .before in
+    let a = t .before .before .before .before .before .before .args in
+    let h = rows-fit (a .a .now) (a .b .now) (a .c .now) (a .d .now) (a .x .now) (t .if1 .taken) in
+    omega (arith, h .0, h .2)
+
+shared-slice-read-t30 : tie.Need-shared-slice-read-t30
+shared-slice-read-t30 c =
+    let t = c .before .before .before .before in
+    let a = t .before .before .before .before .before .before .args in
+    let h = rows-fit (a .a .now) (a .b .now) (a .c .now) (a .d .now) (a .x .now) (t .if1 .taken) in
+    omega (arith, h .0, h .3)
+
+shared-slice-read-t33 : tie.Need-shared-slice-read-t33
+shared-slice-read-t33 c =
+    let t = c .before .before .before .before .before in
+    let a = t .before .before .before .before .before .before .args in
+    let h = rows-fit (a .a .now) (a .b .now) (a .c .now) (a .d .now) (a .x .now) (t .if1 .taken) in
+    omega (arith, h .0, h .4)
 
 add-four-requires : tie.Need-add-four-requires
-add-four-requires c κs = search needs
+add-four-requires c κs =
+    let t = c .before .before .before .before .before in
+    let a = t .before .before .before .before .before .before .args in
+    let h = rows-fit (a .a .now) (a .b .now) (a .c .now) (a .d .now) (a .x .now) (t .if1 .taken) in
+    (h .1, h .2, h .3, h .4)
 
-returns-3 : tie.Need-returns-3
-returns-3 c =
-    let st = c .before .before .before .before .before .before .before .before .before .before in
-    let rows = st .args .rows .now in
-    let x = st .args .x .now in
-    let n = length x in
-    let e = c .add-four .ensures in
-    four-is rows x _ (first-of n 0 rows x refl (omega arith) (omega arith) (e .0)) (first-of n n rows x refl (omega arith) (omega arith) (e .1))
-    (first-of n (2 * n) rows x refl (omega arith) (omega arith) (e .2)) (first-of n (3 * n) rows x refl (omega arith) (omega arith) (e .3))
+returns : tie.Need-returns
+returns c =
+    let t = c .before .before .before .before .before .before in
+    let a = t .before .before .before .before .before .before .args in
+    four-on (a .a .now) (a .b .now) (a .c .now) (a .d .now) (a .x .now) (rows-fit (a .a .now) (a .b .now) (a .c .now) (a .d .now) (a .x .now) (t .if1 .taken)) (c .add-four .ensures)
+
+dot-zip-requires : tie.Need-dot-zip-requires
+dot-zip-requires c κs = search needs
+
+dot-zip-requires-2 : tie.Need-dot-zip-requires-2
+dot-zip-requires-2 c κs = search needs
+
+dot-zip-requires-3 : tie.Need-dot-zip-requires-3
+dot-zip-requires-3 c κs = search needs
+
+dot-zip-requires-4 : tie.Need-dot-zip-requires-4
+dot-zip-requires-4 c κs = search needs
+
+returns-2 : tie.Need-returns-2
+returns-2 c = λ i. record { a = c .before .before .before .dot-zip .ensures i; b = c .before .before .dot-zip2 .ensures i; c = c .before .dot-zip3 .ensures i; d = c .dot-zip4 .ensures i }
 
 pub dot-four-spec : {M : Type 1} → statement M
 dot-four-spec =
     tie.close
     (tie.spec
-    dot-parts-requires
-    returns
-    mul-if2
-    dot-parts-requires-2
-    returns-2
     shared-slice-read-y
-    shared-slice-read-t10
-    mul-t7
-    shared-slice-read-t14
-    mul-t8
-    mul-t16
-    shared-slice-read-t18
-    mul-t20
-    mul-t21
     shared-slice-read-t23
+    shared-slice-read-t27
+    shared-slice-read-t30
+    shared-slice-read-t33
     add-four-requires
-    returns-3)
+    returns
+    dot-zip-requires
+    dot-zip-requires-2
+    dot-zip-requires-3
+    dot-zip-requires-4
+    returns-2)

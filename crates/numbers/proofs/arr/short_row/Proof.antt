@@ -1,24 +1,14 @@
 -- `numbers::arr::short_row` meets its contract. Assumes nothing.
-use native.Mathlib.Omega.{arith}
 use Rattle.numbers.proofs.arr.Laws.{short-two, short-three}
 use borrow.Author.Needs.{needs}
 use Rattle.numbers.proofs.arr.short_row.Statement.{statement}
 use Rattle.numbers.proofs.arr.short_row.Tie as tie
-
-mul-s : tie.Need-mul-s
-mul-s c = search needs
 
 shared-slice-read-s : tie.Need-shared-slice-read-s
 shared-slice-read-s c = search needs
 
 shared-slice-read-s-2 : tie.Need-shared-slice-read-s-2
 shared-slice-read-s-2 c = search needs
-
-add-t : tie.Need-add-t
-add-t c = search needs
-
-mul-t : tie.Need-mul-t
-mul-t c = search needs
 
 shared-slice-read-t : tie.Need-shared-slice-read-t
 shared-slice-read-t c = search needs
@@ -29,14 +19,7 @@ shared-slice-read-t-2 c = search needs
 returns : tie.Need-returns
 returns c =
     let st = c .before .before .before .before .before in
-    let a = st .args in
-    short-two (a .n) (a .at) (a .mat .now) (a .x .now) (st .pre .3) (st .pre .2) (c .if1 .taken)
-
-add-result : tie.Need-add-result
-add-result c = search needs
-
-mul-result : tie.Need-mul-result
-mul-result c = search needs
+    short-two (st .args .row .now) (st .args .x .now) (st .pre .2) (c .if1 .taken)
 
 shared-slice-read-result : tie.Need-shared-slice-read-result
 shared-slice-read-result c = search needs
@@ -47,23 +30,17 @@ shared-slice-read-result-2 c = search needs
 returns-2 : tie.Need-returns-2
 returns-2 c =
     let st = c .before .before .before .before .before .before .before in
-    let a = st .args in
-    short-three (a .n) (a .at) (a .mat .now) (a .x .now) (st .pre .3) (st .pre .2) (search needs)
+    short-three (st .args .row .now) (st .args .x .now) (st .pre .2) (search needs)
 
 pub short-row-spec : {M : Type 1} → statement M
 short-row-spec =
     tie.close
     (tie.spec
-    mul-s
     shared-slice-read-s
     shared-slice-read-s-2
-    add-t
-    mul-t
     shared-slice-read-t
     shared-slice-read-t-2
     returns
-    add-result
-    mul-result
     shared-slice-read-result
     shared-slice-read-result-2
     returns-2)

@@ -1,25 +1,78 @@
--- `oracles::ell_stable::forward` meets its contract. The invariant: the rows below i are solved, and their products stored. Assumes nothing.
+-- `oracles::ell_stable::forward` meets its contract. The invariant: the rows below i are solved, and their products stored. Row i is lent, and comes back in its place.
+-- Assumes nothing.
+use mathlib.Core.Path.{_≡_}
 use Prim.Native.Nat.{_-_}
 use native.Mathlib.Omega.{arith}
 use borrow.Author.Needs.{needs}
+use lib.ListN.{length}
+use Rattle.numbers.specs.ArrLaws.{row-in}
+use Rattle.oracles.specs.MatrixLaws.{row-small}
 use Rattle.oracles.specs.LoopLaws.{VectorOf, MatrixOf, sweep-done}
-use Rattle.oracles.proofs.ell_stable.Laws.{lowered-to, solved, lowered-start, solved-start, lowered-turn, solved-turn, lowered-done}
+use Rattle.oracles.proofs.ell_stable.Laws.{lowered-to, solved, lowered-start, solved-start, row-fits, lowered-turn, solved-turn, lowered-done}
 use Rattle.oracles.proofs.ell_stable.forward.Statement.{statement}
 use Rattle.oracles.proofs.ell_stable.forward.Tie as tie
 
 abbrev Inv-loop : tie.InvT-loop
-Inv-loop n mq₀ w₀ i₀ mq w i = MatrixOf n (lowered-to n mq₀ w₀ i) mq × VectorOf n (solved n mq₀ w₀ i) w
+Inv-loop n mq₀ w₀ column₀ i₀ mq w column i = MatrixOf n (lowered-to n mq₀ w₀ i) mq × VectorOf n (solved n mq₀ w₀ i) w × (length column ≡ n)
 
 abbrev μ-loop : tie.MeasureT-loop
-μ-loop n mq₀ w₀ i₀ mq w i = n - i
+μ-loop n mq₀ w₀ column₀ i₀ mq w column i = n - i
 
 loop-holds : tie.Need-loop-holds Inv-loop μ-loop
 loop-holds c =
-    let a = c .before .before .args in
-    (lowered-start (a .n) (a .mq .now) (a .w .now) (search needs), solved-start (a .n) (a .mq .now) (a .w .now) (search needs))
+    let a = c .before .before .before .args in
+    (lowered-start (a .n) (a .mq .now) (a .w .now) (search needs), solved-start (a .n) (a .mq .now) (a .w .now) (search needs), search needs)
+
+column-into-requires : tie.Need-column-into-requires Inv-loop μ-loop
+column-into-requires c κs = search needs
+
+mul-at : tie.Need-mul-at Inv-loop μ-loop
+mul-at c =
+    let l = c .before .before .before .before .before .before .loop in
+    let a = c .before .before .before .before .before .before .before .before .before .before .args in
+    omega (arith, row-small (a .n) (l .i) (search needs) (search needs))
+
+add-end : tie.Need-add-end Inv-loop μ-loop
+add-end c =
+    let l = c .before .before .before .before .before .before .loop in
+    let a = c .before .before .before .before .before .before .before .before .before .before .args in
+    omega (arith, row-small (a .n) (l .i) (search needs) (search needs))
+
+mul-start : tie.Need-mul-start Inv-loop μ-loop
+mul-start c = search needs
+
+slice-read-start : tie.Need-slice-read-start Inv-loop μ-loop
+slice-read-start c = search needs
+
+mul-forward-row : tie.Need-mul-forward-row Inv-loop μ-loop
+mul-forward-row c =
+    let l = c .before .before .before .before .before .before .before .loop in
+    let a = c .before .before .before .before .before .before .before .before .before .before .before .args in
+    omega (arith, row-small (a .n) (l .i) (search needs) (search needs))
+
+sub-forward-row : tie.Need-sub-forward-row Inv-loop μ-loop
+sub-forward-row c = search needs
+
+part-forward-row-start : tie.Need-part-forward-row-start Inv-loop μ-loop
+part-forward-row-start c = search needs
+
+part-forward-row-end : tie.Need-part-forward-row-end Inv-loop μ-loop
+part-forward-row-end c =
+    let l = c .before .before .before .before .before .before .before .loop in
+    let a = c .before .before .before .before .before .before .before .before .before .before .before .args in
+    omega (arith, row-in (a .n) (l .i) (a .n) (search needs))
 
 forward-row-requires : tie.Need-forward-row-requires Inv-loop μ-loop
-forward-row-requires c κs = search needs
+forward-row-requires c κs =
+    let l = c .before .before .before .before .before .before .before .before .before .before .loop in
+    let a = c .before .before .before .before .before .before .before .before .before .before .before .before .before .before .args in
+    row-fits (a .n) (a .mq .now) (a .w .now) (l .i) (l .mq) (l .w) (l .inv .0) (l .inv .1) (search needs) _ _ (c .before .before .before .before .before .before .column-into .ensures) (l .inv .2)
+
+mul-w : tie.Need-mul-w Inv-loop μ-loop
+mul-w c = search needs
+
+slice-write-w : tie.Need-slice-write-w Inv-loop μ-loop
+slice-write-w c = search needs
 
 add-i : tie.Need-add-i Inv-loop μ-loop
 add-i c = search needs
@@ -29,11 +82,12 @@ loop-less c = search needs
 
 loop-again : tie.Need-loop-again Inv-loop μ-loop
 loop-again c =
-    let l = c .before .before .before .before .before .before .before .before .loop in
-    let a = c .before .before .before .before .before .before .before .before .before .before .before .args in
-    let e = c .before .before .before .before .forward-row .ensures in (
-      rw (e .0) (lowered-turn (a .n) (a .mq .now) (a .w .now) (l .i) (l .mq) (l .w) (l .inv .0) (l .inv .1) (search needs)),
-      rw (e .1) (solved-turn (a .n) (a .mq .now) (a .w .now) (l .i) (l .mq) (l .w) (l .inv .0) (l .inv .1) (search needs)),
+    let l = c .before .before .before .before .before .before .before .before .before .before .before .before .before .loop in
+    let a = c .before .before .before .before .before .before .before .before .before .before .before .before .before .before .before .before .before .args in
+    let e = c .before .before .forward-row .ensures in (
+      lowered-turn (a .n) (a .mq .now) (a .w .now) (l .i) (l .mq) (l .w) (l .inv .0) (l .inv .1) (search needs) _ _ (c .before .before .before .before .before .before .before .before .before .column-into .ensures) _ (e .1),
+      solved-turn (a .n) (a .mq .now) (a .w .now) (l .i) (l .mq) (l .w) (l .inv .0) (l .inv .1) (search needs) _ _ (c .before .before .before .before .before .before .before .before .before .column-into .ensures) _ (e .0),
+      search needs,
     )
 
 same-length : tie.Need-same-length Inv-loop μ-loop
@@ -42,10 +96,13 @@ same-length c = search needs
 same-length-2 : tie.Need-same-length-2 Inv-loop μ-loop
 same-length-2 c = search needs
 
+same-length-3 : tie.Need-same-length-3 Inv-loop μ-loop
+same-length-3 c = search needs
+
 returns : tie.Need-returns Inv-loop μ-loop
 returns c =
     let l = c .before .loop in
-    let a = c .before .before .before .before .args in (
+    let a = c .before .before .before .before .before .args in (
       lowered-done (a .n) (a .mq .now) (a .w .now) (l .i) (l .mq) (l .inv .0) (search needs),
       sweep-done _ _ _ (l .i) (l .w) (l .inv .1) (λ k b g. absurd (omega arith)),
     )
@@ -57,10 +114,22 @@ forward-spec =
     Inv-loop
     μ-loop
     loop-holds
+    column-into-requires
+    mul-at
+    add-end
+    mul-start
+    slice-read-start
+    mul-forward-row
+    sub-forward-row
+    part-forward-row-start
+    part-forward-row-end
     forward-row-requires
+    mul-w
+    slice-write-w
     add-i
     loop-less
     loop-again
     same-length
     same-length-2
+    same-length-3
     returns)

@@ -1,12 +1,12 @@
 -- `oracles::scan::four_values` meets its contract. Assumes nothing.
-use mathlib.Core.Path.{_≡_, ap, _∙_}
+use mathlib.Core.Path.{_≡_, refl, _∙_}
 use mathlib.Core.List.{List}
-use Prim.Native.Nat.{ℕ, _<_, _+_, _-_, _*_}
+use Prim.Native.Nat.{ℕ, _+_, _-_, _*_}
 use native.Mathlib.Omega.{arith}
 use lib.Ieee.{Float}
-use lib.ListN.{length, take, drop}
-use Rattle.numbers.specs.Arr.{dotOf, rowOf, fourOf}
-use Rattle.numbers.specs.ArrLaws.{row-in, part-of-part}
+use lib.ListN.{take, drop}
+use Rattle.numbers.specs.Arr.{dotOf, fourOf}
+use Rattle.numbers.specs.ArrLaws.{row-part}
 use Rattle.numbers.specs.declared.arr.Four.{Four}
 use Rattle.oracles.specs.Scan.{valueOf}
 use Rattle.oracles.specs.ScanRun.{valuesOf}
@@ -14,31 +14,30 @@ use borrow.Author.Needs.{needs}
 use Rattle.oracles.proofs.scan.four_values.Statement.{statement}
 use Rattle.oracles.proofs.scan.four_values.Tie as tie
 
-module _ (n : ℕ) (table x : List Float) (i : ℕ) (long : length x ≡ n) where
-  abbrev block : List Float
-  block = take (i * n + 4 * n - i * n) (drop (i * n) table)
+-- four rows, each from its part of the table
+values : (n : ℕ) (table x : List Float) (i : ℕ) {r : Four}
+    → r ≡ fourOf (take (i * n + n - i * n) (drop (i * n) table)) (take (i * n + n + n - (i * n + n)) (drop (i * n + n) table))
+    (take (i * n + n + n + n - (i * n + n + n)) (drop (i * n + n + n) table)) (take (i * n + n + n + n + n - (i * n + n + n + n)) (drop (i * n + n + n + n) table)) x
+    → r ≡ valuesOf n table x i
+unfolding valueOf
+values n table x i e =
+    let p = row-part n i (i * n) (i * n + n) table refl refl in
+    let q = row-part n (i + 1) (i * n + n) (i * n + n + n) table (omega arith) refl in
+    let u = row-part n (i + 2) (i * n + n + n) (i * n + n + n + n) table (omega arith) refl in
+    let w = row-part n (i + 3) (i * n + n + n + n) (i * n + n + n + n + n) table (omega arith) refl in
+    e ∙ (λ j. record { a = dotOf (p j) x; b = dotOf (q j) x; c = dotOf (u j) x; d = dotOf (w j) x })
 
-  -- the k-th row of the block is row r of the table
-  row : (k r : ℕ) → k < 4 → r ≡ i + k → dotOf (rowOf (length x) block k) x ≡ valueOf n table x r
-  unfolding valueOf
-  row k r h e =
-      let m : i * n + 4 * n - i * n ≡ 4 * n = omega arith in
-      let u : i * n + k * n ≡ r * n = omega arith ∙ ap (λ (z : ℕ). z * n) (let q : i + k ≡ r = omega arith in q) in
-      rw (long, m, part-of-part n (k * n) (i * n) (4 * n) table (row-in n k 4 h), u)
+mul-a : tie.Need-mul-a
+mul-a c = search needs
 
-  values : {r : Four} → r ≡ fourOf block x → r ≡ valuesOf n table x i
-  values e =
-      let p = row 0 i (omega arith) (omega arith) in
-      let q = row 1 (i + 1) (omega arith) (omega arith) in
-      let u = row 2 (i + 2) (omega arith) (omega arith) in
-      let w = row 3 (i + 3) (omega arith) (omega arith) in
-      e ∙ (λ j. record { a = p j; b = q j; c = u j; d = w j })
+add-b : tie.Need-add-b
+add-b c = search needs
 
-mul-at : tie.Need-mul-at
-mul-at c = search needs
+add-c : tie.Need-add-c
+add-c c = search needs
 
-mul-end : tie.Need-mul-end
-mul-end c = search needs
+add-d : tie.Need-add-d
+add-d c = search needs
 
 add-end : tie.Need-add-end
 add-end c = search needs
@@ -55,22 +54,72 @@ part-dot-four-start c = search needs
 part-dot-four-end : tie.Need-part-dot-four-end
 part-dot-four-end c = search needs
 
+mul-dot-four-2 : tie.Need-mul-dot-four-2
+mul-dot-four-2 c = search needs
+
+sub-dot-four-2 : tie.Need-sub-dot-four-2
+sub-dot-four-2 c = search needs
+
+part-dot-four-start-2 : tie.Need-part-dot-four-start-2
+part-dot-four-start-2 c = search needs
+
+part-dot-four-end-2 : tie.Need-part-dot-four-end-2
+part-dot-four-end-2 c = search needs
+
+mul-dot-four-3 : tie.Need-mul-dot-four-3
+mul-dot-four-3 c = search needs
+
+sub-dot-four-3 : tie.Need-sub-dot-four-3
+sub-dot-four-3 c = search needs
+
+part-dot-four-start-3 : tie.Need-part-dot-four-start-3
+part-dot-four-start-3 c = search needs
+
+part-dot-four-end-3 : tie.Need-part-dot-four-end-3
+part-dot-four-end-3 c = search needs
+
+mul-dot-four-4 : tie.Need-mul-dot-four-4
+mul-dot-four-4 c = search needs
+
+sub-dot-four-4 : tie.Need-sub-dot-four-4
+sub-dot-four-4 c = search needs
+
+part-dot-four-start-4 : tie.Need-part-dot-four-start-4
+part-dot-four-start-4 c = search needs
+
+part-dot-four-end-4 : tie.Need-part-dot-four-end-4
+part-dot-four-end-4 c = search needs
+
 dot-four-requires : tie.Need-dot-four-requires
 dot-four-requires c κs = search needs
 
 returns : tie.Need-returns
-returns c = let s = c .before .before .before .before in values (s .args .n) (s .args .table .now) (s .args .x .now) (s .args .i) (s .pre .1) (c .dot-four .ensures)
+returns c = let a = c .before .before .before .before .before .before .before .args in values (a .n) (a .table .now) (a .x .now) (a .i) (c .dot-four .ensures)
 
 pub four-values-spec : {M : Type 1} → statement M
 four-values-spec =
     tie.close
     (tie.spec
-    mul-at
-    mul-end
+    mul-a
+    add-b
+    add-c
+    add-d
     add-end
     mul-dot-four
     sub-dot-four
     part-dot-four-start
     part-dot-four-end
+    mul-dot-four-2
+    sub-dot-four-2
+    part-dot-four-start-2
+    part-dot-four-end-2
+    mul-dot-four-3
+    sub-dot-four-3
+    part-dot-four-start-3
+    part-dot-four-end-3
+    mul-dot-four-4
+    sub-dot-four-4
+    part-dot-four-start-4
+    part-dot-four-end-4
     dot-four-requires
     returns)

@@ -22,7 +22,7 @@ look-at-four-requires : tie.Need-look-at-four-requires
 look-at-four-requires c κs =
     let s = c .before .before .before in
     let e : s .args .many * s .args .n ≡ 4 * s .args .n = ap (λ (z : ℕ). z * s .args .n) (c .if1 .taken) in
-    (omega arith, omega (arith, e), s .pre .3)
+    (omega arith, omega (arith, e))
 
 returns : tie.Need-returns
 returns c =

@@ -1,11 +1,11 @@
 -- `oracles::scan::row_value` meets its contract. Assumes nothing.
-use mathlib.Core.Path.{_≡_, _∙_}
+use mathlib.Core.Path.{_≡_, refl, ap, _∙_}
 use mathlib.Core.List.{List}
 use Prim.Native.Nat.{ℕ, _+_, _-_, _*_}
-use native.Mathlib.Omega.{arith}
 use lib.Ieee.{Float}
 use lib.ListN.{take, drop}
 use Rattle.numbers.specs.Arr.{dotOf}
+use Rattle.numbers.specs.ArrLaws.{row-part}
 use Rattle.oracles.specs.Scan.{valueOf}
 use borrow.Author.Needs.{needs}
 use Rattle.oracles.proofs.scan.row_value.Statement.{statement}
@@ -14,7 +14,7 @@ use Rattle.oracles.proofs.scan.row_value.Tie as tie
 -- the part from i × n to i × n + n is row i
 row-is : (n : ℕ) (table x : List Float) (i : ℕ) → dotOf (take (i * n + n - i * n) (drop (i * n) table)) x ≡ valueOf n table x i
 unfolding valueOf
-row-is n table x i = let e : i * n + n - i * n ≡ n = omega arith in rw e
+row-is n table x i = ap (λ (l : List Float). dotOf l x) (row-part n i (i * n) (i * n + n) table refl refl)
 
 mul-at : tie.Need-mul-at
 mul-at c = search needs

@@ -18,7 +18,7 @@ use Rattle.oracles.specs.declared.scan.ScanEnd.{ScanEnd}
 use Rattle.numbers.specs.declared.refusal.Refusal.{Refusal}
 use Rattle.oracles.specs.declared.round_robin.RoundRobin.{RoundRobin}
 use Rattle.oracles.proofs.Signed.{read}
-use Rattle.oracles.proofs.scan.Tests.{ready-of, point-long, scanned, no-dimension, no-length, no-band, no-cursor, passed, failed}
+use Rattle.oracles.proofs.scan.Tests.{ready-of, scanned, no-dimension, no-length, no-band, no-cursor, passed, failed}
 use Rattle.oracles.proofs.scan.scan_by_value.Statement.{statement}
 use Rattle.oracles.proofs.scan.scan_by_value.Tie as tie
 
@@ -116,7 +116,7 @@ scan-rows-requires c κs =
       band = passed (band-read (a .rows) (a .rr) (record { sfits = g .1 .0 .1 }) (record { sfits = g .1 .1 .0 .1 }) (b .before .band-fits .ensures)) (b .if3 .left);
       at = passed (c .before .is-at .ensures) (c .if4 .left);
     } in
-    (ready-of (a .n) (a .rows) (a .table .now) (a .x .now) (a .rr) S, point-long (a .n) (a .rows) (a .table .now) (a .x .now) (a .rr) S)
+    ready-of (a .n) (a .rows) (a .table .now) (a .x .now) (a .rr) S
 
 returns-5 : tie.Need-returns-5
 returns-5 c =

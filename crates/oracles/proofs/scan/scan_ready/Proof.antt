@@ -5,7 +5,6 @@ use Prim.Native.Nat.{ℕ}
 use native.Mathlib.Omega.{arith}
 use lib.Ieee.{Float}
 use borrow.Author.Needs.{needs}
-use mir.Facts.{toZ-ofZ}
 use types.Run.{OneOf}
 use denote.Enum.Declared.{tagOf}
 use Rattle.oracles.specs.RoundRobin.{moved}
@@ -33,8 +32,11 @@ module _ (n rows : ℕ) (table x : List Float) (c : RoundRobin) (lower : Float) 
   both : _≡_ {A = ScanAnswer × RoundRobin} (a, d) (Scanned s, moved c (s .last))
   both = e ∙ sym (scanned n rows table x c lower upper S)
 
-  gives : {s′ : Scan} → a ≡ Scanned s′ → s′ ≡ s
-  gives q = ap (the-scan s) (sym q ∙ ap (λ (p : ScanAnswer × RoundRobin). p .0) both)
+  -- the scan and the cursor that was lent
+  gives : {s′ : Scan} → a ≡ Scanned s′ → (s′ ≡ s) × (d ≡ moved c (s′ .last))
+  gives {s′} q =
+      let e : s′ ≡ s = ap (the-scan s) (sym q ∙ ap (λ (p : ScanAnswer × RoundRobin). p .0) both) in
+      (e, ap (λ (p : ScanAnswer × RoundRobin). p .1) both ∙ ap (λ (z : Scan). moved c (z .last)) (sym e))
 
   never : OneOf (1 ∷ []) (tagOf R.the-type a) → ⊥
   never k = let z : _≡_ {A = ℕ} 0 1 = sym (ap (λ (p : ScanAnswer × RoundRobin). tagOf R.the-type (p .0)) both) ∙ k in omega arith
@@ -48,25 +50,20 @@ enum-known-answer c = search needs
 enum-told : tie.Need-enum-told
 enum-told c = search needs
 
-moved-requires : tie.Need-moved-requires
-moved-requires c κs = tt
-
 returns : tie.Need-returns
 returns c =
-    let m = c .before .before in
+    let m = c .before in
     let l = m .before .before .before in
     let st = l .before .before .before in
-    let a = st .args in (
-      gives (a .n) (a .rows) (a .table .now) (a .x .now) (a .start) (a .lower) (a .upper) (st .pre) (l .scan-lent .ensures) (m .before .answer .given .1),
-      rw (toZ-ofZ (record { sfits = c .before .struct-told .given .1 .1 .1 .0 .1 })) at (c .moved .ensures),
-    )
+    let a = st .args in
+    gives (a .n) (a .rows) (a .table .now) (a .x .now) (a .start) (a .lower) (a .upper) (st .pre) (l .scan-lent .ensures) (m .answer .given .1)
 
 returns-2 : tie.Need-returns-2
 returns-2 c =
-    let l = c .before .before in
+    let l = c .before .before .before in
     let st = l .before .before .before in
     let a = st .args in
     absurd (never (a .n) (a .rows) (a .table .now) (a .x .now) (a .start) (a .lower) (a .upper) (st .pre) (l .scan-lent .ensures) (c .before .match .keys2))
 
 pub scan-ready-spec : {M : Type 1} → statement M
-scan-ready-spec = tie.close (tie.spec scan-lent-requires enum-known-answer moved-requires enum-told returns returns-2)
+scan-ready-spec = tie.close (tie.spec scan-lent-requires enum-known-answer enum-told returns returns-2)

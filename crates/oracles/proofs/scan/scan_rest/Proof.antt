@@ -28,7 +28,7 @@ some (inl e) = omega arith
 some (inr e) = omega arith
 
 loop-holds : tie.Need-loop-holds Inv-loop μ-loop
-loop-holds c = (c .before .before .pre .0, refl)
+loop-holds c = (c .before .before .pre, refl)
 
 step-requires : tie.Need-step-requires Inv-loop μ-loop
 step-requires c κs = c .before .loop .inv .0 .legal
@@ -82,7 +82,6 @@ look-at-requires c κs =
       m .0,
       rows-small (a .x .now) (a .lower) (a .limit) (l .fmax) (toZ w32 (l .kmax)) (l .inv .0) (l .inv .1) (i .loop-test .taken) (s .step .ensures) (r .row-at .ensures) (p .band-past .ensures) (m .1) (m .2),
       rows-in (a .x .now) (a .lower) (a .limit) (l .fmax) (toZ w32 (l .kmax)) (l .inv .0) (l .inv .1) (i .loop-test .taken) (s .step .ensures) (r .row-at .ensures) (p .band-past .ensures) (m .1) (m .2),
-      st .pre .1,
     )
 
 is-broken-requires : tie.Need-is-broken-requires Inv-loop μ-loop

@@ -13,15 +13,15 @@ limit-of-requires : tie.Need-limit-of-requires
 limit-of-requires c κs = tt
 
 band-past-requires : tie.Need-band-past-requires
-band-past-requires c κs = c .before .before .before .pre .0 .legal
+band-past-requires c κs = c .before .before .before .pre .legal
 
 band-from-requires : tie.Need-band-from-requires
-band-from-requires c κs = c .before .before .before .before .pre .0 .legal
+band-from-requires c κs = c .before .before .before .before .pre .legal
 
 sub-all : tie.Need-sub-all
 sub-all c =
     let st = c .before .before .before .before .before in
-    ordered (st .pre .0) (c .band-from .ensures) (c .before .band-past .ensures)
+    ordered (st .pre) (c .band-from .ensures) (c .before .band-past .ensures)
 
 returns : tie.Need-returns
 unfolding Ieee.div Ieee.neg Ieee.ofBits
@@ -29,17 +29,17 @@ returns c =
     let p = c .before .before in
     let st = p .before .before .before .before .before in
     let a = st .args in
-    rw (toZ-ofZ (record { sfits = c .struct-told .given .0 .1 })) (empty (st .pre .0) (p .band-from .ensures) (p .before .band-past .ensures) (a .lower) (a .upper) (c .before .if1 .taken))
+    rw (toZ-ofZ (record { sfits = c .struct-told .given .0 .1 })) (empty (st .pre) (p .band-from .ensures) (p .before .band-past .ensures) (a .lower) (a .upper) (c .before .if1 .taken))
 
 step-requires : tie.Need-step-requires
-step-requires c κs = c .before .before .before .before .before .before .pre .0 .legal
+step-requires c κs = c .before .before .before .before .before .before .pre .legal
 
 row-at-requires : tie.Need-row-at-requires
 row-at-requires c κs =
     let p = c .before .before in
     let st = p .before .before .before .before .before in
     let a = st .args in
-    let R = st .pre .0 in
+    let R = st .pre in
     row-there (a .x .now) (a .lower) _ −∞ none (starts R (p .band-from .ensures) (p .before .band-past .ensures)) (start-is R (p .band-from .ensures) (p .before .band-past .ensures) (a .lower) (a .upper) (p .before .before .limit-of .ensures)) (omega (arith, c .before .if1 .left)) (c .step .ensures)
 
 row-value-requires : tie.Need-row-value-requires
@@ -48,7 +48,7 @@ row-value-requires c κs =
     let p = s .before .before in
     let st = p .before .before .before .before .before in
     let a = st .args in
-    first-in (st .pre .0) (p .band-from .ensures) (p .before .band-past .ensures) (a .lower) (a .upper) (p .before .before .limit-of .ensures) (s .before .if1 .left) (s .step .ensures) (c .row-at .ensures)
+    first-in (st .pre) (p .band-from .ensures) (p .before .band-past .ensures) (a .lower) (a .upper) (p .before .before .limit-of .ensures) (s .before .if1 .left) (s .step .ensures) (c .row-at .ensures)
 
 test-row-requires : tie.Need-test-row-requires
 test-row-requires c κs =
@@ -57,7 +57,7 @@ test-row-requires c κs =
     let p = s .before .before in
     let st = p .before .before .before .before .before in
     let a = st .args in
-    let R = st .pre .0 in
+    let R = st .pre in
     row-small (a .x .now) (a .lower) _ −∞ none (starts R (p .band-from .ensures) (p .before .band-past .ensures)) (start-is R (p .band-from .ensures) (p .before .band-past .ensures) (a .lower) (a .upper) (p .before .before .limit-of .ensures)) (omega (arith, s .before .if1 .left)) (s .step .ensures) (r .row-at .ensures)
 
 is-broken-requires : tie.Need-is-broken-requires
@@ -74,7 +74,7 @@ returns-2 c =
     let p = s .before .before in
     let st = p .before .before .before .before .before in
     let a = st .args in
-    first-ends (st .pre .0) (p .band-from .ensures) (p .before .band-past .ensures) (a .lower) (a .upper) (p .before .before .limit-of .ensures) (s .before .if1 .left) (s .step .ensures) (r .row-at .ensures)
+    first-ends (st .pre) (p .band-from .ensures) (p .before .band-past .ensures) (a .lower) (a .upper) (p .before .before .limit-of .ensures) (s .before .if1 .left) (s .step .ensures) (r .row-at .ensures)
     (as-judged (a .n) (a .table .now) (a .x .now) (a .lower) _ −∞ refl (v .row-value .ensures) refl (j .test-row .ensures)) (sym (b .is-broken .ensures) ∙ c .if2 .taken)
 
 sub-scan-rest : tie.Need-sub-scan-rest
@@ -86,8 +86,8 @@ scan-rest-requires c κs =
     let p = s .before .before in
     let st = p .before .before .before .before .before in
     let a = st .args in
-    let R = st .pre .0 in
-    (left-there (a .x .now) (a .lower) _ −∞ none (starts R (p .band-from .ensures) (p .before .band-past .ensures)) (start-is R (p .band-from .ensures) (p .before .band-past .ensures) (a .lower) (a .upper) (p .before .before .limit-of .ensures)) (omega (arith, s .before .if1 .left)) (s .step .ensures), st .pre .1)
+    let R = st .pre in
+    left-there (a .x .now) (a .lower) _ −∞ none (starts R (p .band-from .ensures) (p .before .band-past .ensures)) (start-is R (p .band-from .ensures) (p .before .band-past .ensures) (a .lower) (a .upper) (p .before .before .limit-of .ensures)) (omega (arith, s .before .if1 .left)) (s .step .ensures)
 
 returns-3 : tie.Need-returns-3
 unfolding Ieee.div Ieee.neg Ieee.ofBits
@@ -102,7 +102,7 @@ returns-3 c =
     let st = p .before .before .before .before .before in
     let a = st .args in
     rw (toZ-ofZ (record { sfits = d .struct-told2 .given .1 .1 .0 .1 })) at (c .scan-rest .ensures)
-    ∙ first-goes-on (st .pre .0) (p .band-from .ensures) (p .before .band-past .ensures) (a .lower) (a .upper) (p .before .before .limit-of .ensures) (s .before .if1 .left) (s .step .ensures) (r .row-at .ensures)
+    ∙ first-goes-on (st .pre) (p .band-from .ensures) (p .before .band-past .ensures) (a .lower) (a .upper) (p .before .before .limit-of .ensures) (s .before .if1 .left) (s .step .ensures) (r .row-at .ensures)
     (as-judged (a .n) (a .table .now) (a .x .now) (a .lower) _ −∞ refl (v .row-value .ensures) refl (j .test-row .ensures)) (sym (b .is-broken .ensures) ∙ d .before .if2 .left)
 
 pub scan-rows-spec : {M : Type 1} → statement M

@@ -1,0 +1,88 @@
+-- `oracles::ell_stable::column_into` meets its contract. The invariant: the entries below j are written. Assumes nothing.
+use mathlib.Core.Path.{refl}
+use Prim.Native.Nat.{_-_, _≤_}
+use native.Mathlib.Omega.{arith}
+use Rattle.numbers.specs.ArrLaws.{FilledTo, filled-start, filled-turn}
+use Rattle.oracles.specs.Matrix.{at}
+use Rattle.oracles.specs.MatrixLaws.{row-small, place-in}
+use Rattle.oracles.proofs.ell_stable.Laws.{column-done}
+use borrow.Author.Needs.{needs}
+use Rattle.oracles.proofs.ell_stable.column_into.Statement.{statement}
+use Rattle.oracles.proofs.ell_stable.column_into.Tie as tie
+
+abbrev Inv-loop : tie.InvT-loop
+Inv-loop n mq i column₀ j₀ column j = (j ≤ i) × FilledTo (λ k. at n mq k i) column₀ column j
+
+abbrev μ-loop : tie.MeasureT-loop
+μ-loop n mq i column₀ j₀ column j = i - j
+
+loop-holds : tie.Need-loop-holds Inv-loop μ-loop
+loop-holds c = (search needs, filled-start _ _)
+
+mul-column : tie.Need-mul-column Inv-loop μ-loop
+mul-column c =
+    let l = c .before .loop in
+    let a = c .before .before .args in
+    omega (arith, row-small (a .n) (l .j) (search needs) (search needs))
+
+add-column : tie.Need-add-column Inv-loop μ-loop
+add-column c =
+    let l = c .before .loop in
+    let a = c .before .before .args in
+    omega (arith, row-small (a .n) (l .j) (search needs) (search needs))
+
+mul-column-2 : tie.Need-mul-column-2 Inv-loop μ-loop
+mul-column-2 c =
+    let l = c .before .loop in
+    let a = c .before .before .args in
+    omega (arith, row-small (a .n) (l .j) (search needs) (search needs))
+
+shared-slice-read-column : tie.Need-shared-slice-read-column Inv-loop μ-loop
+shared-slice-read-column c =
+    let l = c .before .before .loop in
+    let a = c .before .before .before .args in
+    omega (arith, place-in (a .n) (a .n) (l .j) (a .i) (search needs) (search needs))
+
+mul-column-3 : tie.Need-mul-column-3 Inv-loop μ-loop
+mul-column-3 c = search needs
+
+slice-write-column : tie.Need-slice-write-column Inv-loop μ-loop
+slice-write-column c = search needs
+
+add-j : tie.Need-add-j Inv-loop μ-loop
+add-j c = search needs
+
+loop-less : tie.Need-loop-less Inv-loop μ-loop
+loop-less c = search needs
+
+loop-again : tie.Need-loop-again Inv-loop μ-loop
+loop-again c =
+    let l = c .before .before .loop in
+    (search needs, filled-turn _ _ (l .column) (l .j) _ (l .inv .1) (search needs) refl)
+
+same-length : tie.Need-same-length Inv-loop μ-loop
+same-length c = search needs
+
+returns : tie.Need-returns Inv-loop μ-loop
+returns c =
+    let l = c .before .loop in
+    column-done _ _ _ _ (l .j) (l .inv .1) (search needs)
+
+pub column-into-spec : {M : Type 1} → statement M
+column-into-spec =
+    tie.close
+    (tie.spec
+    Inv-loop
+    μ-loop
+    loop-holds
+    mul-column
+    add-column
+    mul-column-2
+    shared-slice-read-column
+    mul-column-3
+    slice-write-column
+    add-j
+    loop-less
+    loop-again
+    same-length
+    returns)
