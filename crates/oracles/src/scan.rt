@@ -434,7 +434,13 @@ pub(crate) fn scan_ready(
 {
     let end = scan_lent(n, rows, table, x, start, lower, upper);
     let answer = end.answer;
-    let cursor = end.cursor;
+    let back = end.cursor;
+    // number by number: a copy of the whole would wait until all three are stored
+    let cursor = RoundRobin {
+        cur: back.cur,
+        lo: back.lo,
+        hi: back.hi,
+    };
     match answer {
         ScanAnswer::Scanned(scan) => Swept {
             scan: scan,

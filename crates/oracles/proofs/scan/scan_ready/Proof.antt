@@ -5,6 +5,7 @@ use Prim.Native.Nat.{ℕ}
 use native.Mathlib.Omega.{arith}
 use lib.Ieee.{Float}
 use borrow.Author.Needs.{needs}
+use mir.Facts.{toZ-ofZ}
 use types.Run.{OneOf}
 use denote.Enum.Declared.{tagOf}
 use Rattle.oracles.specs.RoundRobin.{moved}
@@ -53,14 +54,17 @@ enum-told c = search needs
 returns : tie.Need-returns
 returns c =
     let m = c .before in
-    let l = m .before .before .before in
+    let t = m .before .before in
+    let l = t .before .before in
     let st = l .before .before .before in
     let a = st .args in
-    gives (a .n) (a .rows) (a .table .now) (a .x .now) (a .start) (a .lower) (a .upper) (st .pre) (l .scan-lent .ensures) (m .answer .given .1)
+    let g = t .struct-told .given in
+    rw (toZ-ofZ (record { sfits = g .0 .1 }), toZ-ofZ (record { sfits = g .1 .0 .1 }), toZ-ofZ (record { sfits = g .1 .1 .0 .1 }))
+    (gives (a .n) (a .rows) (a .table .now) (a .x .now) (a .start) (a .lower) (a .upper) (st .pre) (l .scan-lent .ensures) (m .answer .given .1))
 
 returns-2 : tie.Need-returns-2
 returns-2 c =
-    let l = c .before .before .before in
+    let l = c .before .before .before .before in
     let st = l .before .before .before in
     let a = st .args in
     absurd (never (a .n) (a .rows) (a .table .now) (a .x .now) (a .start) (a .lower) (a .upper) (st .pre) (l .scan-lent .ensures) (c .before .match .keys2))
