@@ -8,6 +8,7 @@ pub mod Belongs
 pub mod Trace
 pub mod Calls
 pub mod Program
+pub mod Numbered
 -- Theorems about them, and the laws that these rest on.
 pub mod FaultLaws
 pub mod RecordLaws

@@ -12,11 +12,10 @@ use oracles::lowpass_oracle::LowpassOracle;
 use oracles::round_robin::CursorAnswer;
 use oracles::round_robin::RoundRobin;
 ghost use mathlib.Core.Path.{_≡_};
-ghost use Prim.Native.Nat.{ℕ};
 ghost use Rattle.oracles.specs.Ell.{new-ell-answer};
-ghost use Rattle.drivers.specs.CuttingPlane.{feas-answer, optim-answer, optim-number};
+ghost use Rattle.drivers.specs.CuttingPlane.{feas-answer, optim-answer};
 ghost use mathlib.Core.Bool.{false};
-ghost use Rattle.ponduvizh.specs.ToldRuns.{RunNumbers, fresh-cur, oracle-of, marks-of, values-of, flagOf, answer-of, numbers-after, feas-code, feas-said, optim-said, feas-left, feas-told, optim-left-told, optim-told};
+ghost use Rattle.ponduvizh.specs.ToldRuns.{fresh-cur, oracle-of, marks-of, values-of, flagOf, answer-of, numbers-after, feas-said, optim-said, feas-left, feas-told, optim-left-told, optim-told};
 
 // Where a fresh cursor stands. A run over what is no band is refused, whatever stands here.
 fn fresh_cur(fresh: CursorAnswer) -> i32
@@ -136,14 +135,13 @@ fn put_feas(
     answer: &mut [u64; 3],
     marks: &mut [i32; 7],
     values: &mut [f64; 4],
-) -> u64
-    ensures { λ r. ⌜ _≡_ {A = ℕ × RunNumbers} (r, record { answer = now (answer .exit); marks = now (marks .exit); values = now (values .exit) }) (feas-code said, feas-said said oracle ell (record { answer = now (answer .entry); marks = now (marks .entry); values = now (values .entry) })) ⌝ }
+)
+    ensures { λ _. ⌜ record { answer = now (answer .exit); marks = now (marks .exit); values = now (values .exit) } ≡ feas-said said oracle ell (record { answer = now (answer .entry); marks = now (marks .entry); values = now (values .entry) }) ⌝ }
 {
     match said {
-        FeasAnswer::Refused(why) => code(why),
+        FeasAnswer::Refused(_) => {}
         FeasAnswer::Ended(ended) => {
             put_state(ended, oracle, ell, answer, marks, values);
-            0
         }
     }
 }
@@ -155,18 +153,16 @@ fn put_optim(
     answer: &mut [u64; 3],
     marks: &mut [i32; 7],
     values: &mut [f64; 4],
-) -> u64
-    ensures { λ r. ⌜ _≡_ {A = ℕ × RunNumbers} (r, record { answer = now (answer .exit); marks = now (marks .exit); values = now (values .exit) }) (optim-number said, optim-said said oracle ell (record { answer = now (answer .entry); marks = now (marks .entry); values = now (values .entry) })) ⌝ }
+)
+    ensures { λ _. ⌜ record { answer = now (answer .exit); marks = now (marks .exit); values = now (values .exit) } ≡ optim-said said oracle ell (record { answer = now (answer .entry); marks = now (marks .entry); values = now (values .entry) }) ⌝ }
 {
     match said {
-        OptimAnswer::Refused(why) => code(why),
+        OptimAnswer::Refused(_) => {}
         OptimAnswer::Halted(ended) => {
             put_state(ended, oracle, ell, answer, marks, values);
-            6
         }
         OptimAnswer::Ended(ended) => {
             put_state(ended, oracle, ell, answer, marks, values);
-            0
         }
     }
 }
@@ -204,7 +200,8 @@ fn feas_made(
     let after = run.oracle;
     let space = run.ell;
     let said = run.answer;
-    put_feas(said, after, space, answer, marks, values)
+    put_feas(said, after, space, answer, marks, values);
+    said.number() as u64
 }
 
 fn optim_made(
@@ -242,7 +239,8 @@ fn optim_made(
     let space = run.ell;
     let said = run.answer;
     *gamma = run.gamma;
-    put_optim(said, after, space, answer, marks, values)
+    put_optim(said, after, space, answer, marks, values);
+    said.number() as u64
 }
 
 // The run over the ellipsoid, if it was made.
