@@ -26,6 +26,7 @@ pub mod RoundTrip
 pub mod RunEnds
 pub mod OptimBest
 pub mod OptimEnds
+pub mod Refused
 pub mod JobRuns
 pub mod FoundFeasible
 pub mod Worked

@@ -12,10 +12,12 @@ use oracles::lowpass_oracle::LowpassOracle;
 use oracles::round_robin::CursorAnswer;
 use oracles::round_robin::RoundRobin;
 ghost use mathlib.Core.Path.{_≡_};
+ghost use lib.Dec.{eqb};
+ghost use lib.Ieee.{Float};
 ghost use Rattle.oracles.specs.Ell.{new-ell-answer};
 ghost use Rattle.drivers.specs.CuttingPlane.{feas-answer, optim-answer};
 ghost use mathlib.Core.Bool.{false};
-ghost use Rattle.ponduvizh.specs.ToldRuns.{fresh-cur, oracle-of, marks-of, values-of, flagOf, answer-of, numbers-after, feas-said, optim-said, feas-left, feas-told, optim-left-told, optim-told};
+ghost use Rattle.ponduvizh.specs.ToldRuns.{RunLeft, fresh-cur, oracle-of, marks-of, values-of, flagOf, answer-of, numbers-after, feas-said, optim-said, feas-left, feas-told, optim-left-told, optim-told};
 
 // Where a fresh cursor stands. A run over what is no band is refused, whatever stands here.
 fn fresh_cur(fresh: CursorAnswer) -> i32
@@ -308,6 +310,7 @@ pub extern "C" fn ponduvizh_cutting_plane_feas(
     x_best: &mut [f64],
 ) -> u64
     ensures { λ r. ⌜ record { code = r; numbers = record { answer = now (answer .exit); marks = now (marks .exit); values = now (values .exit) }; buffers = record { mq = now (mq .exit); xc = now (xc .exit); grad-t = now («grad_t» .exit) }; grad = now (grad .exit); best = now («x_best» .exit) } ≡ feas-told (new-ell-answer n kappa) (oracle-of nwpass nwstop mdim cur1 cur2 cur3 «lp_sq» «up_sq» «sp_sq») (record { «max_iters» = «max_iters»; tolerance = tolerance }) rows (now (table .entry)) (record { code = 0; numbers = record { answer = now (answer .entry); marks = now (marks .entry); values = now (values .entry) }; buffers = record { mq = now (mq .entry); xc = now (xc .entry); grad-t = now («grad_t» .entry) }; grad = now (grad .entry); best = now («x_best» .entry) }) ⌝ }
+    ensures { λ r. ⌜ (eqb r 0 ≡ false → _≡_ {A = RunLeft} (record { code = r; numbers = record { answer = now (answer .exit); marks = now (marks .exit); values = now (values .exit) }; buffers = record { mq = now (mq .exit); xc = now (xc .exit); grad-t = now («grad_t» .exit) }; grad = now (grad .exit); best = now («x_best» .exit) }) (record { code = r; numbers = record { answer = now (answer .entry); marks = now (marks .entry); values = now (values .entry) }; buffers = record { mq = now (mq .entry); xc = now (xc .entry); grad-t = now («grad_t» .entry) }; grad = now (grad .entry); best = now («x_best» .entry) })) ⌝ }
 {
     let new = Ell::new_with_matrix(n, kappa);
     let oracle = oracle_of(nwpass, nwstop, mdim, cur1, cur2, cur3, lp_sq, up_sq, sp_sq);
@@ -397,6 +400,7 @@ pub extern "C" fn ponduvizh_cutting_plane_optim(
     x_best: &mut [f64],
 ) -> u64
     ensures { λ r. ⌜ (record { code = r; numbers = record { answer = now (answer .exit); marks = now (marks .exit); values = now (values .exit) }; buffers = record { mq = now (mq .exit); xc = now (xc .exit); grad-t = now («grad_t» .exit) }; grad = now (grad .exit); best = now («x_best» .exit) }, now (gamma .exit)) ≡ optim-told (new-ell-answer n kappa) (oracle-of nwpass nwstop mdim cur1 cur2 cur3 «lp_sq» «up_sq» «sp_sq») (record { «max_iters» = «max_iters»; tolerance = tolerance }) rows (now (table .entry)) (now (gamma .entry)) (record { code = 0; numbers = record { answer = now (answer .entry); marks = now (marks .entry); values = now (values .entry) }; buffers = record { mq = now (mq .entry); xc = now (xc .entry); grad-t = now («grad_t» .entry) }; grad = now (grad .entry); best = now («x_best» .entry) }) ⌝ }
+    ensures { λ r. ⌜ (eqb r 0 ≡ false → eqb r 6 ≡ false → _≡_ {A = RunLeft × Float} (record { code = r; numbers = record { answer = now (answer .exit); marks = now (marks .exit); values = now (values .exit) }; buffers = record { mq = now (mq .exit); xc = now (xc .exit); grad-t = now («grad_t» .exit) }; grad = now (grad .exit); best = now («x_best» .exit) }, now (gamma .exit)) (record { code = r; numbers = record { answer = now (answer .entry); marks = now (marks .entry); values = now (values .entry) }; buffers = record { mq = now (mq .entry); xc = now (xc .entry); grad-t = now («grad_t» .entry) }; grad = now (grad .entry); best = now («x_best» .entry) }, now (gamma .entry))) ⌝ }
 {
     let new = Ell::new_with_matrix(n, kappa);
     let oracle = oracle_of(nwpass, nwstop, mdim, cur1, cur2, cur3, lp_sq, up_sq, sp_sq);

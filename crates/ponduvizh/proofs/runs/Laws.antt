@@ -1,7 +1,8 @@
 -- A run told by its parts is the run told. Assumes nothing.
-use mathlib.Core.Path.{_≡_, refl}
+use mathlib.Core.Path.{_≡_, refl, sym, ap, _∙_}
 use mathlib.Core.List.{List}
 use Prim.Native.Nat.{ℕ}
+use lib.Dec.{eqb}
 use lib.IntN.{ℤ, pos}
 use lib.Ieee.{Float}
 use mathlib.Core.Bool.{true, false}
@@ -25,7 +26,8 @@ use Rattle.drivers.specs.declared.cutting_plane.FeasAnswer.{FeasAnswer}
 use Rattle.drivers.specs.declared.cutting_plane.FeasAnswer.the-variants.{Ended, Refused}
 use Rattle.drivers.specs.declared.cutting_plane.OptimAnswer.{OptimAnswer}
 use Rattle.drivers.specs.declared.cutting_plane.OptimAnswer.the-variants.{Ended as EndedOptim, Halted, Refused as RefusedOptim}
-use Rattle.ponduvizh.specs.ToldRuns.{RunNumbers, RunLeft, fresh-cur, oracle-of, answer-of, marks-of, values-of, numbers-after, feas-said, optim-said, feas-left, optim-left-told, feas-told, optim-told}
+use Rattle.ponduvizh.specs.ToldRuns.{RunNumbers, RunLeft, coded, fresh-cur, oracle-of, answer-of, marks-of, values-of, numbers-after, feas-said, optim-said, feas-left, optim-left-told, feas-told, optim-told}
+use Rattle.ponduvizh.specs.ToldRefused.{feas-told-refused, optim-told-refused}
 
 pub state-law : (a : Answer) (o : LowpassOracle) (e : Ell) (answer : List ℕ) (marks : List ℤ) (values : List Float)
     → answer ≡ answer-of a o
@@ -131,3 +133,20 @@ module _ (x : NewEll) (o : LowpassOracle) (p : Options) (rows k : ℕ) (table : 
       → (was code, gamma) ≡ optim-told x o p rows table gamma (was k)
   unfolding optim-told
   optim-not-made gamma why code m h = rw (m, h) refl
+
+-- both promises: what is told, and that a refusal leaves all as it was
+pub feas-promised : (x : NewEll) (o : LowpassOracle) (p : Options) (rows : ℕ) (table : List Float) (l r : RunLeft) → r ≡ feas-told x o p rows table l
+    → (r ≡ feas-told x o p rows table l) × (eqb (r .code) 0 ≡ false → r ≡ coded (r .code) l)
+feas-promised x o p rows table l r d =
+    (d, λ h. d ∙ feas-told-refused x o p rows table l (sym (ap (λ (z : RunLeft). eqb (z .code) 0) d) ∙ h) ∙ ap (λ (z : RunLeft). coded (z .code) l) (sym d))
+
+pub optim-promised : (x : NewEll) (o : LowpassOracle) (p : Options) (rows : ℕ) (table : List Float) (gamma : Float) (l : RunLeft) (r : RunLeft × Float)
+    → r ≡ optim-told x o p rows table gamma l
+    → (r ≡ optim-told x o p rows table gamma l) × (eqb (r .0 .code) 0 ≡ false → eqb (r .0 .code) 6 ≡ false → r ≡ (coded (r .0 .code) l, gamma))
+optim-promised x o p rows table gamma l r d = (
+  d,
+  λ h h′.
+      d
+      ∙ optim-told-refused x o p rows table gamma l (sym (ap (λ (z : RunLeft × Float). eqb (z .0 .code) 0) d) ∙ h) (sym (ap (λ (z : RunLeft × Float). eqb (z .0 .code) 6) d) ∙ h′)
+      ∙ ap (λ (z : RunLeft × Float). (coded (z .0 .code) l, gamma)) (sym d),
+)
