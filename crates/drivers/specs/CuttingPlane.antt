@@ -7,7 +7,6 @@ use lib.ListN.{length}
 use lib.Ieee.{Float, lt, binary64, ofBits}
 use Rattle.numbers.specs.Pick.{pick}
 use Rattle.numbers.specs.Arr.{tested}
-use Rattle.numbers.specs.Refusal.{refusalNumber}
 use Rattle.numbers.specs.declared.refusal.Refusal.the-variants.{Dimension, Length, Band, Cursor, Room}
 use Rattle.numbers.specs.declared.cut.CutChoice.{CutChoice}
 use Rattle.numbers.specs.declared.cut.CutStatus.{CutStatus}
@@ -164,12 +163,6 @@ optim-goes-on (NotUpdated why) tsq tolerance = false
 abbrev pub optim-ended : Update → Bool → ℕ → OptimAnswer
 optim-ended (Status status) found k = EndedOptim (record { found = found; steps = k })
 optim-ended (NotUpdated why) found k = Halted (record { found = found; steps = k })
-
--- document 01's number of an answer: 0 where a run ended, 6 where it was halted, else the refusal's
-abbrev pub optim-number : OptimAnswer → ℕ
-optim-number (EndedOptim answer) = 0
-optim-number (Halted answer) = 6
-optim-number (NotRunOptim why) = refusalNumber why
 
 -- what a run leaves: its answer, the space, gamma and x_best
 pub record OptimLeft : Type 0 where

@@ -8,6 +8,7 @@ pub mod Belongs
 pub mod Trace
 pub mod Calls
 pub mod Program
+pub mod Numbered
 -- Theorems about them, and the laws that these rest on.
 pub mod FaultLaws
 pub mod RecordLaws
@@ -25,6 +26,7 @@ pub mod RoundTrip
 pub mod RunEnds
 pub mod OptimBest
 pub mod OptimEnds
+pub mod Refused
 pub mod JobRuns
 pub mod FoundFeasible
 pub mod Worked

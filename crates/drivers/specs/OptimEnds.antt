@@ -10,10 +10,12 @@ use lib.ListN.{length}
 use lib.Ieee.{Float}
 use Rattle.oracles.specs.LoopLaws.{is-skip, by-test}
 use Rattle.oracles.specs.Verdict.{feasible, judge, no-stop-value}
+use Rattle.oracles.specs.Numbered.{update-number}
 use Rattle.oracles.specs.declared.ell_common.Update.{Update}
 use Rattle.oracles.specs.declared.ell_common.Update.the-variants.{Status, Refused as NotUpdated}
-use Rattle.drivers.specs.CuttingPlane.{OptimSpace, OptimLeft, check-space, plain, leaves, optim-step, optim-goes-on, optim-ended, optim-number, optim-run, optim-checked, optim-answer}
-use Rattle.drivers.specs.OptimRight.{offer-asked, update-number, OptimStepped, optim-step-right}
+use Rattle.drivers.specs.CuttingPlane.{OptimSpace, OptimLeft, check-space, plain, leaves, optim-step, optim-goes-on, optim-ended, optim-run, optim-checked, optim-answer}
+use Rattle.drivers.specs.Numbered.{optim-number}
+use Rattle.drivers.specs.OptimRight.{offer-asked, OptimStepped, optim-step-right}
 use Rattle.drivers.specs.OptimBest.{Best, best-later, Going, start, next}
 use Rattle.drivers.specs.declared.answer.Answer.{Answer}
 use Rattle.drivers.specs.declared.cutting_plane.Options.{Options}

@@ -20,6 +20,7 @@ use Rattle.oracles.specs.Verdict.{feasible, Question, Limits, Has, limits, aske
 use Rattle.oracles.specs.JudgeLaws.{judge-answers}
 use Rattle.oracles.specs.CursorRule.{optim-rule}
 use Rattle.oracles.specs.OracleAfter.{is-refusal, optim-left, optim-kept, optim-again, optim-gradient-length}
+use Rattle.oracles.specs.Numbered.{update-number}
 use Rattle.oracles.specs.Ell.{ell-update-answer}
 use Rattle.oracles.specs.EllCalls.{ell-long, ell-same, ell-again, ell-answers}
 use Rattle.oracles.specs.declared.ell_common.CutStrategy.{CutStrategy}
@@ -30,7 +31,8 @@ use Rattle.oracles.specs.declared.lowpass_oracle.LowpassOracle.{LowpassOracle}
 use Rattle.oracles.specs.declared.lowpass_oracle.Verdict.the-variants.{Feasible as IsFeasible, Refused as NotAssessed}
 use Rattle.oracles.specs.declared.lowpass_oracle.OptimVerdict.{OptimVerdict}
 use Rattle.oracles.specs.declared.lowpass_oracle.OptimVerdict.the-variants.{Improved, Cut as CutOptim, Refused as NotOptim}
-use Rattle.drivers.specs.CuttingPlane.{OptimSpace, check-space, kept, plain, optim-updated, optim-cut, optim-step, optim-ended, optim-number}
+use Rattle.drivers.specs.CuttingPlane.{OptimSpace, check-space, kept, plain, optim-updated, optim-cut, optim-step, optim-ended}
+use Rattle.drivers.specs.Numbered.{optim-number}
 use Rattle.drivers.specs.StepRight.{Fitting, right-fits, fits-right, oracle-accepts, ell-accepts}
 use Rattle.drivers.specs.Untouched.{is-improved, untouched}
 use Rattle.drivers.specs.declared.cutting_plane.Checked.the-variants.{Right}
@@ -44,11 +46,6 @@ offer-asked rows table s = asked (s .oracle) (s .gamma) (s .ell .ndim) rows tabl
 abbrev pub is-halted : Update → Bool
 is-halted (Status status) = false
 is-halted (NotUpdated why) = true
-
--- the number of its refusal, 0 without one
-abbrev pub update-number : Update → ℕ
-update-number (Status status) = 0
-update-number (NotUpdated why) = refusalNumber why
 
 -- a step that is refused: by 6, on a centre that is feasible for the offered number while no stop value compares, and nothing has changed
 pub record Halts (rows : ℕ) (table : List Float) (s s′ : OptimSpace) (why : Refusal) : Type 0 where

@@ -17,7 +17,12 @@ ghost use mathlib.Core.Path.{_≡_};
 ghost use mathlib.Core.Bool.{false};
 ghost use lib.ListN.{length};
 ghost use Rattle.oracles.specs.Ell.{updated};
-ghost use Rattle.drivers.specs.CuttingPlane.{default-options, checkOf, said-of, goes-on, proceeds, feas-ended, is-found, kept, feas-step, feas-run, feas-answer, optim-step, optim-goes-on, optim-ended, optim-left, optim-run, optim-answer};
+ghost use mathlib.Core.List.{List};
+ghost use lib.Ieee.{Float};
+ghost use Rattle.numbers.specs.declared.refusal.Refusal.{Refusal};
+ghost use Rattle.drivers.specs.declared.cutting_plane.FeasAnswer.the-variants.{Refused as NotRun};
+ghost use Rattle.drivers.specs.declared.cutting_plane.OptimAnswer.the-variants.{Refused as NotRunOptim};
+ghost use Rattle.drivers.specs.CuttingPlane.{Space, default-options, checkOf, said-of, goes-on, proceeds, feas-ended, is-found, kept, feas-step, feas-run, feas-answer, optim-step, optim-goes-on, optim-ended, optim-left, optim-run, optim-answer};
 
 // How many steps a run may take, and the tsq below which it ends.
 pub struct Options {
@@ -281,7 +286,7 @@ fn is_found(answer: FeasAnswer) -> bool
     }
 }
 
-// Cuts the ellipsoid until its centre is feasible; the point is then copied to the front of x_best. grad and grad_t are scratch.
+// Cuts the ellipsoid until its centre is feasible; the point is then copied to the front of x_best. grad and grad_t are scratch. A refused call gives everything back as it came.
 pub fn cutting_plane_feas(
     oracle: LowpassOracle,
     ell: Ell,
@@ -295,6 +300,7 @@ pub fn cutting_plane_feas(
     x_best: &mut [f64],
 ) -> FeasRun
     ensures { λ r. ⌜ (r .answer, record { oracle = r .oracle; ell = r .ell; buffers = record { mq = now (mq .exit); xc = now (xc .exit); grad-t = now («grad_t» .exit) }; grad = now (grad .exit) }, now («x_best» .exit)) ≡ feas-answer options rows (now (table .entry)) (record { oracle = oracle; ell = ell; buffers = record { mq = now (mq .entry); xc = now (xc .entry); grad-t = now («grad_t» .entry) }; grad = now (grad .entry) }) (now («x_best» .entry)) ⌝ }
+    ensures { λ r. ⌜ ((why : Refusal) → r .answer ≡ NotRun why → _≡_ {A = Space × List Float} (record { oracle = r .oracle; ell = r .ell; buffers = record { mq = now (mq .exit); xc = now (xc .exit); grad-t = now («grad_t» .exit) }; grad = now (grad .exit) }, now («x_best» .exit)) (record { oracle = oracle; ell = ell; buffers = record { mq = now (mq .entry); xc = now (xc .entry); grad-t = now («grad_t» .entry) }; grad = now (grad .entry) }, now («x_best» .entry))) ⌝ }
 {
     let n = ell.ndim;
     let checked = check(
@@ -477,7 +483,7 @@ fn run_optim(
     }
 }
 
-// Cuts the ellipsoid at each feasible centre by its largest stop value, which becomes the next offer; the last such centre is at the front of x_best. grad and grad_t are scratch.
+// Cuts the ellipsoid at each feasible centre by its largest stop value, which becomes the next offer; the last such centre is at the front of x_best. grad and grad_t are scratch. A refused call gives everything back as it came.
 pub fn cutting_plane_optim(
     oracle: LowpassOracle,
     ell: Ell,
@@ -492,6 +498,7 @@ pub fn cutting_plane_optim(
     x_best: &mut [f64],
 ) -> OptimRun
     ensures { λ r. ⌜ optim-left (r .answer) (r .oracle) (r .ell) (r .gamma) (record { mq = now (mq .exit); xc = now (xc .exit); grad-t = now («grad_t» .exit) }) (now (grad .exit)) (now («x_best» .exit)) ≡ optim-answer options rows (now (table .entry)) (record { oracle = oracle; ell = ell; buffers = record { mq = now (mq .entry); xc = now (xc .entry); grad-t = now («grad_t» .entry) }; grad = now (grad .entry); gamma = gamma; found = false; best = now («x_best» .entry) }) ⌝ }
+    ensures { λ r. ⌜ ((why : Refusal) → r .answer ≡ NotRunOptim why → optim-left (r .answer) (r .oracle) (r .ell) (r .gamma) (record { mq = now (mq .exit); xc = now (xc .exit); grad-t = now («grad_t» .exit) }) (now (grad .exit)) (now («x_best» .exit)) ≡ optim-left (r .answer) oracle ell gamma (record { mq = now (mq .entry); xc = now (xc .entry); grad-t = now («grad_t» .entry) }) (now (grad .entry)) (now («x_best» .entry))) ⌝ }
 {
     let n = ell.ndim;
     let checked = check(

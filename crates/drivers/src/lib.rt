@@ -3,6 +3,7 @@ pub mod answer;
 pub mod belongs;
 pub mod cutting_plane;
 pub mod job;
+pub mod numbered;
 pub mod record;
 pub mod text;
 pub mod trace;

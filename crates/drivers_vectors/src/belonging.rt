@@ -30,11 +30,12 @@ fn job_of(inputs: &[u8]) -> Job {
 }
 
 fn put_belonging(got: &mut Bytes, belonging: Belonging) -> usize {
-    match belonging {
-        Belonging::Yes => push_words(got, 0, &[0, 1]),
-        Belonging::No => push_words(got, 0, &[0, 0]),
-        Belonging::Refused(why) => push_words(got, 0, &[why.number() as u64, 0]),
-    }
+    let yes = match belonging {
+        Belonging::Yes => 1,
+        Belonging::No => 0,
+        Belonging::Refused(_) => 0,
+    };
+    push_words(got, 0, &[belonging.number() as u64, yes])
 }
 
 // The gradient is at the front of `a`.

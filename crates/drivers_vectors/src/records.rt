@@ -28,18 +28,13 @@ use lists::signed::word_of;
 use lists::tally::Replayed;
 use lists::words::word;
 use numbers::bits::to_bits;
-use numbers::refusal::Refusal;
-
-fn push_refused(got: &mut Bytes, why: Refusal, place: usize) -> usize {
-    push_words(got, 0, &[why.number() as u64, place as u64])
-}
 
 // What a job has beside its slices, with all that its oracle starts with.
-fn push_job(got: &mut Bytes, job: Job) -> usize {
+fn push_job(got: &mut Bytes, number: u64, job: Job) -> usize {
     let oracle = job.oracle;
     let options = job.options;
     let words = [
-        0,
+        number,
         0,
         job.n as u64,
         job.rows as u64,
@@ -79,9 +74,11 @@ fn put_job(
     c: &mut [f64],
     lm: usize,
 ) -> usize {
-    match read_job(bytes, front(a, lt), front(b, lx), front(c, lm)) {
-        JobAnswer::Read(job) => push_job(got, job),
-        JobAnswer::Refused(why, place) => push_refused(got, why, place),
+    let answer = read_job(bytes, front(a, lt), front(b, lx), front(c, lm));
+    let number = answer.number() as u64;
+    match answer {
+        JobAnswer::Read(job) => push_job(got, number, job),
+        JobAnswer::Refused(_, place) => push_words(got, 0, &[number, place as u64]),
     }
 }
 
@@ -114,12 +111,14 @@ pub(crate) fn replay_read_job(
 }
 
 fn put_answer(got: &mut Bytes, n: usize, bytes: &[u8], a: &mut [f64], lp: usize) -> usize {
-    match read_answer(n, bytes, front(a, lp)) {
+    let read = read_answer(n, bytes, front(a, lp));
+    let number = read.number() as u64;
+    match read {
         AnswerRead::Read(answer) => {
-            let words = [0, 0, answer.found as u64, answer.steps as u64];
+            let words = [number, 0, answer.found as u64, answer.steps as u64];
             push_words(got, 0, &words)
         }
-        AnswerRead::Refused(why, place) => push_refused(got, why, place),
+        AnswerRead::Refused(_, place) => push_words(got, 0, &[number, place as u64]),
     }
 }
 
@@ -147,10 +146,11 @@ fn write(n: usize, answer: Answer, point: &[f64], got: &mut [u8], len: usize) ->
 }
 
 fn put_written(got: &mut Bytes, written: AnswerWritten) -> usize {
-    match written {
-        AnswerWritten::Bytes(count) => push_words(got, 0, &[0, count as u64]),
-        AnswerWritten::Refused(why) => push_words(got, 0, &[why.number() as u64, 0]),
-    }
+    let count = match written {
+        AnswerWritten::Bytes(count) => count as u64,
+        AnswerWritten::Refused(_) => 0,
+    };
+    push_words(got, 0, &[written.number() as u64, count])
 }
 
 pub(crate) fn replay_write_answer(

@@ -23,7 +23,6 @@ use lists::rooms::part;
 use lists::tally::Replayed;
 use lists::words::float;
 use lists::words::word;
-use numbers::refusal::Refusal;
 use oracles::ell::Ell;
 use oracles::ell::NewEll;
 use oracles::lowpass_oracle::LowpassOracle;
@@ -47,9 +46,9 @@ struct Said {
     answer: Answer,
 }
 
-fn said_no(why: Refusal) -> Said {
+fn said_no(number: u8) -> Said {
     Said {
-        number: why.number(),
+        number: number,
         has_answer: false,
         answer: Answer {
             found: false,
@@ -68,16 +67,16 @@ fn said_so(number: u8, answer: Answer) -> Said {
 
 fn said_feas(answer: FeasAnswer) -> Said {
     match answer {
-        FeasAnswer::Ended(ended) => said_so(0, ended),
-        FeasAnswer::Refused(why) => said_no(why),
+        FeasAnswer::Ended(ended) => said_so(answer.number(), ended),
+        FeasAnswer::Refused(_) => said_no(answer.number()),
     }
 }
 
 fn said_optim(answer: OptimAnswer) -> Said {
     match answer {
-        OptimAnswer::Ended(ended) => said_so(0, ended),
-        OptimAnswer::Halted(halted) => said_so(6, halted),
-        OptimAnswer::Refused(why) => said_no(why),
+        OptimAnswer::Ended(ended) => said_so(answer.number(), ended),
+        OptimAnswer::Halted(halted) => said_so(answer.number(), halted),
+        OptimAnswer::Refused(_) => said_no(answer.number()),
     }
 }
 
@@ -198,7 +197,13 @@ fn call(
         NewEll::Refused(why) => {
             let state = p.state;
             let oracle = oracle_of(inputs, state);
-            came_of(said_no(why), float(inputs, p.gamma), oracle, 0.0, 0.0)
+            came_of(
+                said_no(why.number()),
+                float(inputs, p.gamma),
+                oracle,
+                0.0,
+                0.0,
+            )
         }
     }
 }

@@ -8,6 +8,7 @@ pub mod Sqrt
 pub mod Cut
 pub mod EllCalcCore
 pub mod EllCalc
+pub mod Numbered
 -- Theorems about them, and the laws that these rest on.
 pub mod ArrLaws
 pub mod BitsLaws

@@ -3,5 +3,6 @@ pub mod arr;
 pub mod bits;
 pub mod cut;
 pub mod ell_calc;
+pub mod numbered;
 pub mod refusal;
 pub mod sqrt;

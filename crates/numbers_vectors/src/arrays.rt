@@ -26,50 +26,36 @@ fn told_words(told: bool, length: usize) -> usize {
 }
 
 fn put_number(x: Number, told: bool, got: &mut [u8]) -> Replayed {
-    match x {
-        Number::Value(v) => {
-            if told {
-                put(got, 0, 0);
-                put(got, 1, to_bits(v));
-                return Replayed::Words(2);
-            }
-            put(got, 0, to_bits(v));
-            Replayed::Words(1)
-        }
-        Number::Refused(r) => {
-            let number = r.number();
-            if told {
-                put(got, 0, number as u64);
-                put(got, 1, 0);
-                return Replayed::Words(2);
-            }
-            Replayed::Refused(number)
-        }
+    let number = x.number();
+    let value = match x {
+        Number::Value(v) => to_bits(v),
+        Number::Refused(_) => 0,
+    };
+    if told {
+        put(got, 0, number as u64);
+        put(got, 1, value);
+        return Replayed::Words(2);
     }
+    if number > 0 {
+        return Replayed::Refused(number);
+    }
+    put(got, 0, value);
+    Replayed::Words(1)
 }
 
 // `out` as the call left it.
 fn put_written(w: Written, told: bool, out: &[f64], got: &mut [u8]) -> Replayed {
-    match w {
-        Written::Done => {
-            if told {
-                put(got, 0, 0);
-                put_floats(got, 1, out);
-                return Replayed::Words(wrapping_add_usize(1, out.len()));
-            }
-            put_floats(got, 0, out);
-            Replayed::Words(out.len())
-        }
-        Written::Refused(r) => {
-            let number = r.number();
-            if told {
-                put(got, 0, number as u64);
-                put_floats(got, 1, out);
-                return Replayed::Words(wrapping_add_usize(1, out.len()));
-            }
-            Replayed::Refused(number)
-        }
+    let number = w.number();
+    if told {
+        put(got, 0, number as u64);
+        put_floats(got, 1, out);
+        return Replayed::Words(wrapping_add_usize(1, out.len()));
     }
+    if number > 0 {
+        return Replayed::Refused(number);
+    }
+    put_floats(got, 0, out);
+    Replayed::Words(out.len())
 }
 
 // The calls. The slices stand one after the other from word `from` on; an `out` that is not told is overwritten, whatever it was.

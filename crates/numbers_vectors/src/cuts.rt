@@ -153,18 +153,16 @@ pub(crate) fn replay_new(ins: usize, inputs: &[u8], got: &mut [u8]) -> Replayed 
     if ins != 1 {
         return Replayed::Unfit;
     }
-    match EllCalc::new(word(inputs, 0) as usize) {
+    let new = EllCalc::new(word(inputs, 0) as usize);
+    put(got, 0, new.number() as u64);
+    match new {
         NewEllCalc::Made(c) => {
             let h = c.helper;
-            put(got, 0, 0);
             put_float(got, 1, c.n_f);
             put_core(got, 2, h);
             put(got, 8, c.use_parallel_cut as u64);
         }
-        NewEllCalc::Refused(r) => {
-            put(got, 0, r.number() as u64);
-            put_zeros(got);
-        }
+        NewEllCalc::Refused(_) => put_zeros(got),
     }
     Replayed::Words(9)
 }

@@ -9,6 +9,7 @@ pub mod LmiOracle
 pub mod EllCommon
 pub mod Ell
 pub mod EllStable
+pub mod Numbered
 -- Theorems about them, the laws that these rest on, and the steps of the inner functions.
 pub mod RoundRobinLaws
 pub mod FloatOrder

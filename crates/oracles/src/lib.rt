@@ -5,5 +5,6 @@ pub mod ell_stable;
 pub mod ldlt_mgr;
 pub mod lmi_oracle;
 pub mod lowpass_oracle;
+pub mod numbered;
 pub mod round_robin;
 pub mod scan;

@@ -7,7 +7,6 @@ use lists::words::put_floats;
 use numbers::bits::of_bits;
 use numbers::bits::to_bits;
 use numbers::cut::CutChoice;
-use numbers::refusal::Refusal;
 use std::num::wrapping_add_usize;
 
 // The words of any answer.
@@ -20,29 +19,17 @@ pub(crate) struct Said {
     pub(crate) len: usize,
 }
 
-pub(crate) fn accepted(words: [u64; 7], len: usize) -> Said {
+pub(crate) fn said_words(number: u8, words: [u64; 7], len: usize) -> Said {
     Said {
-        number: 0,
+        number: number,
         words: words,
         len: len,
     }
 }
 
-pub(crate) fn refused(why: Refusal) -> Said {
-    Said {
-        number: why.number(),
-        words: [0; 7],
-        len: 0,
-    }
-}
-
-// With the words that stand even then.
-pub(crate) fn refused_with(why: Refusal, word: u64, len: usize) -> Said {
-    Said {
-        number: why.number(),
-        words: [word, 0, 0, 0, 0, 0, 0],
-        len: len,
-    }
+// One word, and zeros.
+pub(crate) fn said_word(number: u8, word: u64, len: usize) -> Said {
+    said_words(number, [word, 0, 0, 0, 0, 0, 0], len)
 }
 
 // The bounds of a cut; all ones stand for an absent beta1.

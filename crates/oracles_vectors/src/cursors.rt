@@ -1,9 +1,9 @@
 // Operations 40, 110 and 111: cursors.
 use crate::answers::Bytes;
 use crate::answers::Said;
-use crate::answers::accepted;
 use crate::answers::put_answer;
-use crate::answers::refused_with;
+use crate::answers::said_word;
+use crate::answers::said_words;
 use lists::signed::all_signed;
 use lists::signed::signed_at;
 use lists::signed::word_of;
@@ -23,19 +23,22 @@ pub(crate) fn cursor_at(inputs: &[u8], k: usize) -> RoundRobin {
 
 // A refused cursor stays where it is.
 fn advance(rr: RoundRobin) -> Said {
-    match rr.advance() {
-        CursorAnswer::At(moved) => accepted([word_of(moved.current()), 0, 0, 0, 0, 0, 0], 1),
-        CursorAnswer::Refused(why) => refused_with(why, word_of(rr.cur), 1),
+    let answer = rr.advance();
+    match answer {
+        CursorAnswer::At(moved) => said_word(answer.number(), word_of(moved.current()), 1),
+        CursorAnswer::Refused(_) => said_word(answer.number(), word_of(rr.cur), 1),
     }
 }
 
 fn new_range(lo: i32, hi: i32) -> Said {
-    match RoundRobin::new_range(lo, hi) {
-        CursorAnswer::At(rr) => accepted(
+    let answer = RoundRobin::new_range(lo, hi);
+    match answer {
+        CursorAnswer::At(rr) => said_words(
+            answer.number(),
             [word_of(rr.cur), word_of(rr.lo), word_of(rr.hi), 0, 0, 0, 0],
             3,
         ),
-        CursorAnswer::Refused(why) => refused_with(why, 0, 3),
+        CursorAnswer::Refused(_) => said_words(answer.number(), [0; 7], 3),
     }
 }
 

@@ -1,15 +1,14 @@
 // Operations 60, 61 and 119 to 122: the ellipsoids.
 use crate::answers::Bytes;
 use crate::answers::Said;
-use crate::answers::accepted;
 use crate::answers::choice_of;
 use crate::answers::push_float;
 use crate::answers::push_floats;
 use crate::answers::push_room;
 use crate::answers::put_answer;
 use crate::answers::put_said;
-use crate::answers::refused;
-use crate::answers::refused_with;
+use crate::answers::said_word;
+use crate::answers::said_words;
 use lists::rooms::Room;
 use lists::rooms::fill;
 use lists::rooms::front;
@@ -148,8 +147,8 @@ fn betas_at(inputs: &[u8], k: usize) -> CutChoice {
 
 fn came_of(answer: Update, kappa: f64, tsq: f64) -> Came {
     let said = match answer {
-        Update::Status(status) => accepted([status.number() as u64, 0, 0, 0, 0, 0, 0], 1),
-        Update::Refused(why) => refused(why),
+        Update::Status(status) => said_word(answer.number(), status.number() as u64, 1),
+        Update::Refused(_) => said_word(answer.number(), 0, 0),
     };
     Came {
         said: said,
@@ -342,20 +341,22 @@ pub(crate) fn replay_update(
     replay_stable(told, p, inputs, grad, got, a, b, c)
 }
 
-fn made(kappa: f64, tsq: f64) -> Said {
-    accepted([to_bits(kappa), to_bits(tsq), 0, 0, 0, 0, 0], 2)
+fn made(number: u8, kappa: f64, tsq: f64) -> Said {
+    said_words(number, [to_bits(kappa), to_bits(tsq), 0, 0, 0, 0, 0], 2)
 }
 
 fn new_said(op: u64, n: usize, kappa: f64) -> Said {
     if op == 121 {
-        return match Ell::new_with_matrix(n, kappa) {
-            NewEll::Made(ell) => made(ell.kappa, ell.tsq),
-            NewEll::Refused(why) => refused_with(why, 0, 2),
+        let new = Ell::new_with_matrix(n, kappa);
+        return match new {
+            NewEll::Made(ell) => made(new.number(), ell.kappa, ell.tsq),
+            NewEll::Refused(_) => said_words(new.number(), [0; 7], 2),
         };
     }
-    match EllStable::new_with_matrix(n, kappa) {
-        NewEllStable::Made(ell) => made(ell.kappa, ell.tsq),
-        NewEllStable::Refused(why) => refused_with(why, 0, 2),
+    let new = EllStable::new_with_matrix(n, kappa);
+    match new {
+        NewEllStable::Made(ell) => made(new.number(), ell.kappa, ell.tsq),
+        NewEllStable::Refused(_) => said_words(new.number(), [0; 7], 2),
     }
 }
 

@@ -1,10 +1,9 @@
 // Operations 50 to 52 and 115 to 117: factor, witness and quadratic form.
 use crate::answers::Bytes;
 use crate::answers::Said;
-use crate::answers::accepted;
 use crate::answers::put_answer;
-use crate::answers::refused;
-use crate::answers::refused_with;
+use crate::answers::said_word;
+use crate::answers::said_words;
 use lists::rooms::Room;
 use lists::rooms::fill;
 use lists::rooms::front;
@@ -54,18 +53,23 @@ fn places_of(op: u64, inputs: &[u8]) -> Places {
 }
 
 fn call_factor(m: usize, mat: &[f64], storage: &mut [f64]) -> Said {
-    match factor(m, mat, storage) {
-        Factored::Definite => accepted([0; 7], 3),
-        Factored::Stopped(pos) => { accepted([1, pos.start as u64, pos.end as u64, 0, 0, 0, 0], 3) }
-        Factored::Refused(why) => refused(why),
+    let answer = factor(m, mat, storage);
+    match answer {
+        Factored::Definite => said_words(answer.number(), [0; 7], 3),
+        Factored::Stopped(pos) => said_words(
+            answer.number(),
+            [1, pos.start as u64, pos.end as u64, 0, 0, 0, 0],
+            3,
+        ),
+        Factored::Refused(_) => said_words(answer.number(), [0; 7], 0),
     }
 }
 
 // The value is 0 where a call is refused.
 fn value_of(x: Number) -> Said {
     match x {
-        Number::Value(v) => accepted([to_bits(v), 0, 0, 0, 0, 0, 0], 1),
-        Number::Refused(why) => refused_with(why, 0, 1),
+        Number::Value(v) => said_word(x.number(), to_bits(v), 1),
+        Number::Refused(_) => said_word(x.number(), 0, 1),
     }
 }
 

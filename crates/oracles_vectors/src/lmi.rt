@@ -1,12 +1,11 @@
 // Operations 53 and 118: the LMI oracle.
 use crate::answers::Bytes;
 use crate::answers::Said;
-use crate::answers::accepted;
 use crate::answers::beta0_word;
 use crate::answers::push_floats;
 use crate::answers::push_words;
 use crate::answers::put_said;
-use crate::answers::refused;
+use crate::answers::said_words;
 use lists::rooms::Room;
 use lists::rooms::fill;
 use lists::rooms::front;
@@ -85,7 +84,7 @@ fn places_of(told: bool, l: Lengths) -> Places {
 // Where the operation is not told, a cut's gradient stands before the position, and only the first two words before that.
 fn said_of(told: bool, verdict: LmiVerdict) -> Said {
     match verdict {
-        LmiVerdict::Feasible => accepted([0; 7], 3),
+        LmiVerdict::Feasible => said_words(verdict.number(), [0; 7], 3),
         LmiVerdict::Cut(pos, beta) => {
             let words = [
                 1,
@@ -96,9 +95,9 @@ fn said_of(told: bool, verdict: LmiVerdict) -> Said {
                 0,
                 0,
             ];
-            accepted(words, if told { 4 } else { 2 })
+            said_words(verdict.number(), words, if told { 4 } else { 2 })
         }
-        LmiVerdict::Refused(why) => refused(why),
+        LmiVerdict::Refused(_) => said_words(verdict.number(), [0; 7], 0),
     }
 }
 

@@ -1,15 +1,14 @@
 // Operations 42, 43, 113 and 114: the lowpass oracle.
 use crate::answers::Bytes;
 use crate::answers::Said;
-use crate::answers::accepted;
 use crate::answers::beta0_word;
 use crate::answers::beta1_word;
 use crate::answers::push;
 use crate::answers::push_floats;
 use crate::answers::push_words;
 use crate::answers::put_said;
-use crate::answers::refused;
-use crate::answers::refused_with;
+use crate::answers::said_word;
+use crate::answers::said_words;
 use crate::cursors::cursor_at;
 use lists::rooms::Room;
 use lists::rooms::fill;
@@ -204,20 +203,24 @@ fn row_word(group: Group) -> u64 {
 }
 
 // The group, its row and side, and the betas; gamma where it is told.
-fn cut(group: Group, beta: CutChoice, told: bool, gamma: u64) -> Said {
+fn cut(verdict: u8, group: Group, beta: CutChoice, told: bool, gamma: u64) -> Said {
     let b0 = beta0_word(beta);
     let b1 = beta1_word(beta);
     let len = if told { 7 } else { 6 };
     let number = group.number() as u64;
     let side = group.is_over() as u64;
-    accepted([1, number, row_word(group), side, b0, b1, gamma], len)
+    said_words(
+        verdict,
+        [1, number, row_word(group), side, b0, b1, gamma],
+        len,
+    )
 }
 
 fn said_feas(verdict: Verdict) -> Said {
     match verdict {
-        Verdict::Feasible => accepted([0; 7], 1),
-        Verdict::Cut(group, beta) => cut(group, beta, false, 0),
-        Verdict::Refused(why) => refused(why),
+        Verdict::Feasible => said_words(verdict.number(), [0; 7], 1),
+        Verdict::Cut(group, beta) => cut(verdict.number(), group, beta, false, 0),
+        Verdict::Refused(_) => said_words(verdict.number(), [0; 7], 0),
     }
 }
 
@@ -225,10 +228,10 @@ fn said_optim(verdict: OptimVerdict, told: bool, gamma: u64) -> Said {
     match verdict {
         OptimVerdict::Improved(beta) => {
             let words = [2, beta0_word(beta), beta1_word(beta), gamma, 0, 0, 0];
-            accepted(words, if told { 4 } else { 3 })
+            said_words(verdict.number(), words, if told { 4 } else { 3 })
         }
-        OptimVerdict::Cut(group, beta) => cut(group, beta, told, gamma),
-        OptimVerdict::Refused(why) => refused_with(why, gamma, 1),
+        OptimVerdict::Cut(group, beta) => cut(verdict.number(), group, beta, told, gamma),
+        OptimVerdict::Refused(_) => said_word(verdict.number(), gamma, 1),
     }
 }
 

@@ -1,9 +1,9 @@
 // Operations 41 and 112: the scan of one band.
 use crate::answers::Bytes;
 use crate::answers::Said;
-use crate::answers::accepted;
 use crate::answers::put_answer;
-use crate::answers::refused_with;
+use crate::answers::said_word;
+use crate::answers::said_words;
 use crate::cursors::cursor_at;
 use lists::rooms::part;
 use lists::rooms::plus;
@@ -32,15 +32,20 @@ fn upper_of(w: u64) -> Upper {
 }
 
 // The words of a violation or of none, then those of every scan, then the cursor.
-fn scanned(scan: Scan, cur: i32) -> Said {
+fn scanned(number: u8, scan: Scan, cur: i32) -> Said {
     let fmax = to_bits(scan.fmax);
     let kmax = word_of(scan.kmax);
     let last = word_of(scan.last);
     let after = word_of(cur);
     let viol = scan.viol;
     match viol {
-        Violation::Nothing => accepted([u64::MAX, u64::MAX, u64::MAX, fmax, kmax, last, after], 7),
-        Violation::Broken(row, value, is_over) => accepted(
+        Violation::Nothing => said_words(
+            number,
+            [u64::MAX, u64::MAX, u64::MAX, fmax, kmax, last, after],
+            7,
+        ),
+        Violation::Broken(row, value, is_over) => said_words(
+            number,
             [
                 row as u64,
                 to_bits(value),
@@ -65,8 +70,8 @@ fn scan_at(inputs: &[u8], k: usize, table: &[f64], x: &[f64]) -> Said {
     let after = end.cursor;
     let answer = end.answer;
     match answer {
-        ScanAnswer::Scanned(scan) => scanned(scan, after.cur),
-        ScanAnswer::Refused(why) => refused_with(why, word_of(after.cur), 1),
+        ScanAnswer::Scanned(scan) => scanned(answer.number(), scan, after.cur),
+        ScanAnswer::Refused(_) => said_word(answer.number(), word_of(after.cur), 1),
     }
 }
 

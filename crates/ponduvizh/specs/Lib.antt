@@ -2,3 +2,5 @@
 pub mod Told
 pub mod ToldRuns
 pub mod ToldScan
+-- Theorems about them.
+pub mod ToldRefused

@@ -8,14 +8,15 @@ use lib.Ieee.{Float}
 use Rattle.numbers.specs.Pick.{pick}
 use Rattle.numbers.specs.Refusal.{refusalNumber}
 use Rattle.numbers.specs.Cut.{statusNumber}
+use Rattle.numbers.specs.Numbered.{value-number, written-number}
 use Rattle.numbers.specs.declared.arr.Number.{Number}
 use Rattle.numbers.specs.declared.arr.Number.the-variants.{Value, Refused as NoNumber}
 use Rattle.numbers.specs.declared.arr.Written.{Written}
-use Rattle.numbers.specs.declared.arr.Written.the-variants.{Done, Refused as NotWritten}
 use Rattle.numbers.specs.declared.cut.CutChoice.{CutChoice}
 use Rattle.numbers.specs.declared.cut.CutChoice.the-variants.{Single, Parallel}
 use Rattle.oracles.specs.Ell.{EllBuffers, with-tsq, ell-update-answer}
 use Rattle.oracles.specs.EllStable.{StableBuffers, stable-update-answer, with-tsq as with-stable-tsq}
+use Rattle.oracles.specs.Numbered.{factored-number, update-number}
 use Rattle.oracles.specs.declared.ldlt_mgr.Factored.{Factored}
 use Rattle.oracles.specs.declared.ldlt_mgr.Factored.the-variants.{Definite, Stopped, Refused as NotFactored}
 use Rattle.oracles.specs.declared.ell.Ell.{Ell}
@@ -33,29 +34,16 @@ use Rattle.oracles.specs.declared.ell_common.Update.the-variants.{Status, Refus
 
 -- ---- the first layer, and the factorization
 
-abbrev pub number-code : Number → ℕ
-number-code (Value x) = 0
-number-code (NoNumber why) = refusalNumber why
-
 -- the number that is found
 abbrev pub value-or : Number → Float → Float
 value-or (Value x) old = x
 value-or (NoNumber why) old = old
 
 abbrev pub number-told : Number → Float → ℕ × Float
-number-told a old = (number-code a, value-or a old)
-
-abbrev pub written-code : Written → ℕ
-written-code Done = 0
-written-code (NotWritten why) = refusalNumber why
+number-told a old = (value-number a, value-or a old)
 
 abbrev pub written-told : Written × List Float → ℕ × List Float
-written-told a = (written-code (a .0), a .1)
-
-abbrev pub factored-code : Factored → ℕ
-factored-code Definite = 0
-factored-code (Stopped p) = 0
-factored-code (NotFactored why) = refusalNumber why
+written-told a = (written-number (a .0), a .1)
 
 -- the rows of the leading block that is not positive definite; 0 where there is none
 abbrev pub factored-end : Factored → ℕ → ℕ
@@ -64,7 +52,7 @@ factored-end (Stopped p) old = p .end
 factored-end (NotFactored why) old = old
 
 abbrev pub factored-told : Factored × List Float → ℕ → ℕ × ℕ × List Float
-factored-told a old = (factored-code (a .0), factored-end (a .0) old, a .1)
+factored-told a old = (factored-number (a .0), factored-end (a .0) old, a .1)
 
 -- ---- updates
 
@@ -75,10 +63,6 @@ strategyOf k = pick (eqb k 0) BiasCut (pick (eqb k 1) CentralCut Q)
 -- one bound or two
 abbrev pub betaOf : Bool → Float → Float → CutChoice
 betaOf parallel beta0 beta1 = pick parallel (Parallel beta0 beta1) (Single beta0)
-
-abbrev pub update-code : Update → ℕ
-update-code (Status status) = 0
-update-code (NotUpdated why) = refusalNumber why
 
 abbrev pub status-or : Update → ℕ → ℕ
 status-or (Status status) old = statusNumber status
@@ -95,7 +79,7 @@ pub record Left (Buffers : Type 0) : Type 0 where
 -- after the update of an ellipsoid that was made
 abbrev pub ell-left : EllUpdate × EllBuffers → ℕ → Left EllBuffers
 ell-left u status =
-    record { code = update-code (u .0 .answer); status = status-or (u .0 .answer) status; kappa = u .0 .ell .kappa; tsq = u .0 .ell .tsq; buffers = u .1 }
+    record { code = update-number (u .0 .answer); status = status-or (u .0 .answer) status; kappa = u .0 .ell .kappa; tsq = u .0 .ell .tsq; buffers = u .1 }
 
 unfoldable pub ell-made : Ell → CutStrategy → List Float → CutChoice → Float → ℕ → EllBuffers → Left EllBuffers
 ell-made e strategy grad beta tsq status b = ell-left (ell-update-answer (with-tsq e (e .kappa) tsq) strategy grad beta b) status
@@ -108,7 +92,7 @@ ell-told (NotMade why) strategy grad beta kappa tsq status b = record { code = r
 -- the same of `EllStable`
 abbrev pub stable-left : EllStableUpdate × StableBuffers → ℕ → Left StableBuffers
 stable-left u status =
-    record { code = update-code (u .0 .answer); status = status-or (u .0 .answer) status; kappa = u .0 .ell .kappa; tsq = u .0 .ell .tsq; buffers = u .1 }
+    record { code = update-number (u .0 .answer); status = status-or (u .0 .answer) status; kappa = u .0 .ell .kappa; tsq = u .0 .ell .tsq; buffers = u .1 }
 
 unfoldable pub stable-made : EllStable → CutStrategy → List Float → CutChoice → Float → ℕ → StableBuffers → Left StableBuffers
 stable-made e strategy grad beta tsq status b = stable-left (stable-update-answer (with-stable-tsq e (e .kappa) tsq) strategy grad beta b) status

@@ -15,7 +15,8 @@ use Rattle.oracles.specs.declared.ell.Ell.{Ell}
 use Rattle.oracles.specs.declared.ell.NewEll.{NewEll}
 use Rattle.oracles.specs.declared.ell.NewEll.the-variants.{Made, Refused as NotMade}
 use Rattle.oracles.specs.declared.lowpass_oracle.LowpassOracle.{LowpassOracle}
-use Rattle.drivers.specs.CuttingPlane.{Space, OptimLeft, feas-answer, optim-answer, optim-number}
+use Rattle.drivers.specs.CuttingPlane.{Space, OptimLeft, feas-answer, optim-answer}
+use Rattle.drivers.specs.Numbered.{feas-number, optim-number, job-number}
 use Rattle.drivers.specs.declared.answer.Answer.{Answer}
 use Rattle.drivers.specs.declared.cutting_plane.Options.{Options}
 use Rattle.drivers.specs.declared.cutting_plane.FeasAnswer.{FeasAnswer}
@@ -75,10 +76,6 @@ pub record RunNumbers : Type 0 where
 unfoldable pub numbers-after : Answer → LowpassOracle → Ell → RunNumbers
 numbers-after a o e = record { answer = answer-of a o; marks = marks-of o; values = values-of o e }
 
-abbrev pub feas-code : FeasAnswer → ℕ
-feas-code (Ended a) = 0
-feas-code (NotRun why) = refusalNumber why
-
 -- a run that is refused tells nothing, and what is lent for it stays as it was; one that is halted tells how far it came
 abbrev pub feas-said : FeasAnswer → LowpassOracle → Ell → RunNumbers → RunNumbers
 feas-said (Ended a) o e old = numbers-after a o e
@@ -97,11 +94,15 @@ pub record RunLeft : Type 0 where
   pub grad : List Float
   pub best : List Float
 
+-- with another number
+abbrev pub coded : ℕ → RunLeft → RunLeft
+coded code l = record { code = code; numbers = l .numbers; buffers = l .buffers; grad = l .grad; best = l .best }
+
 abbrev pub run-left : ℕ → RunNumbers → Space → List Float → RunLeft
 run-left code told s best = record { code = code; numbers = told; buffers = s .buffers; grad = s .grad; best = best }
 
 unfoldable pub feas-left : FeasAnswer × Space × List Float → RunNumbers → RunLeft
-feas-left r old = run-left (feas-code (r .0)) (feas-said (r .0) (r .1 .oracle) (r .1 .ell) old) (r .1) (r .2)
+feas-left r old = run-left (feas-number (r .0)) (feas-said (r .0) (r .1 .oracle) (r .1 .ell) old) (r .1) (r .2)
 
 -- with gamma
 unfoldable pub optim-left-told : OptimLeft → RunNumbers → RunLeft × Float
@@ -110,12 +111,12 @@ optim-left-told r old = (run-left (optim-number (r .answer)) (optim-said (r .ans
 -- the ellipsoid of n and kappa is made first; refusal 1 where it cannot be
 unfoldable pub feas-told : NewEll → LowpassOracle → Options → ℕ → List Float → RunLeft → RunLeft
 feas-told (Made e) o options rows table l = feas-left (feas-answer options rows table (record { oracle = o; ell = e; buffers = l .buffers; grad = l .grad }) (l .best)) (l .numbers)
-feas-told (NotMade why) o options rows table l = record { code = refusalNumber why; numbers = l .numbers; buffers = l .buffers; grad = l .grad; best = l .best }
+feas-told (NotMade why) o options rows table l = coded (refusalNumber why) l
 
 unfoldable pub optim-told : NewEll → LowpassOracle → Options → ℕ → List Float → Float → RunLeft → RunLeft × Float
 optim-told (Made e) o options rows table gamma l =
     optim-left-told (optim-answer options rows table (record { oracle = o; ell = e; buffers = l .buffers; grad = l .grad; gamma = gamma; found = false; best = l .best })) (l .numbers)
-optim-told (NotMade why) o options rows table gamma l = (record { code = refusalNumber why; numbers = l .numbers; buffers = l .buffers; grad = l .grad; best = l .best }, gamma)
+optim-told (NotMade why) o options rows table gamma l = (coded (refusalNumber why) l, gamma)
 
 -- ---- a job that was read: n, the rows and the step limit; nwpass and nwstop; the marks; lp_sq, up_sq, sp_sq, kappa and the tolerance
 pub record JobLeft : Type 0 where
@@ -139,10 +140,17 @@ job-left j =
       numbers = numbers-of (j .oracle) (j .kappa) (j .options .tolerance);
     }
 
--- the number, the place of a refusal, and what was read
+-- the place of a refusal, and what was read
+abbrev pub place-or : JobAnswer → ℕ → ℕ
+place-or (Read j) old = old
+place-or (NotRead why at) old = at
+
+abbrev pub job-said : JobAnswer → JobLeft → JobLeft
+job-said (Read j) old = job-left j
+job-said (NotRead why at) old = old
+
 abbrev pub job-told : JobAnswer → ℕ → JobLeft → ℕ × ℕ × JobLeft
-job-told (Read j) place l = (0, place, job-left j)
-job-told (NotRead why at) place l = (refusalNumber why, at, l)
+job-told a place l = (job-number a, place-or a place, job-said a l)
 
 unfoldable pub read-told : JobAnswer × List Float × List Float × List Float → ℕ → JobLeft → (ℕ × ℕ × JobLeft) × List Float × List Float × List Float
 read-told r place l = (job-told (r .0) place l, r .1, r .2, r .3)

@@ -6,7 +6,7 @@ use lib.IntN.{ℤ}
 use lib.Ieee.{Float}
 use Rattle.numbers.specs.F64.{0ᶠ}
 use Rattle.numbers.specs.Pick.{pick}
-use Rattle.numbers.specs.Refusal.{refusalNumber}
+use Rattle.oracles.specs.Numbered.{scan-number}
 use Rattle.oracles.specs.declared.round_robin.RoundRobin.{RoundRobin}
 use Rattle.oracles.specs.declared.scan.Upper.{Upper}
 use Rattle.oracles.specs.declared.scan.Upper.the-variants.{Absent, At}
@@ -41,9 +41,12 @@ pub record ScanLeft : Type 0 where
 unfoldable pub scan-left : Scan → ScanLeft
 scan-left s = record { found = sideOf (s .viol) ∷ rowOf (s .viol) ∷ []; values = valueOf (s .viol) ∷ s .fmax ∷ []; kmax = s .kmax }
 
+abbrev pub scan-said : ScanAnswer → ScanLeft → ScanLeft
+scan-said (Scanned s) old = scan-left s
+scan-said (Refused why) old = old
+
 abbrev pub scan-told : ScanAnswer → ScanLeft → ℕ × ScanLeft
-scan-told (Scanned s) l = (0, scan-left s)
-scan-told (Refused why) l = (refusalNumber why, l)
+scan-told a l = (scan-number a, scan-said a l)
 
 -- and where the cursor stands
 unfoldable pub scan-ended : ScanAnswer × RoundRobin → ScanLeft → (ℕ × ScanLeft) × ℤ

@@ -11,7 +11,7 @@ use oracles::ell_stable::NewEllStable;
 ghost use mathlib.Core.Path.{_≡_};
 ghost use Rattle.oracles.specs.Ell.{new-ell-answer};
 ghost use Rattle.oracles.specs.EllStable.{new-ell-stable-answer};
-ghost use Rattle.ponduvizh.specs.Told.{strategyOf, betaOf, update-code, status-or, ell-made, ell-told, stable-made, stable-told};
+ghost use Rattle.ponduvizh.specs.Told.{strategyOf, betaOf, status-or, ell-made, ell-told, stable-made, stable-told};
 
 fn strategy_of(k: u64) -> CutStrategy
     ensures { λ r. ⌜ r ≡ strategyOf k ⌝ }
@@ -32,15 +32,6 @@ fn beta_of(parallel: bool, beta0: f64, beta1: f64) -> CutChoice
         return CutChoice::Parallel(beta0, beta1);
     }
     CutChoice::Single(beta0)
-}
-
-fn update_code(answer: Update) -> u64
-    ensures { λ r. ⌜ r ≡ update-code answer ⌝ }
-{
-    match answer {
-        Update::Status(_) => 0,
-        Update::Refused(why) => code(why),
-    }
 }
 
 fn status_or(answer: Update, old: u64) -> u64
@@ -84,7 +75,7 @@ fn ell_made(
     *kappa = after.kappa;
     *tsq = after.tsq;
     *status = status_or(answer, *status);
-    update_code(answer)
+    answer.number() as u64
 }
 
 #[no_mangle]
@@ -161,7 +152,7 @@ fn ell_stable_made(
     *kappa = after.kappa;
     *tsq = after.tsq;
     *status = status_or(answer, *status);
-    update_code(answer)
+    answer.number() as u64
 }
 
 #[no_mangle]

@@ -1,13 +1,13 @@
 // The reading of a job. `sizes` becomes n, the rows and the step limit, `bands` nwpass and nwstop, `marks` the cursors of pass, middle and stop, idx1 to idx3 and kmax, `numbers` lp_sq, up_sq, sp_sq, kappa and the tolerance; or `place` where the record is refused.
-use crate::numeric::code;
 use crate::runs::put_marks;
 use drivers::job::Job;
 use drivers::job::JobAnswer;
 use drivers::job::read_job;
 use oracles::lowpass_oracle::LowpassOracle;
 ghost use mathlib.Core.Path.{_≡_};
+ghost use Prim.Native.Nat.{ℕ};
 ghost use Rattle.drivers.specs.Job.{read-job-answer};
-ghost use Rattle.ponduvizh.specs.ToldRuns.{bands-of, numbers-of, job-left, job-told, read-told};
+ghost use Rattle.ponduvizh.specs.ToldRuns.{JobLeft, bands-of, numbers-of, job-left, place-or, job-said, read-told};
 
 fn put_bands(oracle: LowpassOracle, bands: &mut [i32; 2])
     ensures { λ _. ⌜ now (bands .exit) ≡ bands-of oracle ⌝ }
@@ -46,17 +46,15 @@ fn put_answer(
     bands: &mut [i32; 2],
     marks: &mut [i32; 7],
     numbers: &mut [f64; 5],
-) -> u64
-    ensures { λ r. ⌜ (r, now (place .exit), record { sizes = now (sizes .exit); bands = now (bands .exit); marks = now (marks .exit); numbers = now (numbers .exit) }) ≡ job-told answer (now (place .entry)) (record { sizes = now (sizes .entry); bands = now (bands .entry); marks = now (marks .entry); numbers = now (numbers .entry) }) ⌝ }
+)
+    ensures { λ _. ⌜ _≡_ {A = ℕ × JobLeft} (now (place .exit), record { sizes = now (sizes .exit); bands = now (bands .exit); marks = now (marks .exit); numbers = now (numbers .exit) }) (place-or answer (now (place .entry)), job-said answer (record { sizes = now (sizes .entry); bands = now (bands .entry); marks = now (marks .entry); numbers = now (numbers .entry) })) ⌝ }
 {
     match answer {
-        JobAnswer::Refused(why, at) => {
+        JobAnswer::Refused(_, at) => {
             *place = at;
-            code(why)
         }
         JobAnswer::Read(job) => {
             put_job(job, sizes, bands, marks, numbers);
-            0
         }
     }
 }
@@ -76,5 +74,6 @@ pub extern "C" fn ponduvizh_read_job(
     ensures { λ r. ⌜ ((r, now (place .exit), record { sizes = now (sizes .exit); bands = now (bands .exit); marks = now (marks .exit); numbers = now (numbers .exit) }), now (table .exit), now (xc .exit), now (mq .exit)) ≡ read-told (read-job-answer (now (bytes .entry)) (now (table .entry)) (now (xc .entry)) (now (mq .entry))) (now (place .entry)) (record { sizes = now (sizes .entry); bands = now (bands .entry); marks = now (marks .entry); numbers = now (numbers .entry) }) ⌝ }
 {
     let answer = read_job(bytes, table, xc, mq);
-    put_answer(answer, sizes, place, bands, marks, numbers)
+    put_answer(answer, sizes, place, bands, marks, numbers);
+    answer.number() as u64
 }

@@ -1,6 +1,5 @@
 // The calls of the first layer, and the factorization of the second.
 use numbers::arr::Number;
-use numbers::arr::Written;
 use numbers::arr::dot;
 use numbers::arr::dot_mv_into;
 use numbers::refusal::Refusal;
@@ -12,21 +11,12 @@ ghost use Rattle.numbers.specs.Arr.{dot-answer, dot-mv-into-answer};
 ghost use Rattle.numbers.specs.Refusal.{refusalNumber};
 ghost use Rattle.numbers.specs.Sqrt.{sqrtOf};
 ghost use Rattle.oracles.specs.LdltMgr.{factor-answer};
-ghost use Rattle.ponduvizh.specs.Told.{number-code, value-or, number-told, written-code, written-told, factored-code, factored-end, factored-told};
+ghost use Rattle.ponduvizh.specs.Told.{value-or, number-told, written-told, factored-end, factored-told};
 
 pub(crate) fn code(why: Refusal) -> u64
     ensures { λ r. ⌜ r ≡ refusalNumber why ⌝ }
 {
     why.number() as u64
-}
-
-fn number_code(answer: Number) -> u64
-    ensures { λ r. ⌜ r ≡ number-code answer ⌝ }
-{
-    match answer {
-        Number::Value(_) => 0,
-        Number::Refused(why) => code(why),
-    }
 }
 
 fn value_or(answer: Number, old: f64) -> f64
@@ -35,25 +25,6 @@ fn value_or(answer: Number, old: f64) -> f64
     match answer {
         Number::Value(value) => value,
         Number::Refused(_) => old,
-    }
-}
-
-fn written_code(answer: Written) -> u64
-    ensures { λ r. ⌜ r ≡ written-code answer ⌝ }
-{
-    match answer {
-        Written::Done => 0,
-        Written::Refused(why) => code(why),
-    }
-}
-
-fn factored_code(answer: Factored) -> u64
-    ensures { λ r. ⌜ r ≡ factored-code answer ⌝ }
-{
-    match answer {
-        Factored::Definite => 0,
-        Factored::Stopped(_) => 0,
-        Factored::Refused(why) => code(why),
     }
 }
 
@@ -81,14 +52,14 @@ pub extern "C" fn ponduvizh_dot(n: usize, a: &[f64], b: &[f64], out: &mut f64) -
 {
     let answer = dot(n, a, b);
     *out = value_or(answer, *out);
-    number_code(answer)
+    answer.number() as u64
 }
 
 #[no_mangle]
 pub extern "C" fn ponduvizh_dot_mv_into(n: usize, mat: &[f64], x: &[f64], out: &mut [f64]) -> u64
     ensures { λ r. ⌜ (r, now (out .exit)) ≡ written-told (dot-mv-into-answer n (now (mat .entry)) (now (x .entry)) (now (out .entry))) ⌝ }
 {
-    written_code(dot_mv_into(n, mat, x, out))
+    dot_mv_into(n, mat, x, out).number() as u64
 }
 
 // `end` becomes 0 for a positive definite matrix, else the number of rows of the leading block that is not.
@@ -103,5 +74,5 @@ pub extern "C" fn ponduvizh_factor(
 {
     let answer = factor(m, mat, storage);
     *end = factored_end(answer, *end);
-    factored_code(answer)
+    answer.number() as u64
 }

@@ -12,11 +12,12 @@ use oracles::lowpass_oracle::LowpassOracle;
 use oracles::round_robin::CursorAnswer;
 use oracles::round_robin::RoundRobin;
 ghost use mathlib.Core.Path.{_≡_};
-ghost use Prim.Native.Nat.{ℕ};
+ghost use lib.Dec.{eqb};
+ghost use lib.Ieee.{Float};
 ghost use Rattle.oracles.specs.Ell.{new-ell-answer};
-ghost use Rattle.drivers.specs.CuttingPlane.{feas-answer, optim-answer, optim-number};
+ghost use Rattle.drivers.specs.CuttingPlane.{feas-answer, optim-answer};
 ghost use mathlib.Core.Bool.{false};
-ghost use Rattle.ponduvizh.specs.ToldRuns.{RunNumbers, fresh-cur, oracle-of, marks-of, values-of, flagOf, answer-of, numbers-after, feas-code, feas-said, optim-said, feas-left, feas-told, optim-left-told, optim-told};
+ghost use Rattle.ponduvizh.specs.ToldRuns.{RunLeft, fresh-cur, oracle-of, marks-of, values-of, flagOf, answer-of, numbers-after, feas-said, optim-said, feas-left, feas-told, optim-left-told, optim-told};
 
 // Where a fresh cursor stands. A run over what is no band is refused, whatever stands here.
 fn fresh_cur(fresh: CursorAnswer) -> i32
@@ -136,14 +137,13 @@ fn put_feas(
     answer: &mut [u64; 3],
     marks: &mut [i32; 7],
     values: &mut [f64; 4],
-) -> u64
-    ensures { λ r. ⌜ _≡_ {A = ℕ × RunNumbers} (r, record { answer = now (answer .exit); marks = now (marks .exit); values = now (values .exit) }) (feas-code said, feas-said said oracle ell (record { answer = now (answer .entry); marks = now (marks .entry); values = now (values .entry) })) ⌝ }
+)
+    ensures { λ _. ⌜ record { answer = now (answer .exit); marks = now (marks .exit); values = now (values .exit) } ≡ feas-said said oracle ell (record { answer = now (answer .entry); marks = now (marks .entry); values = now (values .entry) }) ⌝ }
 {
     match said {
-        FeasAnswer::Refused(why) => code(why),
+        FeasAnswer::Refused(_) => {}
         FeasAnswer::Ended(ended) => {
             put_state(ended, oracle, ell, answer, marks, values);
-            0
         }
     }
 }
@@ -155,18 +155,16 @@ fn put_optim(
     answer: &mut [u64; 3],
     marks: &mut [i32; 7],
     values: &mut [f64; 4],
-) -> u64
-    ensures { λ r. ⌜ _≡_ {A = ℕ × RunNumbers} (r, record { answer = now (answer .exit); marks = now (marks .exit); values = now (values .exit) }) (optim-number said, optim-said said oracle ell (record { answer = now (answer .entry); marks = now (marks .entry); values = now (values .entry) })) ⌝ }
+)
+    ensures { λ _. ⌜ record { answer = now (answer .exit); marks = now (marks .exit); values = now (values .exit) } ≡ optim-said said oracle ell (record { answer = now (answer .entry); marks = now (marks .entry); values = now (values .entry) }) ⌝ }
 {
     match said {
-        OptimAnswer::Refused(why) => code(why),
+        OptimAnswer::Refused(_) => {}
         OptimAnswer::Halted(ended) => {
             put_state(ended, oracle, ell, answer, marks, values);
-            6
         }
         OptimAnswer::Ended(ended) => {
             put_state(ended, oracle, ell, answer, marks, values);
-            0
         }
     }
 }
@@ -204,7 +202,8 @@ fn feas_made(
     let after = run.oracle;
     let space = run.ell;
     let said = run.answer;
-    put_feas(said, after, space, answer, marks, values)
+    put_feas(said, after, space, answer, marks, values);
+    said.number() as u64
 }
 
 fn optim_made(
@@ -242,7 +241,8 @@ fn optim_made(
     let space = run.ell;
     let said = run.answer;
     *gamma = run.gamma;
-    put_optim(said, after, space, answer, marks, values)
+    put_optim(said, after, space, answer, marks, values);
+    said.number() as u64
 }
 
 // The run over the ellipsoid, if it was made.
@@ -310,6 +310,7 @@ pub extern "C" fn ponduvizh_cutting_plane_feas(
     x_best: &mut [f64],
 ) -> u64
     ensures { λ r. ⌜ record { code = r; numbers = record { answer = now (answer .exit); marks = now (marks .exit); values = now (values .exit) }; buffers = record { mq = now (mq .exit); xc = now (xc .exit); grad-t = now («grad_t» .exit) }; grad = now (grad .exit); best = now («x_best» .exit) } ≡ feas-told (new-ell-answer n kappa) (oracle-of nwpass nwstop mdim cur1 cur2 cur3 «lp_sq» «up_sq» «sp_sq») (record { «max_iters» = «max_iters»; tolerance = tolerance }) rows (now (table .entry)) (record { code = 0; numbers = record { answer = now (answer .entry); marks = now (marks .entry); values = now (values .entry) }; buffers = record { mq = now (mq .entry); xc = now (xc .entry); grad-t = now («grad_t» .entry) }; grad = now (grad .entry); best = now («x_best» .entry) }) ⌝ }
+    ensures { λ r. ⌜ (eqb r 0 ≡ false → _≡_ {A = RunLeft} (record { code = r; numbers = record { answer = now (answer .exit); marks = now (marks .exit); values = now (values .exit) }; buffers = record { mq = now (mq .exit); xc = now (xc .exit); grad-t = now («grad_t» .exit) }; grad = now (grad .exit); best = now («x_best» .exit) }) (record { code = r; numbers = record { answer = now (answer .entry); marks = now (marks .entry); values = now (values .entry) }; buffers = record { mq = now (mq .entry); xc = now (xc .entry); grad-t = now («grad_t» .entry) }; grad = now (grad .entry); best = now («x_best» .entry) })) ⌝ }
 {
     let new = Ell::new_with_matrix(n, kappa);
     let oracle = oracle_of(nwpass, nwstop, mdim, cur1, cur2, cur3, lp_sq, up_sq, sp_sq);
@@ -399,6 +400,7 @@ pub extern "C" fn ponduvizh_cutting_plane_optim(
     x_best: &mut [f64],
 ) -> u64
     ensures { λ r. ⌜ (record { code = r; numbers = record { answer = now (answer .exit); marks = now (marks .exit); values = now (values .exit) }; buffers = record { mq = now (mq .exit); xc = now (xc .exit); grad-t = now («grad_t» .exit) }; grad = now (grad .exit); best = now («x_best» .exit) }, now (gamma .exit)) ≡ optim-told (new-ell-answer n kappa) (oracle-of nwpass nwstop mdim cur1 cur2 cur3 «lp_sq» «up_sq» «sp_sq») (record { «max_iters» = «max_iters»; tolerance = tolerance }) rows (now (table .entry)) (now (gamma .entry)) (record { code = 0; numbers = record { answer = now (answer .entry); marks = now (marks .entry); values = now (values .entry) }; buffers = record { mq = now (mq .entry); xc = now (xc .entry); grad-t = now («grad_t» .entry) }; grad = now (grad .entry); best = now («x_best» .entry) }) ⌝ }
+    ensures { λ r. ⌜ (eqb r 0 ≡ false → eqb r 6 ≡ false → _≡_ {A = RunLeft × Float} (record { code = r; numbers = record { answer = now (answer .exit); marks = now (marks .exit); values = now (values .exit) }; buffers = record { mq = now (mq .exit); xc = now (xc .exit); grad-t = now («grad_t» .exit) }; grad = now (grad .exit); best = now («x_best» .exit) }, now (gamma .exit)) (record { code = r; numbers = record { answer = now (answer .entry); marks = now (marks .entry); values = now (values .entry) }; buffers = record { mq = now (mq .entry); xc = now (xc .entry); grad-t = now («grad_t» .entry) }; grad = now (grad .entry); best = now («x_best» .entry) }, now (gamma .entry))) ⌝ }
 {
     let new = Ell::new_with_matrix(n, kappa);
     let oracle = oracle_of(nwpass, nwstop, mdim, cur1, cur2, cur3, lp_sq, up_sq, sp_sq);

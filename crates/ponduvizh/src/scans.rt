@@ -1,6 +1,5 @@
 // The scan of a band. `found` becomes 0 and 0 where nothing is broken, else 1 for a value below its limit or 2 for one above, and the row; `values` the broken row's value, or 0, and the largest value before it;
 // kmax the row of that; cur where the scan ended.
-use crate::numeric::code;
 use oracles::round_robin::RoundRobin;
 use oracles::scan::Scan;
 use oracles::scan::ScanAnswer;
@@ -9,7 +8,7 @@ use oracles::scan::Violation;
 use oracles::scan::scan_lent;
 ghost use mathlib.Core.Path.{_≡_};
 ghost use Rattle.oracles.specs.Scan.{scan-band-answer};
-ghost use Rattle.ponduvizh.specs.ToldScan.{upperOf, sideOf, rowOf, valueOf, scan-left, scan-told, scan-ended};
+ghost use Rattle.ponduvizh.specs.ToldScan.{upperOf, sideOf, rowOf, valueOf, scan-left, scan-said, scan-ended};
 
 fn upper_of(bounded: bool, upper: f64) -> Upper
     ensures { λ r. ⌜ r ≡ upperOf bounded upper ⌝ }
@@ -63,19 +62,13 @@ fn put_scan(scan: Scan, found: &mut [usize; 2], values: &mut [f64; 2], kmax: &mu
 }
 
 // What an answer says, in numbers.
-fn put_answer(
-    answer: ScanAnswer,
-    found: &mut [usize; 2],
-    values: &mut [f64; 2],
-    kmax: &mut i32,
-) -> u64
-    ensures { λ r. ⌜ (r, record { found = now (found .exit); values = now (values .exit); kmax = now (kmax .exit) }) ≡ scan-told answer (record { found = now (found .entry); values = now (values .entry); kmax = now (kmax .entry) }) ⌝ }
+fn put_answer(answer: ScanAnswer, found: &mut [usize; 2], values: &mut [f64; 2], kmax: &mut i32)
+    ensures { λ _. ⌜ record { found = now (found .exit); values = now (values .exit); kmax = now (kmax .exit) } ≡ scan-said answer (record { found = now (found .entry); values = now (values .entry); kmax = now (kmax .entry) }) ⌝ }
 {
     match answer {
-        ScanAnswer::Refused(why) => code(why),
+        ScanAnswer::Refused(_) => {}
         ScanAnswer::Scanned(scan) => {
             put_scan(scan, found, values, kmax);
-            0
         }
     }
 }
@@ -111,7 +104,8 @@ fn scan_from(
     let answer = end.answer;
     let last = cursor.cur;
     *cur = last;
-    put_answer(answer, found, values, kmax)
+    put_answer(answer, found, values, kmax);
+    answer.number() as u64
 }
 
 #[no_mangle]

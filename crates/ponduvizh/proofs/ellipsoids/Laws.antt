@@ -8,6 +8,7 @@ use Rattle.numbers.specs.declared.refusal.Refusal.{Refusal}
 use Rattle.numbers.specs.declared.cut.CutChoice.{CutChoice}
 use Rattle.oracles.specs.Ell.{EllBuffers, with-tsq, ell-update-answer}
 use Rattle.oracles.specs.EllStable.{StableBuffers, stable-update-answer, with-tsq as with-stable-tsq}
+use Rattle.oracles.specs.Numbered.{update-number}
 use Rattle.oracles.specs.declared.ell.Ell.{Ell}
 use Rattle.oracles.specs.declared.ell.EllUpdate.{EllUpdate}
 use Rattle.oracles.specs.declared.ell.NewEll.{NewEll}
@@ -17,13 +18,13 @@ use Rattle.oracles.specs.declared.ell_stable.EllStableUpdate.{EllStableUpdate}
 use Rattle.oracles.specs.declared.ell_stable.NewEllStable.{NewEllStable}
 use Rattle.oracles.specs.declared.ell_stable.NewEllStable.the-variants.{Made as MadeStable, Refused as RefusedStable}
 use Rattle.oracles.specs.declared.ell_common.CutStrategy.{CutStrategy}
-use Rattle.ponduvizh.specs.Told.{Left, update-code, status-or, ell-made, ell-told, stable-made, stable-told}
+use Rattle.ponduvizh.specs.Told.{Left, status-or, ell-made, ell-told, stable-made, stable-told}
 
 pub ell-updated : (e : Ell) (s s′ : CutStrategy) (grad : List Float) (beta beta′ : CutChoice) (tsq : Float) (status : ℕ) (b b′ : EllBuffers) (u : EllUpdate) (r v : ℕ)
     → s ≡ s′
     → beta ≡ beta′
     → (u, b′) ≡ ell-update-answer (with-tsq e (e .kappa) tsq) s grad beta b
-    → r ≡ update-code (u .answer)
+    → r ≡ update-number (u .answer)
     → v ≡ status-or (u .answer) status
     → _≡_ {A = Left EllBuffers} (record { code = r; status = v; kappa = u .ell .kappa; tsq = u .ell .tsq; buffers = b′ }) (ell-made e s′ grad beta′ tsq status b)
 unfolding ell-made
@@ -49,7 +50,7 @@ pub stable-updated : (e : EllStable) (s s′ : CutStrategy) (grad : List Float) 
     → s ≡ s′
     → beta ≡ beta′
     → (u, b′) ≡ stable-update-answer (with-stable-tsq e (e .kappa) tsq) s grad beta b
-    → r ≡ update-code (u .answer)
+    → r ≡ update-number (u .answer)
     → v ≡ status-or (u .answer) status
     → _≡_ {A = Left StableBuffers} (record { code = r; status = v; kappa = u .ell .kappa; tsq = u .ell .tsq; buffers = b′ }) (stable-made e s′ grad beta′ tsq status b)
 unfolding stable-made

@@ -1,29 +1,29 @@
 -- A job told by its parts is the job told. Assumes nothing.
-use mathlib.Core.Path.{_≡_, refl}
+use mathlib.Core.Path.{_≡_, refl, ap}
 use mathlib.Core.List.{List, [], _∷_}
 use Prim.Native.Nat.{ℕ}
 use lib.IntN.{ℤ}
 use lib.Ieee.{Float}
-use Rattle.numbers.specs.Refusal.{refusalNumber}
 use Rattle.numbers.specs.declared.refusal.Refusal.{Refusal}
+use Rattle.drivers.specs.Numbered.{job-number}
 use Rattle.drivers.specs.declared.job.Job.{Job}
 use Rattle.drivers.specs.declared.job.JobAnswer.{JobAnswer}
 use Rattle.drivers.specs.declared.job.JobAnswer.the-variants.{Read, Refused}
-use Rattle.ponduvizh.specs.ToldRuns.{JobLeft, bands-of, marks-of, numbers-of, job-left, job-told, read-told}
+use Rattle.ponduvizh.specs.ToldRuns.{JobLeft, bands-of, marks-of, numbers-of, job-left, place-or, job-said, read-told}
 
-pub was-read : (a : JobAnswer) (j : Job) (place : ℕ) (l l′ : JobLeft) → a ≡ Read j → l′ ≡ job-left j → _≡_ {A = ℕ × ℕ × JobLeft} (0, place, l′) (job-told a place l)
+pub was-read : (a : JobAnswer) (j : Job) (place : ℕ) (l l′ : JobLeft) → a ≡ Read j → l′ ≡ job-left j → _≡_ {A = ℕ × JobLeft} (place, l′) (place-or a place, job-said a l)
 was-read a j place l l′ m h = rw (m, h) refl
 
-pub was-refused : (a : JobAnswer) (why : Refusal) (at place code : ℕ) (l : JobLeft) → a ≡ Refused why at → code ≡ refusalNumber why
-    → _≡_ {A = ℕ × ℕ × JobLeft} (code, at, l) (job-told a place l)
-was-refused a why at place code l m h = rw (m, h) refl
+pub was-refused : (a : JobAnswer) (why : Refusal) (at place : ℕ) (l : JobLeft) → a ≡ Refused why at → _≡_ {A = ℕ × JobLeft} (at, l) (place-or a place, job-said a l)
+was-refused a why at place l m = rw m refl
 
-pub read-law : (a : JobAnswer) (table xc mq : List Float) (r : JobAnswer × List Float × List Float × List Float) (place : ℕ) (l : JobLeft) (t : ℕ × ℕ × JobLeft)
+pub read-law : (a : JobAnswer) (table xc mq : List Float) (r : JobAnswer × List Float × List Float × List Float) (code place at : ℕ) (l l′ : JobLeft)
     → (a, table, xc, mq) ≡ r
-    → t ≡ job-told a place l
-    → _≡_ {A = (ℕ × ℕ × JobLeft) × List Float × List Float × List Float} (t, table, xc, mq) (read-told r place l)
+    → code ≡ job-number a
+    → _≡_ {A = ℕ × JobLeft} (at, l′) (place-or a place, job-said a l)
+    → _≡_ {A = (ℕ × ℕ × JobLeft) × List Float × List Float × List Float} ((code, at, l′), table, xc, mq) (read-told r place l)
 unfolding read-told
-read-law a table xc mq r place l t d h = rw (h, ← d) refl
+read-law a table xc mq r code place at l l′ d h t = rw (h, ← d, ap (λ p. p .0) t, ap (λ p. p .1) t) refl
 
 pub put-law : (j : Job) (bands marks : List ℤ) (numbers : List Float)
     → bands ≡ bands-of (j .oracle)

@@ -1,7 +1,8 @@
 -- A run told by its parts is the run told. Assumes nothing.
-use mathlib.Core.Path.{_≡_, refl, ap}
+use mathlib.Core.Path.{_≡_, refl, sym, ap, _∙_}
 use mathlib.Core.List.{List}
 use Prim.Native.Nat.{ℕ}
+use lib.Dec.{eqb}
 use lib.IntN.{ℤ, pos}
 use lib.Ieee.{Float}
 use mathlib.Core.Bool.{true, false}
@@ -17,14 +18,16 @@ use Rattle.oracles.specs.declared.ell.Ell.{Ell}
 use Rattle.oracles.specs.declared.ell.NewEll.{NewEll}
 use Rattle.oracles.specs.declared.ell.NewEll.the-variants.{Made, Refused as NotMade}
 use Rattle.oracles.specs.declared.lowpass_oracle.LowpassOracle.{LowpassOracle}
-use Rattle.drivers.specs.CuttingPlane.{Space, OptimLeft, feas-answer, optim-answer, optim-number, optim-left}
+use Rattle.drivers.specs.CuttingPlane.{Space, OptimLeft, feas-answer, optim-answer, optim-left}
+use Rattle.drivers.specs.Numbered.{feas-number, optim-number}
 use Rattle.drivers.specs.declared.cutting_plane.Options.{Options}
 use Rattle.drivers.specs.declared.answer.Answer.{Answer}
 use Rattle.drivers.specs.declared.cutting_plane.FeasAnswer.{FeasAnswer}
 use Rattle.drivers.specs.declared.cutting_plane.FeasAnswer.the-variants.{Ended, Refused}
 use Rattle.drivers.specs.declared.cutting_plane.OptimAnswer.{OptimAnswer}
 use Rattle.drivers.specs.declared.cutting_plane.OptimAnswer.the-variants.{Ended as EndedOptim, Halted, Refused as RefusedOptim}
-use Rattle.ponduvizh.specs.ToldRuns.{RunNumbers, RunLeft, fresh-cur, oracle-of, answer-of, marks-of, values-of, numbers-after, feas-code, feas-said, optim-said, feas-left, optim-left-told, feas-told, optim-told}
+use Rattle.ponduvizh.specs.ToldRuns.{RunNumbers, RunLeft, coded, fresh-cur, oracle-of, answer-of, marks-of, values-of, numbers-after, feas-said, optim-said, feas-left, optim-left-told, feas-told, optim-told}
+use Rattle.ponduvizh.specs.ToldRefused.{feas-told-refused, optim-told-refused}
 
 pub state-law : (a : Answer) (o : LowpassOracle) (e : Ell) (answer : List ℕ) (marks : List ℤ) (values : List Float)
     → answer ≡ answer-of a o
@@ -36,39 +39,36 @@ state-law a o e answer marks values h₁ h₂ h₃ = rw (h₁, h₂, h₃) refl
 
 pub feas-law : (a : FeasAnswer) (o : LowpassOracle) (e : Ell) (b : EllBuffers) (grad best : List Float) (code : ℕ) (now old : RunNumbers) (r : FeasAnswer × Space × List Float)
     → (a, record { oracle = o; ell = e; buffers = b; grad = grad }, best) ≡ r
-    → _≡_ {A = ℕ × RunNumbers} (code, now) (feas-code a, feas-said a o e old)
+    → code ≡ feas-number a
+    → now ≡ feas-said a o e old
     → _≡_ {A = RunLeft} (record { code = code; numbers = now; buffers = b; grad = grad; best = best }) (feas-left r old)
 unfolding feas-left
-feas-law a o e b grad best code now old r d h = rw (← d, ap (λ p. p .0) h, ap (λ p. p .1) h) refl
+feas-law a o e b grad best code now old r d h t = rw (← d, h, t) refl
 
 pub optim-law : (a : OptimAnswer) (o : LowpassOracle) (e : Ell) (gamma : Float) (b : EllBuffers) (grad best : List Float) (code : ℕ) (now old : RunNumbers) (r : OptimLeft)
     → optim-left a o e gamma b grad best ≡ r
-    → _≡_ {A = ℕ × RunNumbers} (code, now) (optim-number a, optim-said a o e old)
+    → code ≡ optim-number a
+    → now ≡ optim-said a o e old
     → _≡_ {A = RunLeft × Float} (record { code = code; numbers = now; buffers = b; grad = grad; best = best }, gamma) (optim-left-told r old)
 unfolding optim-left-told
-optim-law a o e gamma b grad best code now old r d h = rw (← d, ap (λ p. p .0) h, ap (λ p. p .1) h) refl
+optim-law a o e gamma b grad best code now old r d h t = rw (← d, h, t) refl
 
 -- what a run told is told, and a refusal leaves it as it was
 module _ (o : LowpassOracle) (e : Ell) (old : RunNumbers) where
-  pub feas-ended : (a : FeasAnswer) (d : Answer) (now : RunNumbers) → a ≡ Ended d → now ≡ numbers-after d o e
-      → _≡_ {A = ℕ × RunNumbers} (0, now) (feas-code a, feas-said a o e old)
+  pub feas-ended : (a : FeasAnswer) (d : Answer) (now : RunNumbers) → a ≡ Ended d → now ≡ numbers-after d o e → now ≡ feas-said a o e old
   feas-ended a d now m h = rw (m, h) refl
 
-  pub feas-refused : (a : FeasAnswer) (why : Refusal) (code : ℕ) → a ≡ Refused why → code ≡ refusalNumber why
-      → _≡_ {A = ℕ × RunNumbers} (code, old) (feas-code a, feas-said a o e old)
-  feas-refused a why code m h = rw (m, h) refl
+  pub feas-refused : (a : FeasAnswer) (why : Refusal) → a ≡ Refused why → old ≡ feas-said a o e old
+  feas-refused a why m = rw m refl
 
-  pub optim-ended : (a : OptimAnswer) (d : Answer) (now : RunNumbers) → a ≡ EndedOptim d → now ≡ numbers-after d o e
-      → _≡_ {A = ℕ × RunNumbers} (0, now) (optim-number a, optim-said a o e old)
+  pub optim-ended : (a : OptimAnswer) (d : Answer) (now : RunNumbers) → a ≡ EndedOptim d → now ≡ numbers-after d o e → now ≡ optim-said a o e old
   optim-ended a d now m h = rw (m, h) refl
 
-  pub optim-halted : (a : OptimAnswer) (d : Answer) (now : RunNumbers) → a ≡ Halted d → now ≡ numbers-after d o e
-      → _≡_ {A = ℕ × RunNumbers} (6, now) (optim-number a, optim-said a o e old)
+  pub optim-halted : (a : OptimAnswer) (d : Answer) (now : RunNumbers) → a ≡ Halted d → now ≡ numbers-after d o e → now ≡ optim-said a o e old
   optim-halted a d now m h = rw (m, h) refl
 
-  pub optim-refused : (a : OptimAnswer) (why : Refusal) (code : ℕ) → a ≡ RefusedOptim why → code ≡ refusalNumber why
-      → _≡_ {A = ℕ × RunNumbers} (code, old) (optim-number a, optim-said a o e old)
-  optim-refused a why code m h = rw (m, h) refl
+  pub optim-refused : (a : OptimAnswer) (why : Refusal) → a ≡ RefusedOptim why → old ≡ optim-said a o e old
+  optim-refused a why m = rw m refl
 
 pub at-fresh : (a : CursorAnswer) (rr : RoundRobin) (z : ℤ) → a ≡ Fresh rr → z ≡ rr .cur → z ≡ fresh-cur a
 at-fresh a rr z e h = rw e h
@@ -133,3 +133,20 @@ module _ (x : NewEll) (o : LowpassOracle) (p : Options) (rows k : ℕ) (table : 
       → (was code, gamma) ≡ optim-told x o p rows table gamma (was k)
   unfolding optim-told
   optim-not-made gamma why code m h = rw (m, h) refl
+
+-- both promises: what is told, and that a refusal leaves all as it was
+pub feas-promised : (x : NewEll) (o : LowpassOracle) (p : Options) (rows : ℕ) (table : List Float) (l r : RunLeft) → r ≡ feas-told x o p rows table l
+    → (r ≡ feas-told x o p rows table l) × (eqb (r .code) 0 ≡ false → r ≡ coded (r .code) l)
+feas-promised x o p rows table l r d =
+    (d, λ h. d ∙ feas-told-refused x o p rows table l (sym (ap (λ (z : RunLeft). eqb (z .code) 0) d) ∙ h) ∙ ap (λ (z : RunLeft). coded (z .code) l) (sym d))
+
+pub optim-promised : (x : NewEll) (o : LowpassOracle) (p : Options) (rows : ℕ) (table : List Float) (gamma : Float) (l : RunLeft) (r : RunLeft × Float)
+    → r ≡ optim-told x o p rows table gamma l
+    → (r ≡ optim-told x o p rows table gamma l) × (eqb (r .0 .code) 0 ≡ false → eqb (r .0 .code) 6 ≡ false → r ≡ (coded (r .0 .code) l, gamma))
+optim-promised x o p rows table gamma l r d = (
+  d,
+  λ h h′.
+      d
+      ∙ optim-told-refused x o p rows table gamma l (sym (ap (λ (z : RunLeft × Float). eqb (z .0 .code) 0) d) ∙ h) (sym (ap (λ (z : RunLeft × Float). eqb (z .0 .code) 6) d) ∙ h′)
+      ∙ ap (λ (z : RunLeft × Float). (coded (z .0 .code) l, gamma)) (sym d),
+)

@@ -6,15 +6,15 @@ use Prim.Native.Nat.{ℕ}
 use lib.IntN.{ℤ}
 use lib.Ieee.{Float}
 use Rattle.numbers.specs.Pick.{hit, skip}
-use Rattle.numbers.specs.Refusal.{refusalNumber}
 use Rattle.numbers.specs.declared.refusal.Refusal.{Refusal}
+use Rattle.oracles.specs.Numbered.{scan-number}
 use Rattle.oracles.specs.declared.round_robin.RoundRobin.{RoundRobin}
 use Rattle.oracles.specs.declared.scan.Violation.{Violation}
 use Rattle.oracles.specs.declared.scan.Violation.the-variants.{Broken}
 use Rattle.oracles.specs.declared.scan.Scan.{Scan}
 use Rattle.oracles.specs.declared.scan.ScanAnswer.{ScanAnswer}
 use Rattle.oracles.specs.declared.scan.ScanAnswer.the-variants.{Scanned, Refused}
-use Rattle.ponduvizh.specs.ToldScan.{ScanLeft, sideOf, rowOf, valueOf, scan-left, scan-told, scan-ended}
+use Rattle.ponduvizh.specs.ToldScan.{ScanLeft, sideOf, rowOf, valueOf, scan-left, scan-said, scan-ended}
 
 pub is-above : (v : Violation) (row : ℕ) (value : Float) (over : Bool) → v ≡ Broken row value over → over ≡ true → _≡_ {A = ℕ} 2 (sideOf v)
 is-above v row value over e h = rw e (hit _ _ _ _ h refl)
@@ -27,16 +27,16 @@ pub scan-law : (s : Scan) (side row : ℕ) (value : Float) (kmax : ℤ) → side
 unfolding scan-left
 scan-law s side row value kmax a b d e = rw (a, b, d, e) refl
 
-pub was-scanned : (a : ScanAnswer) (s : Scan) (l l′ : ScanLeft) → a ≡ Scanned s → l′ ≡ scan-left s → _≡_ {A = ℕ × ScanLeft} (0, l′) (scan-told a l)
+pub was-scanned : (a : ScanAnswer) (s : Scan) (l l′ : ScanLeft) → a ≡ Scanned s → l′ ≡ scan-left s → l′ ≡ scan-said a l
 was-scanned a s l l′ m h = rw (m, h) refl
 
-pub was-refused : (a : ScanAnswer) (why : Refusal) (code : ℕ) (l : ScanLeft) → a ≡ Refused why → code ≡ refusalNumber why → _≡_ {A = ℕ × ScanLeft} (code, l) (scan-told a l)
-was-refused a why code l m h = rw (m, h) refl
+pub was-refused : (a : ScanAnswer) (why : Refusal) (l : ScanLeft) → a ≡ Refused why → l ≡ scan-said a l
+was-refused a why l m = rw m refl
 
-pub ended-law : (a : ScanAnswer) (rr : RoundRobin) (r : ScanAnswer × RoundRobin) (t : ℕ × ScanLeft) (cur : ℤ) (l : ScanLeft) → (a, rr) ≡ r → t ≡ scan-told a l → cur ≡ rr .cur
-    → _≡_ {A = (ℕ × ScanLeft) × ℤ} (t, cur) (scan-ended r l)
+pub ended-law : (a : ScanAnswer) (rr : RoundRobin) (r : ScanAnswer × RoundRobin) (code : ℕ) (cur : ℤ) (l l′ : ScanLeft) → (a, rr) ≡ r → code ≡ scan-number a → l′ ≡ scan-said a l → cur ≡ rr .cur
+    → _≡_ {A = (ℕ × ScanLeft) × ℤ} ((code, l′), cur) (scan-ended r l)
 unfolding scan-ended
-ended-law a rr r t cur l d h e = rw (h, e, ← d) refl
+ended-law a rr r code cur l l′ d h t e = rw (h, t, e, ← d) refl
 
 -- a cursor between bounds that were handed on
 pub cursor-handed : (s : RoundRobin) (cur a b a′ b′ : ℤ) → s ≡ record { cur = cur; lo = a; hi = b } → a ≡ a′ → b ≡ b′ → s ≡ record { cur = cur; lo = a′; hi = b′ }

@@ -16,8 +16,11 @@ update-core-requires c κs = tt
 status-or-requires : tie.Need-status-or-requires
 status-or-requires c κs = tt
 
-update-code-requires : tie.Need-update-code-requires
-update-code-requires c κs = tt
+number-requires : tie.Need-number-requires
+number-requires c κs = tt
+
+cast-result : tie.Need-cast-result
+cast-result c = search needs
 
 same-length : tie.Need-same-length
 same-length c = c .before .before .before .before .before .before .before .before .before .before .before .before .before .before .before .before .update-core .kept .1 .1 .1 .1 .0
@@ -48,7 +51,8 @@ ell-stable-made-spec =
     beta-of-requires
     update-core-requires
     status-or-requires
-    update-code-requires
+    number-requires
+    cast-result
     same-length
     same-length-2
     same-length-3

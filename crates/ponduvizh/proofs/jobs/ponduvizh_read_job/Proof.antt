@@ -10,14 +10,20 @@ read-job-requires c κs = tt
 put-answer-requires : tie.Need-put-answer-requires
 put-answer-requires c κs = tt
 
+number-requires : tie.Need-number-requires
+number-requires c κs = tt
+
+cast-result : tie.Need-cast-result
+cast-result c = search needs
+
 same-length : tie.Need-same-length
-same-length c = c .before .before .before .before .before .before .before .before .before .before .before .before .read-job .kept .1 .0
+same-length c = c .before .before .before .before .before .before .before .before .before .before .before .before .before .read-job .kept .1 .0
 
 same-length-2 : tie.Need-same-length-2
-same-length-2 c = c .before .before .before .before .before .before .before .before .before .before .before .before .read-job .kept .1 .1 .0
+same-length-2 c = c .before .before .before .before .before .before .before .before .before .before .before .before .before .read-job .kept .1 .1 .0
 
 same-length-3 : tie.Need-same-length-3
-same-length-3 c = c .before .before .before .before .before .before .before .before .before .before .before .before .read-job .kept .1 .1 .1 .0
+same-length-3 c = c .before .before .before .before .before .before .before .before .before .before .before .before .before .read-job .kept .1 .1 .1 .0
 
 returns : tie.Need-returns
 returns c = search (needs, read-law)
@@ -28,6 +34,8 @@ ponduvizh-read-job-spec =
     (tie.spec
     read-job-requires
     put-answer-requires
+    number-requires
+    cast-result
     same-length
     same-length-2
     same-length-3

@@ -7,9 +7,6 @@ use Rattle.ponduvizh.proofs.jobs.put_answer.Tie as tie
 enum-known-answer : tie.Need-enum-known-answer
 enum-known-answer c = search needs
 
-code-requires : tie.Need-code-requires
-code-requires c κs = tt
-
 enum-known-answer-2 : tie.Need-enum-known-answer-2
 enum-known-answer-2 c = search needs
 
@@ -27,7 +24,6 @@ put-answer-spec =
     tie.close
     (tie.spec
     enum-known-answer
-    code-requires
     enum-known-answer-2
     put-job-requires
     returns

@@ -4,14 +4,11 @@ use borrow.Author.Needs.{needs}
 use Rattle.ponduvizh.proofs.runs.put_feas.Statement.{statement}
 use Rattle.ponduvizh.proofs.runs.put_feas.Tie as tie
 
+enum-told : tie.Need-enum-told
+enum-told c = search needs
+
 enum-known-said : tie.Need-enum-known-said
 enum-known-said c = search needs
-
-code-requires : tie.Need-code-requires
-code-requires c κs = tt
-
-enum-known-said-2 : tie.Need-enum-known-said-2
-enum-known-said-2 c = search needs
 
 put-state-requires : tie.Need-put-state-requires
 put-state-requires c κs = tt
@@ -26,9 +23,8 @@ pub put-feas-spec : {M : Type 1} → statement M
 put-feas-spec =
     tie.close
     (tie.spec
+    enum-told
     enum-known-said
-    code-requires
-    enum-known-said-2
     put-state-requires
     returns
     returns-2)

@@ -4,20 +4,17 @@ use borrow.Author.Needs.{needs}
 use Rattle.ponduvizh.proofs.runs.put_optim.Statement.{statement}
 use Rattle.ponduvizh.proofs.runs.put_optim.Tie as tie
 
+enum-told : tie.Need-enum-told
+enum-told c = search needs
+
 enum-known-said : tie.Need-enum-known-said
 enum-known-said c = search needs
-
-code-requires : tie.Need-code-requires
-code-requires c κs = tt
-
-enum-known-said-2 : tie.Need-enum-known-said-2
-enum-known-said-2 c = search needs
 
 put-state-requires : tie.Need-put-state-requires
 put-state-requires c κs = tt
 
-enum-known-said-3 : tie.Need-enum-known-said-3
-enum-known-said-3 c = search needs
+enum-known-said-2 : tie.Need-enum-known-said-2
+enum-known-said-2 c = search needs
 
 put-state-requires-2 : tie.Need-put-state-requires-2
 put-state-requires-2 c κs = tt
@@ -35,11 +32,10 @@ pub put-optim-spec : {M : Type 1} → statement M
 put-optim-spec =
     tie.close
     (tie.spec
+    enum-told
     enum-known-said
-    code-requires
-    enum-known-said-2
     put-state-requires
-    enum-known-said-3
+    enum-known-said-2
     put-state-requires-2
     returns
     returns-2

@@ -4,14 +4,11 @@ use borrow.Author.Needs.{needs}
 use Rattle.ponduvizh.proofs.scans.put_answer.Statement.{statement}
 use Rattle.ponduvizh.proofs.scans.put_answer.Tie as tie
 
+enum-told : tie.Need-enum-told
+enum-told c = search needs
+
 enum-known-answer : tie.Need-enum-known-answer
 enum-known-answer c = search needs
-
-code-requires : tie.Need-code-requires
-code-requires c κs = tt
-
-enum-known-answer-2 : tie.Need-enum-known-answer-2
-enum-known-answer-2 c = search needs
 
 put-scan-requires : tie.Need-put-scan-requires
 put-scan-requires c κs = tt
@@ -26,9 +23,8 @@ pub put-answer-spec : {M : Type 1} → statement M
 put-answer-spec =
     tie.close
     (tie.spec
+    enum-told
     enum-known-answer
-    code-requires
-    enum-known-answer-2
     put-scan-requires
     returns
     returns-2)

@@ -10,8 +10,14 @@ scan-lent-requires c κs = tt
 put-answer-requires : tie.Need-put-answer-requires
 put-answer-requires c κs = tt
 
+number-requires : tie.Need-number-requires
+number-requires c κs = tt
+
+cast-result : tie.Need-cast-result
+cast-result c = search needs
+
 returns : tie.Need-returns
 returns c = search (needs, ended-law)
 
 pub scan-from-spec : {M : Type 1} → statement M
-scan-from-spec = tie.close (tie.spec scan-lent-requires put-answer-requires returns)
+scan-from-spec = tie.close (tie.spec scan-lent-requires put-answer-requires number-requires cast-result returns)
