@@ -45,15 +45,19 @@ pub struct EllStableUpdate {
     pub answer: Update,
 }
 
-// L's row i, which stands above the diagonal in column i, to the front of `column`.
+// L's row i, which stands above the diagonal in column i, to the front of `column`: two entries to a turn.
 fn column_into(n: usize, mq: &[f64], i: usize, column: &mut [f64])
     requires { ⌜ (n ≤ 32) × (length (now mq) ≡ n * n) × (i < n) × (length (now column) ≡ n) ⌝ }
     ensures { λ _. ⌜ now (column .exit) ≡ tab (λ j. at n (now (mq .entry)) j i) i ++ drop i (now (column .entry)) ⌝ }
 {
     let mut j = 0;
-    while j < i {
+    while j + 1 < i {
         column[j] = mq[j * n + i];
-        j += 1;
+        column[j + 1] = mq[(j + 1) * n + i];
+        j += 2;
+    }
+    if j < i {
+        column[j] = mq[j * n + i];
     }
 }
 

@@ -23,7 +23,7 @@ use Rattle.numbers.specs.declared.cut.CutChoice.{CutChoice}
 use Rattle.numbers.specs.declared.cut.CutStatus.the-variants.{NoEffect}
 use Rattle.numbers.specs.declared.ell_calc.NewEllCalc.{NewEllCalc}
 use Rattle.numbers.specs.declared.ell_calc.NewEllCalc.the-variants.{Made as MadeCalc, Refused as NoCalc}
-use Rattle.numbers.specs.ArrLaws.{length-tab, FilledTo}
+use Rattle.numbers.specs.ArrLaws.{length-tab, FilledTo, filled-turn}
 use Rattle.oracles.specs.Matrix.{entry, at, total}
 use Rattle.oracles.specs.MatrixLaws.{total-turn, tab-entry, tab-ext, tab-cong, total-cong}
 use Rattle.oracles.specs.LoopLaws.{is-hit, is-skip, both-ways, pick-cong, pick-map, VectorOf, MatrixOf, swept, sweep-start, sweep-left, sweep-past, sweep-turn, swept-by, by-start, by-left, by-past, by-done, part-long, part-entry, part-turn}
@@ -97,6 +97,12 @@ row-done row ratio beta2 v h p =
     (λ q. rw (getD-set-other row 0 k (entry row 0 ⊗ ratio) nan (eqb-false k 0 q))))
 
 -- ---- every row of `forward`
+
+pub column-two : (f : ℕ → Float) (xs₀ xs : List Float) (j : ℕ) (a b : Float) → FilledTo f xs₀ xs j → j + 1 < length xs₀ → a ≡ f j → b ≡ f (j + 1)
+    → FilledTo f xs₀ (set (set xs j a) (j + 1) b) (j + 2)
+column-two f xs₀ xs j a b h l p q =
+    let e : j + 1 + 1 ≡ j + 2 = omega arith in
+    rw e at (filled-turn f xs₀ _ (j + 1) b (filled-turn f xs₀ xs j a h (omega arith) p) l q)
 
 pub column-done : (f : ℕ → Float) (xs₀ xs : List Float) (i j : ℕ) → FilledTo f xs₀ xs j → j ≡ i → xs ≡ tab f i ++ drop i xs₀
 column-done f xs₀ xs i j h e = rw e at (h .is)
