@@ -13,6 +13,7 @@ ghost use Rattle.drivers.specs.Trace.{next-answer, text-in};
 ghost use Rattle.drivers.specs.Calls.{run-all-answer, run-all-text};
 ghost use Rattle.drivers.specs.Program.{program-text};
 ghost use Rattle.drivers.specs.ProgramLaws.{RunHeld};
+ghost use Rattle.runner.specs.Run.{Ran};
 ghost use Rattle.runner.specs.Written.{then-written, written};
 
 // A step's answer, and what has been written with its text.
@@ -151,7 +152,9 @@ pub fn run_input(bytes: &[u8]) -> Written
 }
 
 // Reads standard input, and one byte more than a job may have, so that a long one is known.
-pub fn run_stdin() -> Written {
+pub fn run_stdin() -> Written
+    ensures { λ r. ⌜ Ran r ⌝ }
+{
     let mut bytes = [0u8; 65537];
     let count = io::read_full(0, &mut bytes);
     run_input(&bytes[..count])
