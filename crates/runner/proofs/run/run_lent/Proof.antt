@@ -14,8 +14,7 @@ use Rattle.drivers.specs.Calls.{run-all-text}
 use Rattle.drivers.specs.declared.trace.Run.{Run}
 use Rattle.drivers.specs.declared.trace.Opened.{Opened}
 use Rattle.drivers.specs.declared.trace.Opened.the-variants.{Going, Over}
-use Rattle.runner.specs.Written.{written}
-use Rattle.runner.specs.WrittenLaws.{from-nothing}
+use Rattle.runner.specs.Mark.{marked}
 use Rattle.runner.proofs.run.run_lent.Statement.{statement}
 use Rattle.runner.proofs.run.run_lent.Tie as tie
 
@@ -24,6 +23,11 @@ zeros-front : (n m : ℕ) → n ≤ m → take n (replicate m 0ᶠ) ≡ replicat
 zeros-front zero m h = refl
 zeros-front (suc n) zero h = absurd (omega (arith, h))
 zeros-front (suc n) (suc m) h = ap (λ (r : List Float). 0ᶠ ∷ r) (zeros-front n m (omega arith))
+
+-- the answer of `open`, once a branch knows which it is
+as-known : {p q : Opened} {table xc mq : List Float} {out : List ℕ} {r : Opened × List Float × List Float × List Float × List ℕ} → (p, table, xc, mq, out) ≡ r → p ≡ q
+    → r ≡ (q, table, xc, mq, out)
+as-known {table = table} {xc = xc} {mq = mq} {out = out} e h = sym e ∙ ap (λ (p : Opened). (p, table, xc, mq, out)) h
 
 -- the run that `open` gives, over scratch of zeros, prints the program's text
 module _ (bytes : List ℕ) (table xc mq : List Float) (out : List ℕ) (t : length table ≡ 32768) (x : length xc ≡ 32) (m : length mq ≡ 1024) (room : 128 ≤ length out) where
@@ -45,40 +49,36 @@ enum-known-opened c = search needs
 
 run-sized-requires : tie.Need-run-sized-requires
 run-sized-requires c κs =
-    let a = c .before .before .before .before .before .before .before .before .before .before .before .before .before .before .before .before .args in
-    let o = c .before .before .before .before .before .before .before .before .before .before .«open» in
-    let run = c .before .before .before .before .before .before .before .before .opened .given in
-    let h = open-held (a .bytes .now) (a .table .now) (a .xc .now) (a .mq .now) (a .out .now) (run .0 .0) (o .last .1 .0) (o .last .1 .1 .0) (o .last .1 .1 .1 .0) (o .last .1 .1 .1 .1 .0) (sym (o .ensures) ∙ ap (λ (p : Opened). (p, o .last .1 .0, o .last .1 .1 .0, o .last .1 .1 .1 .0, o .last .1 .1 .1 .1 .0)) (run .1)) in
+    let a = c .before .before .before .before .before .before .before .before .before .before .before .before .before .before .before .before .before .args in
+    let o = c .before .before .before .before .before .before .before .before .before .before .before .«open» in
+    let run = c .before .before .before .before .before .before .before .before .before .opened .given in
+    let h = open-held (a .bytes .now) (a .table .now) (a .xc .now) (a .mq .now) (a .out .now) (run .0 .0) (o .last .1 .0) (o .last .1 .1 .0) (o .last .1 .1 .1 .0) (o .last .1 .1 .1 .1 .0) (as-known (o .ensures) (run .1)) in
     (h, omega (arith, h .xc-long), omega (arith, h .xc-long))
 
 enum-known-opened-2 : tie.Need-enum-known-opened-2
 enum-known-opened-2 c = search needs
-
-nothing-requires : tie.Need-nothing-requires
-nothing-requires c κs = search needs
 
 write-text-requires : tie.Need-write-text-requires
 write-text-requires c κs = search needs
 
 returns : tie.Need-returns
 returns c =
-    let a = c .before .before .before .before .before .before .before .before .before .before .before .before .before .before .before .before .before .args in
-    let o = c .before .before .before .before .before .before .before .before .before .before .before .«open» in
-    let run = c .before .before .before .before .before .before .before .before .before .opened .given in
-    c .run-sized .ensures ∙ ap written
+    let a = c .before .before .before .before .before .before .before .before .before .before .before .before .before .before .before .before .before .before .args in
+    let o = c .before .before .before .before .before .before .before .before .before .before .before .before .«open» in
+    let run = c .before .before .before .before .before .before .before .before .before .before .opened .given in
+    c .run-sized .ensures ∙ ap (marked (a .mark .now))
     (run-prints (a .bytes .now) (a .table .now) (a .xc .now) (a .mq .now) (a .out .now) (search needs) (search needs) (search needs) (search needs)
     (run .0 .0) (o .last .1 .0) (o .last .1 .1 .0) (o .last .1 .1 .1 .0) (a .grad .now) (a .grad-t .now) (o .last .1 .1 .1 .1 .0)
-    (sym (o .ensures) ∙ ap (λ (p : Opened). (p, o .last .1 .0, o .last .1 .1 .0, o .last .1 .1 .1 .0, o .last .1 .1 .1 .1 .0)) (run .1))
-    (search needs) (c .before .before .before .before .before .before .before .before .before .before .before .before .before .before .before .before .before .pre .0) (c .before .before .before .before .before .before .before .before .before .before .before .before .before .before .before .before .before .pre .1))
+    (as-known (o .ensures) (run .1))
+    (search needs) (c .before .before .before .before .before .before .before .before .before .before .before .before .before .before .before .before .before .before .pre .0) (c .before .before .before .before .before .before .before .before .before .before .before .before .before .before .before .before .before .before .pre .1))
 
 returns-2 : tie.Need-returns-2
 returns-2 c =
     let a = c .before .before .before .before .before .before .before .before .before .before .before .before .before .args in
     let o = c .before .before .before .before .before .before .before .«open» in
     let text = c .before .before .before .before .before .opened2 .given in
-    from-nothing _ _ _ (c .before .before .before .nothing .ensures) (c .write-text .ensures)
-    ∙ ap written
-    (sym (ap (calls-text 65536) (sym (o .ensures) ∙ ap (λ (p : Opened). (p, o .last .1 .0, o .last .1 .1 .0, o .last .1 .1 .1 .0, o .last .1 .1 .1 .1 .0)) (text .1)))
+    c .write-text .ensures ∙ ap (marked (a .mark .now))
+    (sym (ap (calls-text 65536) (as-known (o .ensures) (text .1)))
     ∙ program-prints 65536 (omega arith) (a .bytes .now) (a .out .now) (search needs) (a .table .now) (a .xc .now) (a .mq .now) (search needs) (search needs) (search needs))
 
 pub run-lent-spec : {M : Type 1} → statement M
@@ -89,7 +89,6 @@ run-lent-spec =
     enum-known-opened
     run-sized-requires
     enum-known-opened-2
-    nothing-requires
     write-text-requires
     returns
     returns-2)

@@ -9,8 +9,7 @@ use lib.Seq.{length-take-le}
 use lib.Ieee.{Float}
 use Rattle.drivers.specs.Calls.{run-all-text}
 use Rattle.drivers.specs.declared.trace.Run.{Run}
-use Rattle.runner.specs.Written.{written}
-use Rattle.runner.specs.WrittenLaws.{from-nothing}
+use Rattle.runner.specs.Mark.{marked}
 use Rattle.runner.proofs.run.run_sized.Statement.{statement}
 use Rattle.runner.proofs.run.run_sized.Tie as tie
 
@@ -33,9 +32,6 @@ mul-numbers c = record { fits = rw (c .rows .ensures, c .before .n .ensures) (om
 
 mul-square : tie.Need-mul-square
 mul-square c = record { fits = rw (c .before .n .ensures) (omega (arith, c .before .before .before .before .before .before .before .before .pre .0 .mq-long)) }
-
-nothing-requires : tie.Need-nothing-requires
-nothing-requires c κs = search needs
 
 slice-aggregate-run-all : tie.Need-slice-aggregate-run-all
 slice-aggregate-run-all c = sym (length-take-le _ (c .before .before .before .before .before .before .before .before .before .before .args .table .now) (rw (c .before .before .rows .ensures, c .before .before .before .n .ensures) (c .before .before .before .before .before .before .before .before .before .before .pre .0 .table-long)))
@@ -84,9 +80,9 @@ same-length-5 c = search needs
 
 returns : tie.Need-returns
 returns c =
-    let a = c .before .before .before .before .before .before .before .before .before .before .before .before .before .before .before .before .before .before .before .before .before .before .before .before .before .before .before .args in
-    from-nothing _ _ _ (c .before .before .before .before .before .before .before .before .before .before .before .before .before .before .before .before .before .before .nothing .ensures) (c .before .before .before .before .before .before .before .before .before .before .before .run-all .ensures .1)
-    ∙ ap written (fronts-text (a .run) _ _ (a .table .now) (a .mq .now) (a .xc .now) (a .grad .now) (a .grad-t .now) (a .out .now) (c .before .before .before .before .before .before .before .before .before .before .before .before .before .before .before .before .before .before .before .before .n .ensures) (c .before .before .before .before .before .before .before .before .before .before .before .before .before .before .before .before .before .before .before .rows .ensures))
+    let a = c .before .before .before .before .before .before .before .before .before .before .before .before .before .before .before .before .before .before .before .before .before .before .before .before .before .before .args in
+    c .before .before .before .before .before .before .before .before .before .before .run-all .ensures .1
+    ∙ ap (marked (a .mark .now)) (fronts-text (a .run) _ _ (a .table .now) (a .mq .now) (a .xc .now) (a .grad .now) (a .grad-t .now) (a .out .now) (c .before .before .before .before .before .before .before .before .before .before .before .before .before .before .before .before .before .before .before .n .ensures) (c .before .before .before .before .before .before .before .before .before .before .before .before .before .before .before .before .before .before .rows .ensures))
 
 pub run-sized-spec : {M : Type 1} → statement M
 run-sized-spec =
@@ -96,7 +92,6 @@ run-sized-spec =
     rows-requires
     mul-numbers
     mul-square
-    nothing-requires
     slice-aggregate-run-all
     slice-relend-prefix-run-all
     slice-aggregate-run-all-2

@@ -1,12 +1,9 @@
 -- `runner::run::write_text` meets its contract. Assumes nothing.
-use mathlib.Core.Path.{_≡_, refl, sym, ap, _∙_}
-use mathlib.Core.List.{List}
-use Prim.Native.Nat.{ℕ}
+use mathlib.Core.Path.{sym}
 use denote.Ref.{now}
 use borrow.Author.Needs.{needs}
 use lib.Seq.{take-all, length-take-le}
-use Rattle.runner.specs.Written.{then-written}
-use Rattle.runner.specs.WrittenLaws.{then-none}
+use Rattle.runner.specs.MarkLaws.{marked-none}
 use Rattle.runner.proofs.run.write_text.Statement.{statement}
 use Rattle.runner.proofs.run.write_text.Tie as tie
 
@@ -18,11 +15,11 @@ write-requires c κs = search needs
 
 returns : tie.Need-returns
 returns c =
-    let a = c .before .before .before .before .before .before .args in
-    rw (c .before .before .before .text .given .1, take-all (c .before .before .before .text .given .0 .0) (now (a .out)) (search needs)) (c .write .ensures)
+    let text = c .before .before .before .before .text .given in
+    rw (text .1, take-all (text .0 .0) (now (c .before .before .before .before .before .before .before .args .out)) (search needs)) (c .write .ensures)
 
 slice-aggregate-write : tie.Need-slice-aggregate-write
-slice-aggregate-write c = sym (length-take-le _ (now (c .before .before .before .before .before .before .args .out)) (search needs))
+slice-aggregate-write c = sym (length-take-le _ (now (c .before .before .before .before .before .before .before .args .out)) (search needs))
 
 write-requires-2 : tie.Need-write-requires-2
 write-requires-2 c κs = search needs
@@ -31,10 +28,10 @@ enum-told : tie.Need-enum-told
 enum-told c = search needs
 
 returns-2 : tie.Need-returns-2
-returns-2 c = rw (c .before .before .before .before .text .given .1) (c .write2 .ensures)
+returns-2 c = rw (c .before .before .before .before .before .text .given .1) (c .write2 .ensures)
 
 returns-3 : tie.Need-returns-3
-returns-3 c = rw (c .enum-told .given .1) (then-none (c .before .before .before .args .before))
+returns-3 c = rw (c .enum-told .given .1) (marked-none _)
 
 pub write-text-spec : {M : Type 1} → statement M
 write-text-spec =

@@ -1,19 +1,19 @@
--- `runner::written::Written::with` meets its contract: what is left of the text still gives the whole text's number. Assumes nothing.
-use mathlib.Core.Path.{_≡_, refl, sym, ap, _∙_}
-use Prim.Native.Nat.{ℕ, _-_, _≤_}
+-- `runner::mark::mark_on` meets its contract: what is left of the text still gives the whole text's number. Assumes nothing.
+use mathlib.Core.Path.{_≡_, refl, sym, _∙_}
+use Prim.Native.Nat.{_-_, _≤_}
 use native.Mathlib.Omega.{arith}
 use borrow.Author.Needs.{needs}
 use lib.ListN.{length, drop}
-use Rattle.runner.specs.Written.{marked}
-use Rattle.runner.specs.WrittenLaws.{marked-turn, marked-done}
-use Rattle.runner.proofs.written.Written.with.Statement.{statement}
-use Rattle.runner.proofs.written.Written.with.Tie as tie
+use Rattle.runner.specs.Mark.{marked}
+use Rattle.runner.specs.MarkLaws.{marked-turn, marked-done}
+use Rattle.runner.proofs.mark.mark_on.Statement.{statement}
+use Rattle.runner.proofs.mark.mark_on.Tie as tie
 
 abbrev Inv-loop : tie.InvT-loop
-Inv-loop text mark₀ i₀ mark i = (i ≤ length text) × (marked mark (drop i text) ≡ marked mark₀ text)
+Inv-loop from text mark₀ i₀ mark i = (i ≤ length text) × (marked mark (drop i text) ≡ marked from text)
 
 abbrev μ-loop : tie.MeasureT-loop
-μ-loop text mark₀ i₀ mark i = length text - i
+μ-loop from text mark₀ i₀ mark i = length text - i
 
 loop-holds : tie.Need-loop-holds Inv-loop μ-loop
 loop-holds c = (omega arith, refl)
@@ -44,10 +44,10 @@ loop-again c =
 returns : tie.Need-returns Inv-loop μ-loop
 returns c =
     let l = c .before .loop in
-    ap (λ (m : ℕ). record { mark = m }) (sym (marked-done (l .mark) _ (l .i) (search needs)) ∙ l .inv .1)
+    sym (marked-done (l .mark) _ (l .i) (search needs)) ∙ l .inv .1
 
-pub with-spec : {M : Type 1} → statement M
-with-spec =
+pub mark-on-spec : {M : Type 1} → statement M
+mark-on-spec =
     tie.close
     (tie.spec
     Inv-loop
