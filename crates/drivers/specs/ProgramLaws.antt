@@ -22,7 +22,7 @@ use Rattle.drivers.specs.TraceLaws.{calls-print}
 use Rattle.drivers.specs.Calls.{run-all-text}
 use Rattle.drivers.specs.CallsLaws.{calls-enough}
 use Rattle.drivers.specs.JobRuns.{JobSound, JobHeld, sound-held, job-sound, rows-long, held-slices, job-run, job-right, run-made}
-use Rattle.drivers.specs.Program.{refused-text, first-space, job-text, program-text, opened-text, calls-text}
+use Rattle.drivers.specs.Program.{refused-text, first-space, job-text, program-text, opened-text, calls-text, RunHeld}
 use Rattle.drivers.specs.declared.record.Fault.{Fault}
 use Rattle.drivers.specs.declared.record.Fault.the-variants.{Sound, At}
 use Rattle.drivers.specs.declared.job.JobAnswer.{JobAnswer}
@@ -156,12 +156,7 @@ open-speaks bytes table xc mq out h why e =
     (by-test (λ (r : Opened × List Float × List Float × List Float × List ℕ). Speaks (r .0)) (ltb 65536 (length bytes)) _ _ (λ _. printed-speaks (refused-text Room 65536) out h)
     (λ _. read-speaks (read-job-answer bytes table xc mq .0) out h))
 
--- A run's numbers stand at the fronts of the slices that they were read into.
-pub record RunHeld (run : Run) (table xc mq : List Float) : Type 0 where
-  pub table-long : run .rows * run .ell .ndim ≤ length table
-  pub xc-long : run .ell .ndim ≤ length xc
-  pub mq-long : run .ell .ndim * run .ell .ndim ≤ length mq
-
+-- A run that goes has its numbers at the fronts of the slices.
 abbrev Held : Opened × List Float × List Float × List Float × List ℕ → Type 0
 Held (Going run, table, xc, mq, out) = RunHeld run table xc mq
 Held (Over text, table, xc, mq, out) = Unit {0}

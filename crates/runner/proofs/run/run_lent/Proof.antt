@@ -13,7 +13,7 @@ use Rattle.drivers.specs.Trace.{open-answer}
 use Rattle.drivers.specs.Calls.{run-all-text}
 use Rattle.drivers.specs.declared.trace.Run.{Run}
 use Rattle.drivers.specs.declared.trace.Opened.{Opened}
-use Rattle.drivers.specs.declared.trace.Opened.the-variants.{Going, Over}
+use Rattle.drivers.specs.declared.trace.Opened.the-variants.{Going}
 use Rattle.runner.specs.Mark.{marked}
 use Rattle.runner.proofs.run.run_lent.Statement.{statement}
 use Rattle.runner.proofs.run.run_lent.Tie as tie
