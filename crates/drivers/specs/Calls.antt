@@ -1,10 +1,10 @@
 -- The calls of `Run::next` that a run is made of. Definitions only.
 use Prim.Native.Nat.{ℕ, zero, suc, _-_}
-use mathlib.Core.List.{List}
+use mathlib.Core.List.{List, []}
 use lib.Ieee.{Float}
 use Rattle.numbers.specs.Pick.{pick}
 use Rattle.oracles.specs.Ell.{EllBuffers}
-use Rattle.drivers.specs.Trace.{next-answer}
+use Rattle.drivers.specs.Trace.{next-answer, text-in, printed-by}
 use Rattle.drivers.specs.declared.trace.Run.{Run}
 use Rattle.drivers.specs.declared.trace.Printed.{Printed}
 
@@ -29,3 +29,17 @@ last-of (suc left) table r = pick (r .0 .more) (last-of left table (next-of tabl
 unfoldable pub run-all-answer : Run → List Float → EllBuffers → List Float → List ℕ → Left
 unfolding calls-left last-of
 run-all-answer run table b grad out = let r = next-answer run table b grad out in last-of (calls-left (r .0)) table r
+
+-- ---- their texts
+
+-- a call's
+abbrev pub text-of : Left → List ℕ
+text-of r = text-in (r .0 .text) (r .3)
+
+-- of the calls that come after this one
+unfoldable pub texts-after : List Float → Left → List ℕ
+texts-after table r = pick (r .0 .more) (printed-by (calls-left (r .0)) (r .0 .run) table (r .1) (r .2) (r .3)) []
+
+-- of all calls of a run, from its first
+abbrev pub run-all-text : Run → List Float → EllBuffers → List Float → List ℕ → List ℕ
+run-all-text run table b grad out = printed-by (suc (run .options .«max_iters» - run .niter)) run table b grad out

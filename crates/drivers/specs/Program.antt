@@ -1,5 +1,5 @@
 -- The program `filterrun` (document 01): all that it prints, as one function of its input. Definitions only.
-use Prim.Native.Nat.{ℕ, _*_}
+use Prim.Native.Nat.{ℕ, _*_, _≤_}
 use mathlib.Core.List.{List}
 use lib.Dec.{ltb}
 use lib.ListN.{length, take, getD, replicate}
@@ -14,6 +14,7 @@ use Rattle.drivers.specs.Record.{numbersAt, halfAt, numberAt, fields-of,
 use Rattle.drivers.specs.CuttingPlane.{Space}
 use Rattle.drivers.specs.Job.{job-oracle, optionsOf, job-fault}
 use Rattle.drivers.specs.Trace.{refused-pieces, run-text, text-in, printed-by}
+use Rattle.drivers.specs.declared.trace.Run.{Run}
 use Rattle.drivers.specs.declared.trace.Opened.{Opened}
 use Rattle.drivers.specs.declared.trace.Opened.the-variants.{Going, Over}
 
@@ -57,3 +58,9 @@ opened-text calls (Going run) table xc mq out =
 
 abbrev pub calls-text : ℕ → Opened × List Float × List Float × List Float × List ℕ → List ℕ
 calls-text calls r = opened-text calls (r .0) (r .1) (r .2) (r .3) (r .4)
+
+-- a run's numbers stand at the fronts of the slices that they were read into
+pub record RunHeld (run : Run) (table xc mq : List Float) : Type 0 where
+  pub table-long : run .rows * run .ell .ndim ≤ length table
+  pub xc-long : run .ell .ndim ≤ length xc
+  pub mq-long : run .ell .ndim * run .ell .ndim ≤ length mq

@@ -1,5 +1,5 @@
 -- The calls that the program `filterrun` makes print what its definition says. Assumes nothing.
-use Prim.Native.Nat.{ℕ, _*_, _-_, _≤_, _<_}
+use Prim.Native.Nat.{ℕ, suc, _+_, _*_, _-_, _≤_, _<_}
 use mathlib.Core.Path.{_≡_, refl, sym, ap, _∙_, subst}
 use mathlib.Core.List.{List}
 use native.Mathlib.Omega.{arith}
@@ -19,8 +19,10 @@ use Rattle.drivers.specs.Job.{optionsOf, job-fault, jobOf, read-job-answ
 use Rattle.drivers.specs.Trace.{printed, new-run-answer, opened-run, opened-read, with-slices, run-text, text-in, printed-by, open-answer}
 use Rattle.drivers.specs.TextLaws.{front-over}
 use Rattle.drivers.specs.TraceLaws.{calls-print}
-use Rattle.drivers.specs.JobRuns.{JobSound, JobHeld, sound-held, rows-long, held-slices, job-run, job-right, run-made}
-use Rattle.drivers.specs.Program.{refused-text, first-space, job-text, program-text, opened-text, calls-text}
+use Rattle.drivers.specs.Calls.{run-all-text}
+use Rattle.drivers.specs.CallsLaws.{calls-enough}
+use Rattle.drivers.specs.JobRuns.{JobSound, JobHeld, sound-held, job-sound, rows-long, held-slices, job-run, job-right, run-made}
+use Rattle.drivers.specs.Program.{refused-text, first-space, job-text, program-text, opened-text, calls-text, RunHeld}
 use Rattle.drivers.specs.declared.record.Fault.{Fault}
 use Rattle.drivers.specs.declared.record.Fault.the-variants.{Sound, At}
 use Rattle.drivers.specs.declared.job.JobAnswer.{JobAnswer}
@@ -118,6 +120,17 @@ pub run-prints-program : (bytes : List ℕ) (table xc mq table′ xc′ mq′ : 
 run-prints-program bytes table xc mq table′ xc′ mq′ out out′ run t x m room e calls enough =
     sym (ap (calls-text calls) e) ∙ program-prints calls enough bytes out room table xc mq t x m
 
+-- So do all of its calls, and no more can be made.
+pub run-all-prints : (bytes : List ℕ) (table xc mq table′ xc′ mq′ : List Float) (out out′ : List ℕ) (run : Run) → length table ≡ 32768 → length xc ≡ 32
+    → length mq ≡ 1024 → 128 ≤ length out → open-answer bytes table xc mq out ≡ (Going run, table′, xc′, mq′, out′)
+    → let n = run .ell .ndim in
+    let zeros = replicate n 0ᶠ in
+    run-all-text run (take (run .rows * n) table′) (record { mq = take (n * n) mq′; xc = take n xc′; grad-t = zeros }) zeros out′ ≡ program-text bytes
+run-all-prints bytes table xc mq table′ xc′ mq′ out out′ run t x m room e =
+    let calls = 65536 + suc (run .options .«max_iters») in
+    calls-enough _ calls run _ _ _ out′ (omega arith) (omega arith)
+    ∙ run-prints-program bytes table xc mq table′ xc′ mq′ out out′ run t x m room e calls (omega arith)
+
 -- Given room, `open` always goes one of these two ways: it never ends without a line.
 abbrev Speaks : Opened → Type 0
 Speaks (Going run) = Unit {0}
@@ -142,3 +155,23 @@ open-speaks bytes table xc mq out h why e =
     subst Speaks e
     (by-test (λ (r : Opened × List Float × List Float × List Float × List ℕ). Speaks (r .0)) (ltb 65536 (length bytes)) _ _ (λ _. printed-speaks (refused-text Room 65536) out h)
     (λ _. read-speaks (read-job-answer bytes table xc mq .0) out h))
+
+-- A run that goes has its numbers at the fronts of the slices.
+abbrev Held : Opened × List Float × List Float × List Float × List ℕ → Type 0
+Held (Going run, table, xc, mq, out) = RunHeld run table xc mq
+Held (Over text, table, xc, mq, out) = Unit {0}
+
+module _ (bytes : List ℕ) (table xc mq : List Float) (out : List ℕ) where
+  read-held : (r : JobAnswer) (table′ xc′ mq′ : List Float) → read-job-answer bytes table xc mq ≡ (r, table′, xc′, mq′) → Held (with-slices table′ xc′ mq′ (opened-read out r))
+  read-held (Read j) table′ xc′ mq′ e =
+      let h = job-sound bytes table xc mq j table′ xc′ mq′ e in
+      subst (λ z. Held (with-slices table′ xc′ mq′ (opened-run out z))) (sym (run-made j (h .0)))
+      (record { table-long = h .1 .table-long; xc-long = h .1 .xc-long; mq-long = h .1 .mq-long })
+  read-held (Refused why place) table′ xc′ mq′ e = tt
+
+  pub open-held : (run : Run) (table′ xc′ mq′ : List Float) (out′ : List ℕ) → open-answer bytes table xc mq out ≡ (Going run, table′, xc′, mq′, out′) → RunHeld run table′ xc′ mq′
+  unfolding open-answer
+  open-held run table′ xc′ mq′ out′ e =
+      subst Held e
+      (by-test Held (ltb 65536 (length bytes)) _ _ (λ _. tt)
+      (λ _. let j = read-job-answer bytes table xc mq in read-held (j .0) (j .1) (j .2) (j .3) refl))

@@ -30,13 +30,13 @@ ghost use Rattle.drivers.specs.declared.trace.Text.the-variants.{Refused
 ghost use Prim.Native.Nat.{_≤_, _<_};
 ghost use mathlib.Core.Bool.{true, false};
 
-// A run of `cutting_plane_feas` between two steps: niter is the next one's number. The caller keeps the slices.
+// A run of `cutting_plane_feas` between two steps: niter is the next one's number. Only `open` makes one. The caller keeps the slices.
 pub struct Run {
-    pub oracle: LowpassOracle,
-    pub ell: Ell,
-    pub options: Options,
-    pub rows: usize,
-    pub niter: u16,
+    oracle: LowpassOracle,
+    ell: Ell,
+    options: Options,
+    rows: usize,
+    niter: u16,
 }
 
 // The count of bytes written to the front of the lent slice, or why nothing was written.
@@ -221,6 +221,20 @@ impl Run {
             }),
             NewEll::Refused(why) => NewRun::Refused(why),
         }
+    }
+
+    // Its point's dimension, and its table's rows: what the slices' lengths are made of.
+    pub fn n(self) -> usize
+        ensures { λ r. ⌜ r ≡ self .ell .ndim ⌝ }
+    {
+        let ell = self.ell;
+        ell.ndim
+    }
+
+    pub fn rows(self) -> usize
+        ensures { λ r. ⌜ r ≡ self .rows ⌝ }
+    {
+        self.rows
     }
 
     // The run as it came, and why the call is refused.

@@ -94,9 +94,8 @@ fn put_run(
     d: &mut [f64],
     e: &mut [f64],
 ) -> usize {
-    let ell = run.ell;
-    let n = ell.ndim;
-    let table = part(a, 0, times(run.rows, n));
+    let n = run.n();
+    let table = part(a, 0, times(run.rows(), n));
     let mq = front(c, times(n, n));
     put_steps(got, run, table, mq, front(b, n), front(d, n), front(e, n))
 }

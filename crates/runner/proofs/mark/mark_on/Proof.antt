@@ -1,0 +1,63 @@
+-- `runner::mark::mark_on` meets its contract: what is left of the text still gives the whole text's number. Assumes nothing.
+use mathlib.Core.Path.{_≡_, refl, sym, _∙_}
+use Prim.Native.Nat.{_-_, _≤_}
+use native.Mathlib.Omega.{arith}
+use borrow.Author.Needs.{needs}
+use lib.ListN.{length, drop}
+use Rattle.runner.specs.Mark.{marked}
+use Rattle.runner.specs.MarkLaws.{marked-turn, marked-done}
+use Rattle.runner.proofs.mark.mark_on.Statement.{statement}
+use Rattle.runner.proofs.mark.mark_on.Tie as tie
+
+abbrev Inv-loop : tie.InvT-loop
+Inv-loop from text mark₀ i₀ mark i = (i ≤ length text) × (marked mark (drop i text) ≡ marked from text)
+
+abbrev μ-loop : tie.MeasureT-loop
+μ-loop from text mark₀ i₀ mark i = length text - i
+
+loop-holds : tie.Need-loop-holds Inv-loop μ-loop
+loop-holds c = (omega arith, refl)
+
+mul-mark : tie.Need-mul-mark Inv-loop μ-loop
+mul-mark c = search needs
+
+shared-slice-read-mark : tie.Need-shared-slice-read-mark Inv-loop μ-loop
+shared-slice-read-mark c = search needs
+
+cast-mark : tie.Need-cast-mark Inv-loop μ-loop
+cast-mark c = record { fits = omega (arith, c .shared-slice-known .given (c .before .before .loop .i) .fits) }
+
+add-mark : tie.Need-add-mark Inv-loop μ-loop
+add-mark c = record { fits = omega (arith, c .shared-slice-known .given (c .before .before .loop .i) .fits) }
+
+add-i : tie.Need-add-i Inv-loop μ-loop
+add-i c = search needs
+
+loop-less : tie.Need-loop-less Inv-loop μ-loop
+loop-less c = search needs
+
+loop-again : tie.Need-loop-again Inv-loop μ-loop
+loop-again c =
+    let l = c .before .before .loop in
+    (search needs, sym (marked-turn (l .mark) _ (l .i) (search needs)) ∙ l .inv .1)
+
+returns : tie.Need-returns Inv-loop μ-loop
+returns c =
+    let l = c .before .loop in
+    sym (marked-done (l .mark) _ (l .i) (search needs)) ∙ l .inv .1
+
+pub mark-on-spec : {M : Type 1} → statement M
+mark-on-spec =
+    tie.close
+    (tie.spec
+    Inv-loop
+    μ-loop
+    loop-holds
+    mul-mark
+    shared-slice-read-mark
+    cast-mark
+    add-mark
+    add-i
+    loop-less
+    loop-again
+    returns)

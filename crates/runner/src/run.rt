@@ -1,0 +1,157 @@
+// A job from standard input is run by `cutting_plane_feas`, and the text of each step is handed to standard output as it comes.
+use crate::mark::write;
+use drivers::trace::Opened;
+use drivers::trace::Printed;
+use drivers::trace::Run;
+use drivers::trace::Text;
+use drivers::trace::open;
+ghost use mathlib.Core.Path.{_≡_};
+ghost use Prim.Native.Nat.{_*_, _≤_};
+ghost use lib.ListN.{length, take, replicate};
+ghost use Rattle.numbers.specs.F64.{0ᶠ};
+ghost use Rattle.drivers.specs.Trace.{next-answer, text-in};
+ghost use Rattle.drivers.specs.Calls.{run-all-answer, run-all-text};
+ghost use Rattle.drivers.specs.Program.{program-text, RunHeld};
+ghost use Rattle.runner.specs.Mark.{marked, mark-of};
+ghost use Rattle.runner.specs.Run.{Ran};
+
+// Writes the text at the front of `out`.
+fn write_text(mark: &mut u64, out: &[u8], text: Text)
+    ensures { λ _. ⌜ now (mark .exit) ≡ marked (now (mark .entry)) (text-in text (now (out .entry))) ⌝ }
+{
+    match text {
+        Text::Bytes(count) => {
+            if out.len() < count {
+                write(mark, out);
+                return;
+            }
+            write(mark, &out[..count]);
+        }
+        Text::Refused(_) => {}
+    }
+}
+
+// The next step, whose text is written.
+fn step(
+    mark: &mut u64,
+    run: Run,
+    table: &[f64],
+    mq: &mut [f64],
+    xc: &mut [f64],
+    grad: &mut [f64],
+    grad_t: &mut [f64],
+    out: &mut [u8],
+) -> Printed
+    ensures { λ r. ⌜ (r, record { mq = now (mq .exit); xc = now (xc .exit); grad-t = now («grad_t» .exit) }, now (grad .exit), now (out .exit)) ≡ next-answer run (now (table .entry)) (record { mq = now (mq .entry); xc = now (xc .entry); grad-t = now («grad_t» .entry) }) (now (grad .entry)) (now (out .entry)) ⌝ }
+    ensures { λ r. ⌜ now (mark .exit) ≡ marked (now (mark .entry)) (text-in (r .text) (now (out .exit))) ⌝ }
+{
+    let printed = run.next(table, mq, xc, grad, grad_t, out);
+    let text = printed.text;
+    write_text(mark, out, text);
+    printed
+}
+
+// Takes steps until there is no more to come, each text written; what the last one left.
+fn run_all(
+    mark: &mut u64,
+    first: Run,
+    table: &[f64],
+    mq: &mut [f64],
+    xc: &mut [f64],
+    grad: &mut [f64],
+    grad_t: &mut [f64],
+    out: &mut [u8],
+) -> Printed
+    ensures { λ r. ⌜ (r, record { mq = now (mq .exit); xc = now (xc .exit); grad-t = now («grad_t» .exit) }, now (grad .exit), now (out .exit)) ≡ run-all-answer first (now (table .entry)) (record { mq = now (mq .entry); xc = now (xc .entry); grad-t = now («grad_t» .entry) }) (now (grad .entry)) (now (out .entry)) ⌝ }
+    ensures { λ r. ⌜ now (mark .exit) ≡ marked (now (mark .entry)) (run-all-text first (now (table .entry)) (record { mq = now (mq .entry); xc = now (xc .entry); grad-t = now («grad_t» .entry) }) (now (grad .entry)) (now (out .entry))) ⌝ }
+{
+    let mut printed = step(mark, first, table, mq, xc, grad, grad_t, out);
+    while printed.more {
+        let run = printed.run;
+        printed = step(mark, run, table, mq, xc, grad, grad_t, out);
+    }
+    printed
+}
+
+// The run on the fronts of the slices that its job fills: rows × n, n × n and n numbers.
+fn run_sized(
+    mark: &mut u64,
+    run: Run,
+    table: &[f64],
+    mq: &mut [f64],
+    xc: &mut [f64],
+    grad: &mut [f64],
+    grad_t: &mut [f64],
+    out: &mut [u8],
+)
+    requires { ⌜ RunHeld run (now table) (now xc) (now mq) × (run .ell .ndim ≤ length (now grad)) × (run .ell .ndim ≤ length (now «grad_t»)) ⌝ }
+    ensures { λ _. ⌜ now (mark .exit) ≡ marked (now (mark .entry)) (run-all-text run (take (run .rows * run .ell .ndim) (now (table .entry))) (record { mq = take (run .ell .ndim * run .ell .ndim) (now (mq .entry)); xc = take (run .ell .ndim) (now (xc .entry)); grad-t = take (run .ell .ndim) (now («grad_t» .entry)) }) (take (run .ell .ndim) (now (grad .entry))) (now (out .entry))) ⌝ }
+{
+    let n = run.n();
+    let numbers = run.rows() * n;
+    let square = n * n;
+    run_all(
+        mark,
+        run,
+        &table[..numbers],
+        &mut mq[..square],
+        &mut xc[..n],
+        &mut grad[..n],
+        &mut grad_t[..n],
+        out,
+    );
+}
+
+// A job's run, in slices that are long enough for every job.
+fn run_lent(
+    mark: &mut u64,
+    bytes: &[u8],
+    table: &mut [f64; 32768],
+    mq: &mut [f64; 1024],
+    xc: &mut [f64; 32],
+    grad: &mut [f64; 32],
+    grad_t: &mut [f64; 32],
+    out: &mut [u8; 128],
+)
+    requires { ⌜ (now grad ≡ replicate 32 0ᶠ) × (now «grad_t» ≡ replicate 32 0ᶠ) ⌝ }
+    ensures { λ _. ⌜ now (mark .exit) ≡ marked (now (mark .entry)) (program-text (now (bytes .entry))) ⌝ }
+{
+    let opened = open(bytes, table, xc, mq, out);
+    match opened {
+        Opened::Going(run) => run_sized(mark, run, table, mq, xc, grad, grad_t, out),
+        Opened::Over(text) => write_text(mark, out, text),
+    }
+}
+
+// Runs the job: all that is written is the program's text of these bytes.
+pub fn run_input(bytes: &[u8]) -> u64
+    ensures { λ r. ⌜ r ≡ mark-of (program-text (now (bytes .entry))) ⌝ }
+{
+    let mut mark = 1;
+    let mut table = [0.0f64; 32768];
+    let mut mq = [0.0f64; 1024];
+    let mut xc = [0.0f64; 32];
+    let mut grad = [0.0f64; 32];
+    let mut grad_t = [0.0f64; 32];
+    let mut out = [0u8; 128];
+    run_lent(
+        &mut mark,
+        bytes,
+        &mut table,
+        &mut mq,
+        &mut xc,
+        &mut grad,
+        &mut grad_t,
+        &mut out,
+    );
+    mark
+}
+
+// Reads standard input, and one byte more than a job may have, so that a long one is known.
+pub fn run_stdin() -> u64
+    ensures { λ r. ⌜ Ran r ⌝ }
+{
+    let mut bytes = [0u8; 65537];
+    let count = io::read_full(0, &mut bytes);
+    run_input(&bytes[..count])
+}
