@@ -313,10 +313,11 @@ impl Run {
         let ell = self.ell;
         let options = self.options;
         let n = ell.ndim;
+        let rows = self.rows;
         let checked = check(
             oracle,
             n,
-            self.rows,
+            rows,
             table.len(),
             mq.len(),
             xc.len(),
