@@ -84,6 +84,7 @@ fn layer_of(name: &str) -> io::Result<&'static Layer> {
 }
 
 fn gate(name: &str) -> io::Result<bool> {
+    begins_right()?;
     layer_of(name)?.write_gate(&mut output())?;
     Ok(true)
 }
@@ -102,11 +103,7 @@ fn gen(name: &str, args: &[&str]) -> io::Result<bool> {
     let (Some(seed), Some(count)) = (seed, count) else {
         return Err(wrong(USAGE));
     };
-    if !sum_begins_at_minus_zero() {
-        return Err(wrong(
-            "this Rust library begins a sum at plus zero: use Rust 1.95",
-        ));
-    }
+    begins_right()?;
     layer.write_list(&only, seed, count, &mut output())?;
     Ok(true)
 }
@@ -116,7 +113,10 @@ fn whole(text: &str) -> io::Result<u64> {
 }
 
 /// The one place where the answer depends on the Rust library's age.
-fn sum_begins_at_minus_zero() -> bool {
+fn begins_right() -> io::Result<()> {
     let zeros = Arr::from(vec![-0.0, -0.0]);
-    zeros.dot(&Arr::ones(2)).is_sign_negative()
+    if zeros.dot(&Arr::ones(2)).is_sign_negative() {
+        return Ok(());
+    }
+    Err(wrong("this Rust library begins a sum at plus zero"))
 }

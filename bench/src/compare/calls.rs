@@ -1,6 +1,6 @@
 //! The exported calls on the generator's cases: inputs taken from a case's words, the answer given back as words.
 
-use super::drivers;
+use super::drivers::{self, give_bands};
 use super::taken::Taken;
 use super::Tally;
 use crate::port::{self, Band, Read, Scanned};
@@ -220,21 +220,25 @@ fn read_job(taken: &mut Taken, got: &mut Case) {
     slices.iter().for_each(|part| got.give_floats(part));
 }
 
-/// The marks are the cursors, each idx before its band, and no kmax.
+/// The marks are the cursors, each idx before its band, and no kmax. The exported reader tells neither fmax nor more_alt nor the cursors' bands; they are written as a job's oracle starts.
 fn give_numbers(read: &Read, got: &mut Case) {
     let [n, rows, max_iters] = read.sizes;
     let [lp_sq, up_sq, sp_sq, kappa, tolerance] = read.numbers;
-    let (cur, rest) = read.marks.split_at(3);
+    let [cur_and_idx @ .., kmax] = read.marks;
     got.give(n as u64);
     got.give(rows as u64);
     read.bands.iter().for_each(|&band| got.give_signed(band));
-    got.give_floats(&[lp_sq, up_sq, sp_sq]);
-    cur.iter().for_each(|&cur| got.give_signed(cur));
+    got.give_floats(&[lp_sq, up_sq]);
+    cur_and_idx.iter().for_each(|&mark| got.give_signed(mark));
+    got.give_floats(&[f64::NEG_INFINITY]);
+    got.give_signed(kmax);
+    got.give(1);
+    got.give_floats(&[sp_sq]);
+    let [nwpass, nwstop] = read.bands;
+    give_bands(nwpass, nwstop, rows as i32, got);
     got.give_floats(&[kappa]);
     got.give(max_iters as u64);
     got.give_floats(&[tolerance]);
-    let [nwpass, nwstop] = read.bands;
-    keep(rest == [-1, nwpass - 1, nwstop - 1, -1], got);
 }
 
 #[cfg(test)]

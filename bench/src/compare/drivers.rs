@@ -92,6 +92,13 @@ fn take(taken: &mut Taken, improve: bool) -> (Task, Left) {
     (task, left)
 }
 
+/// Lo and hi of each cursor. No exported call tells them: they are the bands that it was given.
+pub fn give_bands(nwpass: i32, nwstop: i32, mdim: i32, got: &mut Case) {
+    for mark in [0, nwpass, nwpass, nwstop, nwstop, mdim] {
+        got.give_signed(mark);
+    }
+}
+
 /// Slices and state. Where a run is refused nothing is told, and the state is the start's.
 fn give(no: u64, task: &Task, left: &Left, got: &mut Case) {
     let slices = [&left.best, &left.xc, &left.mq, &left.grad, &left.grad_t];
@@ -111,7 +118,9 @@ fn give(no: u64, task: &Task, left: &Left, got: &mut Case) {
     got.give_floats(&[fmax]);
     got.give_signed(kmax);
     got.give(more_alt);
-    got.give_floats(&[sp_sq, kappa, tsq]);
+    got.give_floats(&[sp_sq]);
+    give_bands(task.nwpass, task.nwstop, task.mdim, got);
+    got.give_floats(&[kappa, tsq]);
     let told = (left.answer, left.marks, left.values);
     keep(!refused || told == ([7; 3], [7; 7], [7.0; 4]), got);
 }

@@ -16,8 +16,6 @@ use Rattle.drivers.specs.declared.belongs.Belonging.{Belonging}
 use Rattle.drivers.specs.declared.belongs.Belonging.the-variants.{Yes, No, Refused as NotAsked}
 use Rattle.drivers.specs.declared.trace.Text.{Text}
 use Rattle.drivers.specs.declared.trace.Text.the-variants.{Bytes as BytesOfText, Refused as NoText}
-use Rattle.drivers.specs.declared.trace.Opened.{Opened}
-use Rattle.drivers.specs.declared.trace.Opened.the-variants.{Going, Over}
 
 -- of `cutting_plane_feas`
 abbrev pub feas-number : FeasAnswer → ℕ
@@ -51,11 +49,7 @@ belonging-number Yes = 0
 belonging-number No = 0
 belonging-number (NotAsked why) = refusalNumber why
 
--- of a text of a run, and of `open`
+-- of a text of a run. What `open` answers has no number of its own: where a job is refused, the number stands in the line that is written
 abbrev pub text-number : Text → ℕ
 text-number (BytesOfText count) = 0
 text-number (NoText why) = refusalNumber why
-
-abbrev pub opened-number : Opened → ℕ
-opened-number (Going run) = 0
-opened-number (Over text) = text-number text

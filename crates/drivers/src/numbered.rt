@@ -5,11 +5,10 @@ use crate::belongs::Belonging;
 use crate::cutting_plane::FeasAnswer;
 use crate::cutting_plane::OptimAnswer;
 use crate::job::JobAnswer;
-use crate::trace::Opened;
 use crate::trace::Text;
 use numbers::refusal::Refusal;
 ghost use mathlib.Core.Path.{_≡_};
-ghost use Rattle.drivers.specs.Numbered.{feas-number, optim-number, job-number, read-number, bytes-number, belonging-number, text-number, opened-number};
+ghost use Rattle.drivers.specs.Numbered.{feas-number, optim-number, job-number, read-number, bytes-number, belonging-number, text-number};
 
 impl FeasAnswer {
     pub fn number(self) -> u8
@@ -86,17 +85,6 @@ impl Text {
         match self {
             Text::Bytes(_) => 0,
             Text::Refused(why) => why.number(),
-        }
-    }
-}
-
-impl Opened {
-    pub fn number(self) -> u8
-        ensures { λ r. ⌜ r ≡ opened-number self ⌝ }
-    {
-        match self {
-            Opened::Going(_) => 0,
-            Opened::Over(text) => text.number(),
         }
     }
 }

@@ -63,7 +63,7 @@ negative (fin s m e) = s
 
 -- r lies nearer to √N than u does, or than -u where s is true; all in units. Between two numbers r and u the middle is (r + u) / 2, so r is
 -- nearer where 2 * √N lies on its side of r + u, which the squares say. -u lies farther than r does where
--- r - √N < √N + u; `r - u` is 0 where r ≤ u, and there 0 < 4 * N says no less.
+-- r - √N < √N + u; `r - u` is 0 where r ≤ u, and there 0 < 4 * N says no less: -u lies farther unless r and u are both 0, and the root of N above 0 is not.
 abbrev pub Nearer : ℕ → ℕ → Bool → ℕ → Type 0
 Nearer N r false u = ((r < u) × (4 * N < (r + u) * (r + u))) ⊎ ((u < r) × ((r + u) * (r + u) < 4 * N))
 Nearer N r true u = (r - u) * (r - u) < 4 * N

@@ -93,7 +93,7 @@ impl EllCalcCore {
         ensures { λ r. ⌜ r ≡ core-parallel-bias-cut self beta0 beta1 tsq ⌝ }
     {
         let b0b1 = beta0 * beta1;
-        let eta = tsq + self.n_f * b0b1; // not above zero where the slab cuts nothing off
+        let eta = tsq + self.n_f * b0b1; // not above zero where no smaller ellipsoid results
         self.calc_parallel_bias_cut_fast(beta0, beta1, tsq, b0b1, eta)
     }
 
@@ -132,7 +132,7 @@ impl EllCalcCore {
     pub fn calc_bias_cut(self, beta: f64, tau: f64) -> Params
         ensures { λ r. ⌜ r ≡ core-bias-cut self beta tau ⌝ }
     {
-        let eta = tau + self.n_f * beta; // not above zero where the half-space cuts nothing off
+        let eta = tau + self.n_f * beta; // not above zero where no smaller ellipsoid results
         self.calc_bias_cut_fast(beta, tau, eta)
     }
 

@@ -1,4 +1,4 @@
-// What has been handed to standard output. No contract can say what io writes, so each byte that is handed over is also taken into a number, the mark, which contracts name. Nothing else calls io to write.
+// What has been handed to standard output. No contract can say what io writes, so each byte that is handed over is also taken into a number, the mark, which contracts name. That nothing else calls io to write, and that no second mark is made, is read and not proved.
 ghost use mathlib.Core.Path.{_≡_};
 ghost use Rattle.runner.specs.Mark.{marked};
 

@@ -1,4 +1,4 @@
-// A job from standard input is run by `cutting_plane_feas`, and the text of each step is handed to standard output as it comes.
+// A job from standard input is run by the steps of `cutting_plane_feas` (`Run::next`), and the text of each is handed to standard output as it comes.
 use crate::mark::write;
 use drivers::trace::Opened;
 use drivers::trace::Printed;
@@ -123,7 +123,7 @@ fn run_lent(
     }
 }
 
-// Runs the job: all that is written is the program's text of these bytes.
+// Runs the job; the mark of what is written is that of the program's text of these bytes.
 pub fn run_input(bytes: &[u8]) -> u64
     ensures { λ r. ⌜ r ≡ mark-of (program-text (now (bytes .entry))) ⌝ }
 {
