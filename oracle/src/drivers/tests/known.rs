@@ -65,3 +65,15 @@ fn examples_have_their_texts() {
         assert_eq!(text(job), right);
     }
 }
+
+/// The gate's program of many steps runs on the example.
+#[test]
+fn program_has_the_example() {
+    let job = include_bytes!("../../../../examples/n32.job");
+    assert!(include_bytes!("../../../../crates/filterrun_n32/stdin")[..] == job[..]);
+    let text = include_str!("../../../../examples/n32.out");
+    assert_eq!(
+        include_str!("../../../../crates/filterrun_n32/stdout"),
+        text
+    );
+}
