@@ -9,25 +9,4 @@ pub mod Trace
 pub mod Calls
 pub mod Program
 pub mod Numbered
--- Theorems about them, and the laws that these rest on.
-pub mod FaultLaws
-pub mod RecordLaws
-pub mod AnswerLaws
-pub mod JobLaws
-pub mod BelongsLaws
-pub mod TextLaws
-pub mod StepRight
-pub mod Untouched
-pub mod OptimRight
-pub mod TraceLaws
-pub mod CallsLaws
-pub mod WrittenFields
-pub mod RoundTrip
-pub mod RunEnds
-pub mod OptimBest
-pub mod OptimEnds
-pub mod Refused
-pub mod JobRuns
-pub mod FoundFeasible
-pub mod Worked
-pub mod ProgramLaws
+pub mod laws

@@ -58,9 +58,3 @@ opened-text calls (Going run) table xc mq out =
 
 abbrev pub calls-text : ℕ → Opened × List Float × List Float × List Float × List ℕ → List ℕ
 calls-text calls r = opened-text calls (r .0) (r .1) (r .2) (r .3) (r .4)
-
--- a run's numbers stand at the fronts of the slices that they were read into
-pub record RunHeld (run : Run) (table xc mq : List Float) : Type 0 where
-  pub table-long : run .rows * run .ell .ndim ≤ length table
-  pub xc-long : run .ell .ndim ≤ length xc
-  pub mq-long : run .ell .ndim * run .ell .ndim ≤ length mq

@@ -5,12 +5,11 @@ use mathlib.Core.List.{List, [], _∷_, _++_}
 use lib.Dec.{leb, ltb, eqb}
 use lib.ListN.{length, take, drop, getD, set, replicate}
 use lib.Ieee.{Float}
-use Rattle.numbers.specs.Pick.{pick}
+use Rattle.numbers.specs.Pick.{pick, some}
 use Rattle.numbers.specs.Bits.{floatOf, wordAt}
 use Rattle.numbers.specs.Arr.{tab}
 use Rattle.numbers.specs.declared.refusal.Refusal.{Refusal}
 use Rattle.numbers.specs.declared.refusal.Refusal.the-variants.{Length, CutShort, ForeignTag, RepeatedTag, MissingTag}
-use Rattle.oracles.specs.Verdict.{some-row}
 use Rattle.drivers.specs.declared.record.Rule.{Rule}
 use Rattle.drivers.specs.declared.record.Fault.{Fault}
 use Rattle.drivers.specs.declared.record.Fault.the-variants.{Sound, At}
@@ -138,7 +137,7 @@ abbrev pub is-missing : List ℕ → ℕ → Bool
 is-missing places i = eqb (getD places i 0) 0 && not (ruleAt i .optional)
 
 unfoldable pub missing-fault : ℕ → ℕ → ℕ → List ℕ → Fault
-missing-fault end first past places = pick (some-row (is-missing places) first (past - first)) (At MissingTag end) Sound
+missing-fault end first past places = pick (some (is-missing places) first (past - first)) (At MissingTag end) Sound
 
 -- the walk, then 10
 unfoldable pub record-fault : List ℕ → ℕ → ℕ → List ℕ → Fault × List ℕ

@@ -48,26 +48,6 @@ unfoldable pub mvOf : ℕ → List Float → List Float → List Float
 unfolding tab
 mvOf n mat x = tab (λ i. dotFrom 0ᶠ (rowOf n mat i) x) n
 
--- four rows' sums, each from its own start: the products with x from column j on
-abbrev pub fourFrom : Four → List Float → List Float → List Float → List Float → List Float → ℕ → Four
-fourFrom s a b c d x j =
-    record {
-      a = dotFrom (s .a) (drop j a) (drop j x);
-      b = dotFrom (s .b) (drop j b) (drop j x);
-      c = dotFrom (s .c) (drop j c) (drop j x);
-      d = dotFrom (s .d) (drop j d) (drop j x);
-    }
-
--- the four rows from row i on, times x
-abbrev pub fourRows : ℕ → List Float → List Float → ℕ → Four
-fourRows n mat x i =
-    record {
-      a = dotFrom 0ᶠ (rowOf n mat i) x;
-      b = dotFrom 0ᶠ (rowOf n mat (i + 1)) x;
-      c = dotFrom 0ᶠ (rowOf n mat (i + 2)) x;
-      d = dotFrom 0ᶠ (rowOf n mat (i + 3)) x;
-    }
-
 -- the entries (i, i) for i below k set to v's
 unfoldable pub setDiag : ℕ → List Float → ℕ → List Float → List Float
 setDiag n v zero mat = mat

@@ -4,7 +4,8 @@ ghost use mathlib.Core.Path.{_≡_};
 ghost use Prim.Native.Nat.{_+_, _*_, _≤_, _<_, min};
 ghost use lib.ListN.{length, drop, replicate};
 ghost use Rattle.numbers.specs.F64.{0ᶠ};
-ghost use Rattle.numbers.specs.Arr.{isDimension, dotFrom, dotOf, fourOf, fourFrom, rowOf, fourRows, mvOf, diagOf, setDiag, dot-answer, dot-mv-into-answer, copy-from-answer, eye-answer, from-diag-answer};
+ghost use Rattle.numbers.specs.Arr.{isDimension, dotFrom, dotOf, fourOf, rowOf, mvOf, diagOf, setDiag, dot-answer, dot-mv-into-answer, copy-from-answer, eye-answer, from-diag-answer};
+ghost use Rattle.numbers.specs.laws.Arr.{fourFrom, fourRows};
 
 pub enum Number {
     Value(f64),

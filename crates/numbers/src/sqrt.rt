@@ -6,8 +6,8 @@ ghost use lib.Ieee.{binary64, ofBits};
 ghost use lib.Dec.{T};
 ghost use lib.Ieee.Positive.{positive};
 ghost use Rattle.numbers.specs.Sqrt.{sqrtOf, NearestRoot};
-ghost use Rattle.numbers.specs.Isqrt.{IsRoot};
-ghost use Rattle.numbers.specs.Rounded.{SquareOfBits};
+ghost use Rattle.numbers.specs.laws.Isqrt.{IsRoot};
+ghost use Rattle.numbers.specs.laws.Rounded.{SquareOfBits};
 
 // The bits of minus zero and of plus infinity.
 const SIGN: u64 = 0x8000_0000_0000_0000;

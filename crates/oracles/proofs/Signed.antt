@@ -11,8 +11,8 @@ use mir.Syntax.{Width, w32, w64}
 use mir.Val.{Fits, SFits, toZ, ofZ}
 use mir.Facts.{toZ-ofZ, fits-natAbs}
 use Rattle.numbers.specs.Pick.{pick}
-use Rattle.oracles.specs.RoundRobin.{eqZ, advanced, Legal}
-use Rattle.oracles.specs.RoundRobinLaws.{eqZ-yes, eqZ-no}
+use Rattle.oracles.specs.RoundRobin.{eqZ, advanced}
+use Rattle.oracles.specs.laws.RoundRobin.{eqZ-yes, eqZ-no, Legal}
 use Rattle.oracles.specs.declared.round_robin.RoundRobin.{RoundRobin}
 
 -- what the machine reads back

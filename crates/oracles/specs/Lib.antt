@@ -10,23 +10,4 @@ pub mod EllCommon
 pub mod Ell
 pub mod EllStable
 pub mod Numbered
--- Theorems about them, the laws that these rest on, and the steps of the inner functions.
-pub mod RoundRobinLaws
-pub mod FloatOrder
-pub mod ScanLaws
-pub mod ScanRun
-pub mod AssessLaws
-pub mod JudgeLaws
-pub mod CursorRule
-pub mod TwoOracles
-pub mod OracleAfter
-pub mod Known
-pub mod Smallest
-pub mod MatrixLaws
-pub mod LoopLaws
-pub mod LdltLaws
-pub mod EllCommonLaws
-pub mod EllLaws
-pub mod EllCalls
-pub mod EllStableLaws
-pub mod EllStableCalls
+pub mod laws

@@ -48,15 +48,3 @@ advance-answer c =
     pick (not (isBand (c .lo) (c .hi) && ltZ (c .lo) (c .hi))) (Refused Band)
     (pick (not (isAt c)) (Refused Cursor)
     (At (advanced c)))
-
--- a legal cursor, said in natural numbers: its band is from .. past − 1, and `next` is one more than `cur`
-pub record Legal (c : RoundRobin) : Type 0 where
-  pub from : ℕ
-  pub past : ℕ
-  pub next : ℕ
-  pub lo-is : c .lo ≡ pos from
-  pub hi-is : c .hi ≡ pos past
-  pub cur-is : c .cur ≡ predℤ (pos next)
-  pub above : from ≤ next
-  pub below : next ≤ past
-  pub small : past ≤ 1024

@@ -14,7 +14,7 @@ use Rattle.numbers.specs.Arr.{isDimension, dotOf, rowOf, tested}
 use Rattle.numbers.specs.declared.refusal.Refusal.the-variants.{Dimension, Length, Band, Cursor}
 use Rattle.numbers.specs.declared.cut.CutChoice.{CutChoice}
 use Rattle.numbers.specs.declared.cut.CutChoice.the-variants.{Single, Parallel}
-use Rattle.oracles.specs.RoundRobin.{isBand, isAt, moved, advanced, Legal}
+use Rattle.oracles.specs.RoundRobin.{isBand, isAt, moved, advanced}
 use Rattle.oracles.specs.declared.round_robin.RoundRobin.{RoundRobin}
 use Rattle.oracles.specs.declared.scan.Upper.{Upper}
 use Rattle.oracles.specs.declared.scan.Upper.the-variants.{Absent, At}
@@ -23,6 +23,7 @@ use Rattle.oracles.specs.declared.scan.Violation.the-variants.{Nothing, 
 use Rattle.oracles.specs.declared.scan.Scan.{Scan}
 use Rattle.oracles.specs.declared.scan.ScanAnswer.{ScanAnswer}
 use Rattle.oracles.specs.declared.scan.ScanAnswer.the-variants.{Scanned, Refused as NotScanned}
+use Rattle.oracles.specs.laws.RoundRobin.{Legal}
 
 -- minus infinity, and the row number that stands for none
 abbrev pub −∞ : Float
@@ -93,17 +94,3 @@ band-beta v over lower (At u) = pick over (Parallel (v ⊖ u) (v ⊖ lower)) (Pa
 -- its gradient: the row above an upper limit, the negated row below a lower one
 unfoldable pub band-gradient : ℕ → List Float → ℕ → Bool → List Float
 band-gradient n table row over = pick over (rowOf n table row) (map neg (rowOf n table row))
-
--- ---- what the inner functions ask for
-
--- rows that a scan from c can read
-pub record Ready (n : ℕ) (table x : List Float) (c : RoundRobin) : Type 0 where
-  pub legal : Legal c
-  pub high : legal .past * n ≤ length table
-
--- a scan with nothing left to refuse
-pub record Scannable (n rows : ℕ) (table x : List Float) (c : RoundRobin) : Type 0 where
-  pub dimension : isDimension n ≡ true
-  pub long : table-fits n rows table x ≡ true
-  pub band : band-fits rows (c .lo) (c .hi) ≡ true
-  pub at : isAt c ≡ true

@@ -9,7 +9,7 @@ use lib.ListN.{length, getD}
 use lib.IntN.{ℤ, pos, natAbs}
 use lib.Ieee.{Float, nan, lt, isNan}
 use Rattle.numbers.specs.F64.{0ᶠ}
-use Rattle.numbers.specs.Pick.{pick}
+use Rattle.numbers.specs.Pick.{pick, some}
 use Rattle.numbers.specs.Arr.{isDimension}
 use Rattle.numbers.specs.Refusal.{refusalNumber}
 use Rattle.oracles.specs.RoundRobin.{eqZ}
@@ -80,17 +80,12 @@ middle-breaks q i = lt (valueIn q i) 0ᶠ
 abbrev pub sign-breaks : Question → Bool
 sign-breaks q = lt (getD (q .x) 0 nan) 0ᶠ
 
--- whether f holds for one of the rows lo, lo + 1, .. lo + count − 1
-unfoldable pub some-row : (ℕ → Bool) → ℕ → ℕ → Bool
-some-row f lo zero = false
-some-row f lo (suc count) = some-row f lo count || f (lo + count)
-
 -- the first broken of pass, stop, middle and sign
 unfoldable pub judge : Question → Judgement
 judge q =
-    pick (some-row (pass-breaks q) 0 (pass-end q)) pass
-    (pick (some-row (stop-breaks q) (stop-start q) (q .rows - stop-start q)) stop
-    (pick (some-row (middle-breaks q) (pass-end q) (stop-start q - pass-end q)) middle
+    pick (some (pass-breaks q) 0 (pass-end q)) pass
+    (pick (some (stop-breaks q) (stop-start q) (q .rows - stop-start q)) stop
+    (pick (some (middle-breaks q) (pass-end q) (stop-start q - pass-end q)) middle
     (pick (sign-breaks q) sign feasible)))
 
 -- no row breaks and the sign holds: what feasible means, said of each row
@@ -102,7 +97,7 @@ pub record Unbroken (q : Question) : Type 0 where
 
 -- no stop value compares: the stop band is empty or all its values are NaN
 unfoldable pub no-stop-value : Question → Bool
-no-stop-value q = not (some-row (λ i. not (isNan (valueIn q i))) (stop-start q) (q .rows - stop-start q))
+no-stop-value q = not (some (λ i. not (isNan (valueIn q i))) (stop-start q) (q .rows - stop-start q))
 
 -- ---- what an assessment says
 

@@ -22,7 +22,7 @@ ghost use lib.ListN.{length};
 ghost use Rattle.numbers.specs.Arr.{isDimension};
 ghost use Rattle.oracles.specs.Ell.{new-ell-answer, rank-one, with-tsq, updated, ell-said, ell-updateOf, ell-update-answer};
 ghost use Rattle.oracles.specs.EllCommon.{answerOf};
-ghost use Rattle.oracles.specs.EllLaws.{row-lowered, all-lowered, row-mirrored, mirrored};
+ghost use Rattle.oracles.specs.laws.Ell.{row-lowered, all-lowered, row-mirrored, mirrored};
 
 // What is kept beside the matrix mq and the centre xc.
 pub struct Ell {

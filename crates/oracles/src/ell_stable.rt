@@ -25,7 +25,7 @@ ghost use Rattle.oracles.specs.declared.ell_common.Update.the-variants.{
 ghost use Rattle.oracles.specs.Matrix.{entry, at, total};
 ghost use Rattle.oracles.specs.EllCommon.{centreOf};
 ghost use Rattle.oracles.specs.EllStable.{new-ell-stable-answer, inv-ml-gOf, inv-md-inv-ml-gOf, gg-tOf, omegaOf, lowered, backward, t-start, with-tsq, stable-said, stable-updateOf, stable-update-answer};
-ghost use Rattle.oracles.specs.EllStableLaws.{solved-back, column-taken, row-updated, less-columns, factors-after};
+ghost use Rattle.oracles.specs.laws.EllStable.{solved-back, column-taken, row-updated, less-columns, factors-after};
 
 // What is kept beside the factors mq and the centre xc.
 pub struct EllStable {

@@ -8,7 +8,7 @@ ghost use lib.Ieee.{neg};
 ghost use Rattle.numbers.specs.F64.{_⊕_, _⊗_, 0ᶠ};
 ghost use Rattle.oracles.specs.Matrix.{entry, at, total};
 ghost use Rattle.oracles.specs.LdltMgr.{isOrder, get-elem, reduced, filled, rowsOf, factor-answer, witnessOf, witness-answer, quad-term, quadOf, sym-quad-answer};
-ghost use Rattle.oracles.specs.LdltLaws.{LmiReads, FactoredTo};
+ghost use Rattle.oracles.specs.laws.Ldlt.{LmiReads, FactoredTo};
 
 // The rows of a leading block that is not positive definite: start to end − 1.
 pub struct Pos {

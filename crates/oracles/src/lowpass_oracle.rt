@@ -16,12 +16,13 @@ ghost use mathlib.Core.List.{map};
 ghost use Prim.Native.Nat.{_+_, _*_, _≤_, _<_};
 ghost use lib.Ieee.{neg};
 ghost use lib.ListN.{length};
-ghost use Rattle.oracles.specs.Scan.{Scannable, band-beta, band-gradient};
+ghost use Rattle.oracles.specs.Scan.{band-beta, band-gradient};
 ghost use lib.IntN.{pos, natAbs};
 ghost use lib.Signed.{ltZ};
 ghost use mathlib.Core.Bool.{true, false};
 ghost use Rattle.oracles.specs.Verdict.{is-accepted, asked, FeasRule, OptimRule};
 ghost use Rattle.oracles.specs.LowpassOracle.{bands-fit, cursors-fit, isOf, groupNumber, groupSide, after-pass, after-stop, after-middle, offered, improvedOf, refusedOf, assess-sign, assess-middle, assess-stop, assessOf, assess-feas-answer, assess-optim-answer};
+ghost use Rattle.oracles.specs.laws.Scan.{Scannable};
 
 // The state of an oracle over a row table that the caller lends: pass rows are 0 to nwpass − 1, middle rows reach nwstop − 1, stop rows the end.
 pub struct LowpassOracle {

@@ -3,7 +3,8 @@ use numbers::refusal::Refusal;
 ghost use mathlib.Core.Path.{_≡_};
 ghost use Prim.Native.Nat.{_<_};
 ghost use lib.IntN.{pos};
-ghost use Rattle.oracles.specs.RoundRobin.{isBand, isAt, moved, advanced, new-range-answer, advance-answer, Legal};
+ghost use Rattle.oracles.specs.RoundRobin.{isBand, isAt, moved, advanced, new-range-answer, advance-answer};
+ghost use Rattle.oracles.specs.laws.RoundRobin.{Legal};
 
 // Row numbers of the band lo .. hi − 1, each in turn; cur is the last one given, lo − 1 at first.
 pub struct RoundRobin {

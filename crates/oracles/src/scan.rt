@@ -14,11 +14,13 @@ ghost use mathlib.Core.Logic.{_⊎_};
 ghost use lib.IntN.{pos, natAbs};
 ghost use lib.Signed.{nonNeg};
 ghost use lib.ListN.{length};
-ghost use Rattle.oracles.specs.RoundRobin.{moved, Legal};
+ghost use Rattle.oracles.specs.RoundRobin.{moved};
 ghost use Rattle.oracles.specs.declared.scan.ScanAnswer.the-variants.{Refused};
 ghost use Rattle.oracles.specs.declared.scan.Upper.the-variants.{At};
-ghost use Rattle.oracles.specs.ScanRun.{limitOf, isBroken, valuesOf, judgedOf, runOf, Going};
-ghost use Rattle.oracles.specs.Scan.{valueOf, isRows, band-fits, scanFrom, scanOf, scan-band-answer, Ready, Scannable};
+ghost use Rattle.oracles.specs.laws.ScanRun.{limitOf, isBroken, valuesOf, judgedOf, runOf, Going};
+ghost use Rattle.oracles.specs.Scan.{valueOf, isRows, band-fits, scanFrom, scanOf, scan-band-answer};
+ghost use Rattle.oracles.specs.laws.RoundRobin.{Legal};
+ghost use Rattle.oracles.specs.laws.Scan.{Ready, Scannable};
 
 // The upper limit of a band, where it has one.
 pub enum Upper {

@@ -2,5 +2,4 @@
 pub mod Told
 pub mod ToldRuns
 pub mod ToldScan
--- Theorems about them.
-pub mod ToldRefused
+pub mod laws

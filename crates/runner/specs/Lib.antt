@@ -1,3 +1,3 @@
 pub mod Mark
-pub mod MarkLaws
 pub mod Run
+pub mod laws

@@ -11,7 +11,8 @@ ghost use lib.ListN.{length, take, replicate};
 ghost use Rattle.numbers.specs.F64.{0ᶠ};
 ghost use Rattle.drivers.specs.Trace.{next-answer, text-in};
 ghost use Rattle.drivers.specs.Calls.{run-all-answer, run-all-text};
-ghost use Rattle.drivers.specs.Program.{program-text, RunHeld};
+ghost use Rattle.drivers.specs.Program.{program-text};
+ghost use Rattle.drivers.specs.laws.Program.{RunHeld};
 ghost use Rattle.runner.specs.Mark.{marked, mark-of};
 ghost use Rattle.runner.specs.Run.{Ran};
 

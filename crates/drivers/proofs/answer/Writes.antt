@@ -9,14 +9,13 @@ use borrow.Author.Tests.{le-leb, lt-ltb, le-ltb, eq-eqb, ne-eqb}
 use lib.ListN.{length, take, set, getD, length-append, length-set, length-take}
 use lib.Seq.{take-suc, take-all}
 use lib.Ieee.{Float, nan}
-use Rattle.numbers.specs.Pick.{hit, skip}
 use Rattle.numbers.specs.Bits.{bitsOf, leBytes, putBytes, putWord}
-use Rattle.numbers.specs.BitsLaws.{length-bytes}
+use Rattle.numbers.specs.laws.Bits.{length-bytes}
 use Rattle.numbers.specs.Arr.{isDimension}
 use Rattle.numbers.specs.declared.refusal.Refusal.the-variants.{Dimension, Length, Room}
-use Rattle.oracles.specs.LoopLaws.{is-hit, is-skip}
+use Rattle.numbers.specs.laws.Pick.{hit, skip, is-hit, is-skip}
 use Rattle.drivers.specs.Text.{over}
-use Rattle.drivers.specs.TextLaws.{over-none, over-on, length-over, store-on, shift, shift-more, bytes-more, put-over}
+use Rattle.drivers.specs.laws.Text.{over-none, over-on, length-over, store-on, shift, shift-more, bytes-more, put-over}
 use Rattle.drivers.specs.Answer.{header, answer-head, pointPut, answer-bytes, write-answer-answer}
 use Rattle.drivers.specs.declared.answer.Answer.{Answer}
 use Rattle.drivers.specs.declared.answer.AnswerWritten.the-variants.{Bytes, Refused}

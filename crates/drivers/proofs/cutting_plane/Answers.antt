@@ -7,11 +7,11 @@ use borrow.Author.Tests.{lt-ltb, le-ltb}
 use lib.Dec.{ltb}
 use lib.ListN.{length}
 use lib.Ieee.{Float}
-use Rattle.numbers.specs.Pick.{hit, skip}
 use Rattle.numbers.specs.declared.refusal.Refusal.{Refusal}
 use Rattle.numbers.specs.declared.refusal.Refusal.the-variants.{Room}
+use Rattle.numbers.specs.laws.Pick.{hit, skip}
 use Rattle.drivers.specs.CuttingPlane.{Space, check-space, is-found, kept, feas-run, feas-checked, feas-answer, OptimSpace, OptimLeft, plain, leaves, optim-run, optim-checked, optim-answer}
-use Rattle.drivers.specs.Refused.{feas-refused, optim-refused}
+use Rattle.drivers.specs.laws.Refused.{feas-refused, optim-refused}
 use Rattle.drivers.specs.declared.cutting_plane.Options.{Options}
 use Rattle.drivers.specs.declared.cutting_plane.Checked.{Checked}
 use Rattle.drivers.specs.declared.cutting_plane.Checked.the-variants.{Right, Wrong}

@@ -3,10 +3,10 @@ use mathlib.Core.Path.{_≡_, refl, ap, _∙_}
 use mathlib.Core.Bool.{Bool, true, false, not, _&&_}
 use Prim.Native.Nat.{ℕ, _*_}
 use lib.Dec.{eqb}
-use Rattle.numbers.specs.Pick.{hit, skip}
 use Rattle.numbers.specs.Arr.{isDimension}
-use Rattle.numbers.specs.ArrLaws.{wrong-dimension, wrong-length, accepted}
+use Rattle.numbers.specs.laws.Arr.{wrong-dimension, wrong-length, accepted}
 use Rattle.numbers.specs.declared.refusal.Refusal.the-variants.{Dimension, Length, Band, Cursor}
+use Rattle.numbers.specs.laws.Pick.{hit, skip}
 use Rattle.oracles.specs.LowpassOracle.{bands-fit, cursors-fit}
 use Rattle.oracles.specs.declared.lowpass_oracle.LowpassOracle.{LowpassOracle}
 use Rattle.drivers.specs.CuttingPlane.{checkOf}

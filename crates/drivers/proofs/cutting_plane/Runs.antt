@@ -7,7 +7,7 @@ use native.Mathlib.Numerals.{add-one}
 use native.Mathlib.Omega.{arith}
 use lib.Ieee.{Float}
 use Rattle.numbers.specs.Pick.{pick}
-use Rattle.oracles.specs.LoopLaws.{is-hit, is-skip}
+use Rattle.numbers.specs.laws.Pick.{is-hit, is-skip}
 use Rattle.oracles.specs.declared.ell_common.Update.{Update}
 use Rattle.drivers.specs.CuttingPlane.{Space, feas-step, goes-on, feas-ended, feas-run, OptimSpace, OptimLeft, leaves, optim-step, optim-goes-on, optim-ended, optim-run}
 use Rattle.drivers.specs.declared.answer.Answer.{Answer}

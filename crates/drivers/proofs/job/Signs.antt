@@ -8,8 +8,8 @@ use lib.IntN.{pos, _-ℤ_}
 use mir.Syntax.{w32}
 use mir.Val.{SFits, toZ, ofZ}
 use mir.Facts.{toZ-pos, toZ-ofZ}
-use Rattle.oracles.specs.LoopLaws.{by-test}
 use Rattle.drivers.specs.Job.{partOf, signed}
+use Rattle.numbers.specs.laws.Pick.{by-test}
 
 -- a number of 16 bits, and what is left of it
 pub half-fits : (h : ℕ) → h < 65536 → SFits w32 (pos h)

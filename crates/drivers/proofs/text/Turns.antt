@@ -9,9 +9,9 @@ use borrow.Author.Tests.{lt-ltb, le-ltb}
 use lib.Dec.{ltb}
 use lib.ListN.{length, take, drop, set, getD, length-set}
 use lib.Seq.{paste, paste-zero, paste-suc, take-length}
-use Rattle.oracles.specs.LoopLaws.{is-hit, is-skip}
 use Rattle.drivers.specs.Text.{over, put, digitChar, digitsOf, digit-count-to, digit-count}
-use Rattle.drivers.specs.TextLaws.{over-none, store-before, put-fits, shift, shift-more, digits-more, length-digits}
+use Rattle.drivers.specs.laws.Text.{over-none, store-before, put-fits, shift, shift-more, digits-more, length-digits}
+use Rattle.numbers.specs.laws.Pick.{is-hit, is-skip}
 
 -- ---- a copy: i bytes of the text stand from `at` on
 

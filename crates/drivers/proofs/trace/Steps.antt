@@ -8,15 +8,16 @@ use borrow.Author.Tests.{lt-ltb, le-ltb}
 use lib.Dec.{ltb}
 use lib.ListN.{length}
 use lib.Ieee.{Float}
-use Rattle.numbers.specs.Pick.{pick, hit, skip}
+use Rattle.numbers.specs.Pick.{pick}
 use Rattle.numbers.specs.declared.refusal.Refusal.{Refusal}
 use Rattle.numbers.specs.declared.refusal.Refusal.the-variants.{Room}
+use Rattle.numbers.specs.laws.Pick.{hit, skip}
 use Rattle.oracles.specs.Ell.{EllBuffers}
 use Rattle.drivers.specs.Text.{put-all}
-use Rattle.drivers.specs.TextLaws.{put-front}
+use Rattle.drivers.specs.laws.Text.{put-front}
 use Rattle.drivers.specs.CuttingPlane.{Space, check-space, feas-step, goes-on, feas-ended}
 use Rattle.drivers.specs.Trace.{said-pieces, last-pieces, ended-pieces, space-of, run-at, step-printed, limit-printed, not-printed, next-checked, next-answer}
-use Rattle.drivers.specs.TraceLaws.{last-most, step-pieces}
+use Rattle.drivers.specs.laws.Trace.{last-most, step-pieces}
 use Rattle.drivers.specs.declared.answer.Answer.{Answer}
 use Rattle.drivers.specs.declared.cutting_plane.Said.{Said}
 use Rattle.drivers.specs.declared.cutting_plane.Checked.{Checked}

@@ -8,8 +8,8 @@ use borrow.Author.Tests.{le-leb, lt-leb, lt-ltb, le-ltb, eq-eqb, ne-eqb}
 use lib.ListN.{length, take, drop, replicate}
 use lib.Seq.{length-take-le}
 use lib.Ieee.{Float}
-use Rattle.numbers.specs.Pick.{hit, skip}
 use Rattle.numbers.specs.F64.{0ᶠ}
+use Rattle.numbers.specs.laws.Pick.{hit, skip}
 use Rattle.lists.specs.Words.{floatsAt}
 use Rattle.lists.specs.Rooms.{timesOf, partOf, filledOf}
 

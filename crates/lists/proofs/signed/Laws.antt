@@ -12,9 +12,9 @@ use lib.Signed.{ltZ, nonNeg}
 use mir.Syntax.{w32, w64}
 use mir.Val.{Fits, SFits, toZ, ofZ}
 use mir.Facts.{toZ-ofZ, toZ-pos, fits-natAbs}
-use Rattle.numbers.specs.Pick.{hit, skip}
 use Rattle.lists.specs.Words.{wordOf}
 use Rattle.lists.specs.Signed.{isSigned, signedOf, allSigned, signedWord}
+use Rattle.numbers.specs.laws.Pick.{hit, skip}
 
 -- what the machine reads back
 abbrev pub read : ℤ → ℤ

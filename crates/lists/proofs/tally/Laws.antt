@@ -3,13 +3,13 @@ use mathlib.Core.Path.{_≡_, refl, sym, ap, _∙_}
 use mathlib.Core.List.{List}
 use Prim.Native.Nat.{ℕ, _≤_, _<_, min}
 use borrow.Author.Tests.{le-leb, lt-leb, lt-ltb, le-ltb, eq-eqb, ne-eqb}
-use Rattle.numbers.specs.Pick.{hit, skip}
 use Rattle.lists.specs.Words.{firstDiff}
 use Rattle.lists.specs.Tally.{wordsVerdict, verdictOf, bumped, counted, tallied}
 use Rattle.lists.specs.declared.tally.Replayed.{Replayed}
 use Rattle.lists.specs.declared.tally.Replayed.the-variants.{Words, Refused, Unfit, Unknown}
 use Rattle.lists.specs.declared.tally.Verdict.{Verdict}
 use Rattle.lists.specs.declared.tally.Verdict.the-variants.{Agrees, Differs, Unknown as NotKnown}
+use Rattle.numbers.specs.laws.Pick.{hit, skip}
 
 -- an operation past the table, and one in it
 pub tally-over : (t r : List ℕ) (op : ℕ) (v : Verdict) → 256 ≤ op → r ≡ bumped t 514 → r ≡ tallied t op v

@@ -7,10 +7,10 @@ use native.Mathlib.Omega.{arith}
 use borrow.Author.Tests.{le-leb, lt-leb, eq-eqb, ne-eqb}
 use lib.ListN.{length, getD}
 use lib.Ieee.{Float, nan}
-use Rattle.numbers.specs.Pick.{hit, skip}
 use Rattle.numbers.specs.Arr.{tab}
 use Rattle.numbers.specs.Bits.{bitsOf, wordAt}
-use Rattle.numbers.specs.BitsLaws.{word-past, put-short, length-put-word}
+use Rattle.numbers.specs.laws.Bits.{word-past, put-short, length-put-word}
+use Rattle.numbers.specs.laws.Pick.{hit, skip}
 use Rattle.lists.specs.Words.{wordOf, floatAt, floatsAt, wordPut, putTo, floatsPut, firstDiff}
 
 pub word-none : (bytes : List ℕ) (k : ℕ) → length bytes / 8 < k → 0 ≡ wordOf bytes k

@@ -12,9 +12,9 @@ use lib.ListN.{length, take, drop, getD, set, replicate, length-replicate}
 use lib.Seq.{take-all}
 use lib.Ieee.{Float, nan, neg, ofBits}
 use Rattle.numbers.specs.F64.{_⊕_, _⊗_, 0ᶠ}
-use Rattle.numbers.specs.Arr.{isDimension, dotFrom, dotOf, rowOf, fourOf, fourFrom, fourRows, tab, mvOf, setDiag, diagOf}
+use Rattle.numbers.specs.Arr.{isDimension, dotFrom, dotOf, rowOf, fourOf, tab, mvOf, setDiag, diagOf}
 use Rattle.numbers.specs.declared.arr.Four.{Four}
-use Rattle.numbers.specs.ArrLaws.{dot-step, dot-end, row-part, tab-getD, FilledTo, filled-start, filled-turn, filled-done, row-in, dimension-most}
+use Rattle.numbers.specs.laws.Arr.{dot-step, dot-end, row-part, tab-getD, FilledTo, filled-start, filled-turn, filled-done, row-in, dimension-most, fourFrom, fourRows}
 
 -- ---- the sum's loop, from its invariant `dotFrom s (drop i a) (drop i b) ≡ d`
 

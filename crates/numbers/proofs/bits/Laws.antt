@@ -14,8 +14,8 @@ use lib.Ieee.{Float, nan, inf, fin, binary64, isNan, ne, ofBits, toBits, nanBits
 use lib.Ieee.Compare.{differs-from-itself, nan-differs}
 use lib.Ieee.Bits.{nanBits-is, nanBits-above}
 use Rattle.numbers.specs.Bits.{leNumber, leBytes, wordAt, putBytes, putWord}
-use Rattle.numbers.specs.BitsLaws.{length-bytes}
-use Rattle.numbers.specs.Pick.{hit}
+use Rattle.numbers.specs.laws.Bits.{length-bytes}
+use Rattle.numbers.specs.laws.Pick.{hit}
 
 is-nan : (x : Float) → isNan x ≡ true → x ≡ nan
 unfolding isNan

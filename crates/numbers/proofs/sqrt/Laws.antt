@@ -5,8 +5,8 @@ use native.Mathlib.Nat.{le-of-suc-le-suc, mul-one, lt-of-lt-of-le, mul-pos, mul-
 use native.Mathlib.Omega.{arith}
 use lib.Arith.{digits-div}
 use lib.Pow.{pow-add, pow-pos, pow-mono}
-use Rattle.numbers.specs.Isqrt.{IsRoot}
-use Rattle.numbers.specs.Values.{pow-join, place-lt}
+use Rattle.numbers.specs.laws.Isqrt.{IsRoot}
+use Rattle.numbers.specs.laws.Values.{pow-join, place-lt}
 
 -- ---- `normalise`: digits moved up so far
 

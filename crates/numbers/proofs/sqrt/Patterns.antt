@@ -14,10 +14,10 @@ use lib.Ieee.Bits.{ofBits-toBits, toBits-lt, nanBits-is, nanBits-above, is-false
 use lib.Ieee.Compare.{differs-from-itself, nan-differs}
 use lib.Ieee.Exact.{odd-sign}
 use Rattle.numbers.specs.Sqrt.{rounded, sqrtOf}
-use Rattle.numbers.specs.Isqrt.{IsRoot}
-use Rattle.numbers.specs.Rounded.{SquareOfBits, Scaled, rounded-scaled, root-most, half-least, half-most}
-use Rattle.numbers.specs.Values.{pow-join}
-use Rattle.numbers.specs.Units.{root-of-value, no-root-of-value, fields-are, bits-are, units-bits}
+use Rattle.numbers.specs.laws.Isqrt.{IsRoot}
+use Rattle.numbers.specs.laws.Rounded.{SquareOfBits, Scaled, rounded-scaled, root-most, half-least, half-most}
+use Rattle.numbers.specs.laws.Values.{pow-join}
+use Rattle.numbers.specs.laws.Units.{root-of-value, no-root-of-value, fields-are, bits-are, units-bits}
 
 -- ---- a number that is q * 2 ^ k units, q above zero
 

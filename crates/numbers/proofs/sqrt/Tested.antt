@@ -8,8 +8,8 @@ use lib.Dec.{T, leb, ltb, leb→le, ltb→lt, nleb→lt}
 use mir.Facts.{and-yes}
 use lib.Ieee.{binary64, ofBits}
 use Rattle.numbers.specs.Sqrt.{sqrtOf}
-use Rattle.numbers.specs.Isqrt.{IsRoot}
-use Rattle.numbers.specs.Rounded.{SquareOfBits}
+use Rattle.numbers.specs.laws.Isqrt.{IsRoot}
+use Rattle.numbers.specs.laws.Rounded.{SquareOfBits}
 use Rattle.numbers.proofs.sqrt.Patterns.{root-bits}
 
 -- ---- `is_rounded`: q = high * 2 ^ 27 + low, and its products fit

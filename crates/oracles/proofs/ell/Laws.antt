@@ -11,7 +11,7 @@ use lib.Dec.{leb, ltb, eqb}
 use lib.ListN.{length, set, take, drop}
 use lib.Ieee.{Float}
 use Rattle.numbers.specs.F64.{_⊖_, _⊗_, _⊘_, 0ᶠ}
-use Rattle.numbers.specs.Pick.{pick, hit, skip}
+use Rattle.numbers.specs.Pick.{pick}
 use Rattle.numbers.specs.Arr.{tab, isDimension, mvOf, dotOf}
 use Rattle.numbers.specs.declared.cut.Answer.{Answer}
 use Rattle.numbers.specs.declared.cut.CutChoice.{CutChoice}
@@ -20,10 +20,11 @@ use Rattle.numbers.specs.EllCalc.{made, new-answer}
 use Rattle.numbers.specs.declared.refusal.Refusal.the-variants.{Dimension}
 use Rattle.numbers.specs.declared.ell_calc.NewEllCalc.{NewEllCalc}
 use Rattle.numbers.specs.declared.ell_calc.NewEllCalc.the-variants.{Made as MadeCalc, Refused as NoCalc}
-use Rattle.numbers.specs.ArrLaws.{length-tab}
+use Rattle.numbers.specs.laws.Arr.{length-tab, tab-entry}
+use Rattle.numbers.specs.laws.Pick.{hit, skip, is-hit, is-skip, both-ways, pick-cong, pick-grow, pick-map}
 use Rattle.oracles.specs.Matrix.{entry, at, grid}
-use Rattle.oracles.specs.MatrixLaws.{tab-entry, length-grid, grid-at, grid-cong}
-use Rattle.oracles.specs.LoopLaws.{is-hit, is-skip, both-ways, pick-cong, pick-grow, pick-map, MatrixOf, matrix-set, matrix-grid, swept-by, by-zero, by-left, by-past, by-turn, by-done, part-long, part-entry, part-turn}
+use Rattle.oracles.specs.laws.Matrix.{length-grid, grid-at, grid-cong}
+use Rattle.oracles.specs.laws.Loop.{MatrixOf, matrix-set, matrix-grid, swept-by, by-zero, by-left, by-past, by-turn, by-done, part-long, part-entry, part-turn}
 use Rattle.oracles.specs.EllCommon.{calcOf, is-tiny, is-success, centreOf}
 use Rattle.oracles.specs.declared.ell_common.CutStrategy.{CutStrategy}
 use Rattle.oracles.specs.declared.ell.Ell.{Ell}
@@ -31,7 +32,7 @@ use Rattle.oracles.specs.declared.ell.EllUpdate.{EllUpdate}
 use Rattle.oracles.specs.declared.ell.NewEll.{NewEll}
 use Rattle.oracles.specs.declared.ell.NewEll.the-variants.{Made, Refused as NotMade}
 use Rattle.oracles.specs.Ell.{EllBuffers, rank-one, new-ell-answer, with-tsq, ell-said, ell-updateOf}
-use Rattle.oracles.specs.EllLaws.{row-lowered, all-lowered, mirrored-to, row-mirrored, mirrored}
+use Rattle.oracles.specs.laws.Ell.{row-lowered, all-lowered, mirrored-to, row-mirrored, mirrored}
 
 -- ---- column i from row i
 

@@ -9,7 +9,7 @@ use lib.Dec.{leb, eqb}
 use lib.ListN.{length}
 use lib.Ieee.{Float}
 use Rattle.numbers.specs.Arr.{isDimension, mvOf, fills, dot-mv-into-answer, copy-from-answer}
-use Rattle.numbers.specs.ArrLaws.{accepted}
+use Rattle.numbers.specs.laws.Arr.{accepted}
 use Rattle.numbers.specs.declared.arr.Written.{Written}
 
 -- what the calls of numbers that fill a list leave in it, where they refuse nothing

@@ -14,7 +14,7 @@ use lib.Ieee.{Float, nan}
 use lib.ListN.{length, take, drop, set, length-drop, length-append, List·getD-append}
 use lib.Seq.{getD-at, getD-append-add, getD-take, getD-drop, getD-set-same, getD-set-other, set-at, set-getD, set-set, append-snoc, take-all, take-suc, length-take-le}
 use Rattle.numbers.specs.F64.{_⊕_, _⊖_, _⊗_, _⊘_, 0ᶠ, 1ᶠ}
-use Rattle.numbers.specs.Pick.{pick, hit, skip}
+use Rattle.numbers.specs.Pick.{pick}
 use Rattle.numbers.specs.Arr.{tab, isDimension}
 use Rattle.numbers.specs.EllCalc.{made, new-answer}
 use Rattle.numbers.specs.declared.refusal.Refusal.the-variants.{Dimension}
@@ -23,10 +23,11 @@ use Rattle.numbers.specs.declared.cut.CutChoice.{CutChoice}
 use Rattle.numbers.specs.declared.cut.CutStatus.the-variants.{NoEffect}
 use Rattle.numbers.specs.declared.ell_calc.NewEllCalc.{NewEllCalc}
 use Rattle.numbers.specs.declared.ell_calc.NewEllCalc.the-variants.{Made as MadeCalc, Refused as NoCalc}
-use Rattle.numbers.specs.ArrLaws.{length-tab, FilledTo, filled-turn}
+use Rattle.numbers.specs.laws.Arr.{length-tab, FilledTo, filled-turn, tab-entry, tab-ext, tab-cong}
+use Rattle.numbers.specs.laws.Pick.{hit, skip, is-hit, is-skip, both-ways, pick-cong, pick-map}
 use Rattle.oracles.specs.Matrix.{entry, at, total}
-use Rattle.oracles.specs.MatrixLaws.{total-turn, tab-entry, tab-ext, tab-cong, total-cong}
-use Rattle.oracles.specs.LoopLaws.{is-hit, is-skip, both-ways, pick-cong, pick-map, VectorOf, MatrixOf, swept, sweep-start, sweep-left, sweep-past, sweep-turn, swept-by, by-start, by-left, by-past, by-done, part-long, part-entry, part-turn}
+use Rattle.oracles.specs.laws.Matrix.{total-turn, total-cong}
+use Rattle.oracles.specs.laws.Loop.{VectorOf, MatrixOf, swept, sweep-start, sweep-left, sweep-past, sweep-turn, swept-by, by-start, by-left, by-past, by-done, part-long, part-entry, part-turn}
 use Rattle.oracles.specs.EllCommon.{calcOf, is-tiny, is-success, centreOf}
 use Rattle.oracles.specs.declared.ell_common.CutStrategy.{CutStrategy}
 use Rattle.oracles.specs.declared.ell_stable.EllStable.{EllStable}
@@ -35,7 +36,7 @@ use Rattle.oracles.specs.declared.ell_stable.NewEllStable.{NewEllStable}
 use Rattle.oracles.specs.declared.ell_stable.NewEllStable.the-variants.{Made, Refused as NotMade}
 use Rattle.oracles.specs.EllStable.{StableBuffers, new-ell-stable-answer, forward, inv-ml-gOf, inv-md-inv-ml-gOf, gg-tOf, omegaOf, lowered, backward, t-start, updated, with-tsq, stable-said, succeeded, stable-updateOf}
 use Rattle.oracles.proofs.ell_common.Laws.{lengths}
-use Rattle.oracles.specs.EllStableLaws.{solved-back, column-taken, row-updated, less-columns, t-after, factor-at, factors-after, forward-total, scaled, products, summed, columns-lowered, factors-lowered, backward-lowered}
+use Rattle.oracles.specs.laws.EllStable.{solved-back, column-taken, row-updated, less-columns, t-after, factor-at, factors-after, forward-total, scaled, products, summed, columns-lowered, factors-lowered, backward-lowered}
 
 -- ---- an entry from which a sum of products is taken, in place
 

@@ -12,13 +12,14 @@ use lib.Dec.{eqb}
 use lib.ListN.{length, set, length-set}
 use lib.Ieee.{Float}
 use Rattle.numbers.specs.F64.{_⊕_, _⊖_, _⊗_, _⊘_, 0ᶠ}
-use Rattle.numbers.specs.Pick.{pick, hit, skip}
+use Rattle.numbers.specs.Pick.{pick}
+use Rattle.numbers.specs.laws.Pick.{hit, skip}
 use Rattle.oracles.specs.Matrix.{at, total}
 use Rattle.oracles.specs.LdltMgr.{taken, reduced, stored, stops, stop-from, stopOf, filled, posOf, rowsOf, factorOf}
 use Rattle.oracles.specs.declared.ldlt_mgr.Factored.{Factored}
 use Rattle.oracles.specs.declared.ldlt_mgr.Factored.the-variants.{Definite, Stopped}
-use Rattle.oracles.specs.MatrixLaws.{place-in, at-set-same, at-set-other, total-cong}
-use Rattle.oracles.specs.LdltLaws.{LmiReads, FactoredTo, stored-low, stored-high, taken-total, length-filled, filled-in, filled-ext, filled-zero, filled-suc, stop-here, stop-later}
+use Rattle.oracles.specs.laws.Matrix.{place-in, at-set-same, at-set-other, total-cong}
+use Rattle.oracles.specs.laws.Ldlt.{LmiReads, FactoredTo, stored-low, stored-high, taken-total, length-filled, filled-in, filled-ext, filled-zero, filled-suc, stop-here, stop-later}
 
 -- ---- the entry
 

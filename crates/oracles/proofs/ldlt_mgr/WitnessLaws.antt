@@ -10,7 +10,7 @@ use lib.Ieee.{Float, nan, neg}
 use Rattle.numbers.specs.F64.{_⊕_, _⊗_, 0ᶠ, 1ᶠ}
 use Rattle.oracles.specs.Matrix.{entry, at, total}
 use Rattle.oracles.specs.LdltMgr.{witness-tail, witnessOf}
-use Rattle.oracles.specs.MatrixLaws.{total-cong, entry-mid, set-last}
+use Rattle.oracles.specs.laws.Matrix.{total-cong, entry-mid, set-last}
 
 module _ (m : ℕ) (storage : List Float) (end : ℕ) where
   length-tail : (n : ℕ) → length (witness-tail m storage end n) ≡ n

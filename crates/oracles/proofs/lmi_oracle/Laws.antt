@@ -14,12 +14,11 @@ use Rattle.numbers.specs.declared.cut.CutChoice.the-variants.{Single}
 use Rattle.numbers.specs.F64.{_⊗_, 1ᶠ}
 use Rattle.numbers.specs.Arr.{isDimension, tab}
 use Rattle.numbers.specs.declared.refusal.Refusal.the-variants.{Dimension, Length}
-use Rattle.numbers.specs.ArrLaws.{row-in, dimension-most}
-use Rattle.numbers.specs.Pick.{hit, skip}
+use Rattle.numbers.specs.laws.Arr.{row-in, dimension-most}
+use Rattle.numbers.specs.laws.Pick.{hit, skip, says-no, says-yes}
 use Rattle.oracles.specs.Matrix.{at}
 use Rattle.oracles.specs.LdltMgr.{isOrder, get-elem, posOf, rowsOf, witnessOf, quadOf}
-use Rattle.oracles.specs.LoopLaws.{says-no, says-yes}
-use Rattle.oracles.specs.LdltLaws.{LmiReads}
+use Rattle.oracles.specs.laws.Ldlt.{LmiReads}
 use Rattle.oracles.specs.LmiOracle.{LmiBuffers, matOf, lmi-gradient, lmi-assessOf, lmi-fits, lmi-answer}
 use Rattle.oracles.specs.declared.lmi_oracle.LmiVerdict.{LmiVerdict}
 use Rattle.oracles.specs.declared.lmi_oracle.LmiVerdict.the-variants.{Feasible, Cut, Refused}

@@ -14,23 +14,24 @@ use lib.IntN.{pos, natAbs}
 use lib.Signed.{leZ, ltZ}
 use lib.ListN.{length}
 use lib.Ieee.{Float}
-use Rattle.numbers.specs.Pick.{hit, skip}
 use Rattle.numbers.specs.Arr.{isDimension}
-use Rattle.numbers.specs.ArrLaws.{wrong-dimension, wrong-length, accepted, dimension-least, dimension-most}
+use Rattle.numbers.specs.laws.Arr.{wrong-dimension, wrong-length, accepted, dimension-least, dimension-most}
 use Rattle.numbers.specs.declared.refusal.Refusal.the-variants.{Dimension, Length, Band, Cursor}
-use Rattle.oracles.specs.RoundRobinLaws.{and-parts, legal-band, legal-at}
-use Rattle.oracles.specs.Scan.{isRows, table-fits, Scannable}
+use Rattle.numbers.specs.laws.Pick.{hit, skip, and-parts}
+use Rattle.oracles.specs.laws.RoundRobin.{legal-band, legal-at}
+use Rattle.oracles.specs.Scan.{isRows, table-fits}
 use Rattle.oracles.specs.LowpassOracle.{bands-fit, cursors-fit, refusedOf, assessOf, assess-feas-answer, optim-of, assess-optim-answer, offered}
 use Rattle.oracles.specs.Verdict.{feasible, refused, asked, is-accepted, is-feasible, judgement, Peak, FeasRule, OptimRule}
-use Rattle.oracles.specs.AssessLaws.{Spans, fit-of, Accepted, accepted-of}
-use Rattle.oracles.specs.CursorRule.{feas-rule, optim-rule, refused-unless}
-use Rattle.oracles.specs.OracleAfter.{gradient-length}
+use Rattle.oracles.specs.laws.Assess.{Spans, fit-of, Accepted, accepted-of}
+use Rattle.oracles.specs.laws.CursorRule.{feas-rule, optim-rule, refused-unless}
+use Rattle.oracles.specs.laws.OracleAfter.{gradient-length}
 use Rattle.oracles.specs.declared.round_robin.RoundRobin.{RoundRobin}
 use Rattle.oracles.specs.declared.lowpass_oracle.LowpassOracle.{LowpassOracle}
 use Rattle.oracles.specs.declared.lowpass_oracle.Verdict.{Verdict}
 use Rattle.oracles.specs.declared.lowpass_oracle.Verdict.the-variants.{Feasible, Cut, Refused}
 use Rattle.oracles.specs.declared.lowpass_oracle.Assessed.{Assessed}
 use Rattle.oracles.specs.declared.lowpass_oracle.AssessedOptim.{AssessedOptim}
+use Rattle.oracles.specs.laws.Scan.{Scannable}
 use Rattle.oracles.proofs.lowpass_oracle.Verdict as Y
 
 module _ (o : LowpassOracle) (n rows : ℕ) (table x grad : List Float) where

@@ -17,12 +17,12 @@ use mir.Val.{SFits}
 use mir.Facts.{toZ-ofZ}
 use Rattle.numbers.specs.F64.{0ᶠ}
 use Rattle.numbers.specs.declared.cut.CutChoice.{CutChoice}
-use Rattle.numbers.specs.ArrLaws.{dimension-least, dimension-most}
+use Rattle.numbers.specs.laws.Arr.{dimension-least, dimension-most}
+use Rattle.numbers.specs.laws.Pick.{and-parts}
 use Rattle.oracles.specs.RoundRobin.{moved}
-use Rattle.oracles.specs.RoundRobinLaws.{and-parts}
-use Rattle.oracles.specs.Scan.{−∞, none, scanOf, violated, band-beta, band-gradient, Scannable}
+use Rattle.oracles.specs.Scan.{−∞, none, scanOf, violated, band-beta, band-gradient}
 use Rattle.oracles.specs.LowpassOracle.{after-pass, after-stop, after-middle, assess-sign, assess-middle, assess-stop, assessOf}
-use Rattle.oracles.specs.ScanLaws.{broken-in}
+use Rattle.oracles.specs.laws.Scan.{broken-in, Scannable}
 use Rattle.oracles.specs.declared.round_robin.RoundRobin.{RoundRobin}
 use Rattle.oracles.specs.declared.scan.Upper.{Upper}
 use Rattle.oracles.specs.declared.scan.Upper.the-variants.{Absent, At}

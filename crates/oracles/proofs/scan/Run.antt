@@ -7,11 +7,12 @@ use native.Mathlib.Nat.{zero-add, add-zero, suc-add}
 use native.Mathlib.Omega.{arith}
 use lib.IntN.{ℤ, pos, predℤ, natAbs}
 use lib.Ieee.{Float, nan, inf, fin, lt}
-use Rattle.numbers.specs.Pick.{pick, hit, skip}
+use Rattle.numbers.specs.Pick.{pick}
+use Rattle.numbers.specs.laws.Pick.{hit, skip}
 use Rattle.oracles.specs.RoundRobin.{advanced}
-use Rattle.oracles.specs.RoundRobinLaws.{canon, adv-next}
+use Rattle.oracles.specs.laws.RoundRobin.{canon, adv-next}
 use Rattle.oracles.specs.Scan.{valueOf, isOver, scanFrom}
-use Rattle.oracles.specs.ScanRun.{limitOf, isBroken, testedBy, judgedOf, runOf}
+use Rattle.oracles.specs.laws.ScanRun.{limitOf, isBroken, testedBy, judgedOf, runOf}
 use Rattle.oracles.specs.declared.round_robin.RoundRobin.{RoundRobin}
 use Rattle.oracles.specs.declared.scan.Upper.{Upper}
 use Rattle.oracles.specs.declared.scan.Upper.the-variants.{Absent, At}

@@ -11,17 +11,18 @@ use lib.IntN.{ℤ, pos}
 use lib.Signed.{leZ}
 use lib.ListN.{length}
 use lib.Ieee.{Float}
-use Rattle.numbers.specs.Pick.{hit, skip}
 use Rattle.numbers.specs.Arr.{isDimension}
-use Rattle.numbers.specs.ArrLaws.{wrong-dimension, wrong-length, accepted}
+use Rattle.numbers.specs.laws.Arr.{wrong-dimension, wrong-length, accepted}
 use Rattle.numbers.specs.declared.refusal.Refusal.the-variants.{Dimension, Length, Band, Cursor}
-use Rattle.oracles.specs.RoundRobin.{isBand, isAt, moved, Legal}
-use Rattle.oracles.specs.RoundRobinLaws.{and-parts, legal-of}
-use Rattle.oracles.specs.Scan.{isRows, table-fits, band-fits, scanOf, scan-band-answer, Ready, Scannable}
+use Rattle.numbers.specs.laws.Pick.{hit, skip, and-parts}
+use Rattle.oracles.specs.RoundRobin.{isBand, isAt, moved}
+use Rattle.oracles.specs.laws.RoundRobin.{legal-of, Legal}
+use Rattle.oracles.specs.Scan.{isRows, table-fits, band-fits, scanOf, scan-band-answer}
 use Rattle.oracles.specs.declared.round_robin.RoundRobin.{RoundRobin}
 use Rattle.oracles.specs.declared.scan.Upper.{Upper}
 use Rattle.oracles.specs.declared.scan.Scan.{Scan}
 use Rattle.oracles.specs.declared.scan.ScanAnswer.the-variants.{Scanned, Refused}
+use Rattle.oracles.specs.laws.Scan.{Ready, Scannable}
 
 -- rows that the tests allow can be read
 pub ready-of : (n rows : ℕ) (table x : List Float) (c : RoundRobin) → Scannable n rows table x c → Ready n table x c

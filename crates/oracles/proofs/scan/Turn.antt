@@ -10,11 +10,11 @@ use lib.IntN.{ℤ, pos, predℤ, natAbs, _-ℤ_}
 use lib.Signed.{nonNeg}
 use lib.ListN.{length}
 use lib.Ieee.{Float}
-use Rattle.oracles.specs.RoundRobin.{moved, advanced, Legal}
-use Rattle.oracles.specs.RoundRobinLaws.{canon, legal-canon, adv-next}
-use Rattle.oracles.specs.ScanLaws.{NextRow, next-row, band-count}
-use Rattle.oracles.specs.Scan.{−∞, none, valueOf, scanFrom, scanOf, Ready}
-use Rattle.oracles.specs.ScanRun.{limitOf, isBroken, judgedOf, runOf, Going}
+use Rattle.oracles.specs.RoundRobin.{moved, advanced}
+use Rattle.oracles.specs.laws.RoundRobin.{canon, legal-canon, adv-next, Legal}
+use Rattle.oracles.specs.laws.Scan.{NextRow, next-row, band-count, Ready}
+use Rattle.oracles.specs.Scan.{−∞, none, valueOf, scanFrom, scanOf}
+use Rattle.oracles.specs.laws.ScanRun.{limitOf, isBroken, judgedOf, runOf, Going}
 use Rattle.oracles.specs.declared.round_robin.RoundRobin.{RoundRobin}
 use Rattle.oracles.specs.declared.scan.Upper.{Upper}
 use Rattle.oracles.specs.declared.scan.Upper.the-variants.{At}

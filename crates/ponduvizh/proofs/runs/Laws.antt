@@ -27,7 +27,7 @@ use Rattle.drivers.specs.declared.cutting_plane.FeasAnswer.the-variants.{Ended,
 use Rattle.drivers.specs.declared.cutting_plane.OptimAnswer.{OptimAnswer}
 use Rattle.drivers.specs.declared.cutting_plane.OptimAnswer.the-variants.{Ended as EndedOptim, Halted, Refused as RefusedOptim}
 use Rattle.ponduvizh.specs.ToldRuns.{RunNumbers, RunLeft, coded, fresh-cur, oracle-of, answer-of, marks-of, values-of, numbers-after, feas-said, optim-said, feas-left, optim-left-told, feas-told, optim-told}
-use Rattle.ponduvizh.specs.ToldRefused.{feas-told-refused, optim-told-refused}
+use Rattle.ponduvizh.specs.laws.ToldRefused.{feas-told-refused, optim-told-refused}
 
 pub state-law : (a : Answer) (o : LowpassOracle) (e : Ell) (answer : List ℕ) (marks : List ℤ) (values : List Float)
     → answer ≡ answer-of a o

@@ -5,8 +5,8 @@ use mathlib.Core.List.{[], _∷_}
 use Prim.Native.Nat.{ℕ}
 use lib.IntN.{ℤ}
 use lib.Ieee.{Float}
-use Rattle.numbers.specs.Pick.{hit, skip}
 use Rattle.numbers.specs.declared.refusal.Refusal.{Refusal}
+use Rattle.numbers.specs.laws.Pick.{hit, skip}
 use Rattle.oracles.specs.Numbered.{scan-number}
 use Rattle.oracles.specs.declared.round_robin.RoundRobin.{RoundRobin}
 use Rattle.oracles.specs.declared.scan.Violation.{Violation}

@@ -7,13 +7,12 @@ use native.Mathlib.Omega.{arith}
 use borrow.Author.Needs.{needs}
 use lib.Dec.{ltb}
 use lib.ListN.{getD}
-use Rattle.numbers.specs.Pick.{hit, skip}
 use Rattle.numbers.specs.Arr.{isDimension}
-use Rattle.numbers.specs.ArrLaws.{dimension-most}
+use Rattle.numbers.specs.laws.Arr.{dimension-most}
 use Rattle.numbers.specs.declared.refusal.Refusal.the-variants.{Dimension, Room}
-use Rattle.oracles.specs.LoopLaws.{says-no, says-yes}
+use Rattle.numbers.specs.laws.Pick.{hit, skip, says-no, says-yes}
 use Rattle.drivers.specs.Record.{is-fault, _⨾_, fields-of, record-fault, lengths-fault}
-use Rattle.drivers.specs.FaultLaws.{stops, passes}
+use Rattle.drivers.specs.laws.Fault.{stops, passes}
 use Rattle.drivers.specs.Answer.{has-point, outcome-fault, answer-room-fault, answer-fault}
 use Rattle.drivers.specs.declared.record.Fault.{Fault}
 use Rattle.drivers.specs.declared.record.Fault.the-variants.{Sound, At}

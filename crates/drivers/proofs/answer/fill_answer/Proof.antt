@@ -10,8 +10,9 @@ use lib.Dec.{eqb}
 use lib.ListN.{length, take, drop, getD, length-append, length-drop}
 use lib.Seq.{length-take-le}
 use lib.Ieee.{Float}
-use Rattle.numbers.specs.Pick.{pick, hit, skip}
-use Rattle.numbers.specs.ArrLaws.{length-tab}
+use Rattle.numbers.specs.Pick.{pick}
+use Rattle.numbers.specs.laws.Arr.{length-tab}
+use Rattle.numbers.specs.laws.Pick.{hit, skip}
 use Rattle.drivers.specs.Record.{halfAt, numbersAt, fronted}
 use Rattle.drivers.specs.Answer.{has-point, answerOf}
 use Rattle.drivers.specs.declared.answer.Answer.{Answer}

@@ -5,8 +5,9 @@ use mathlib.Core.List.{List}
 use Prim.Native.Nat.{ℕ}
 use borrow.Author.Tests.{eq-eqb, ne-eqb}
 use lib.Dec.{eqb}
-use Rattle.numbers.specs.Pick.{pick, hit, skip}
+use Rattle.numbers.specs.Pick.{pick}
 use Rattle.numbers.specs.declared.refusal.Refusal.the-variants.{Outcome}
+use Rattle.numbers.specs.laws.Pick.{hit, skip}
 use Rattle.drivers.specs.Record.{tagAt, startOf}
 use Rattle.drivers.specs.Answer.{outcome-fault}
 use Rattle.drivers.specs.declared.record.Fault.the-variants.{Sound, At}

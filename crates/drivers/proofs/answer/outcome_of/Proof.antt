@@ -1,9 +1,9 @@
 -- `drivers::answer::outcome_of` meets its contract. Assumes nothing.
 use mathlib.Core.Path.{refl}
 use borrow.Author.Tests.{eq-eqb, ne-eqb}
-use Rattle.numbers.specs.Pick.{hit, skip}
 use Rattle.drivers.proofs.answer.outcome_of.Statement.{statement}
 use Rattle.drivers.proofs.answer.outcome_of.Tie as tie
+use Rattle.numbers.specs.laws.Pick.{hit, skip}
 
 returns : tie.Need-returns
 returns c = hit _ _ _ _ (eq-eqb _ 0 (c .if1 .taken)) refl

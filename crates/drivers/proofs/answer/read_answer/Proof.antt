@@ -5,11 +5,11 @@ use Prim.Native.Nat.{ℕ}
 use borrow.Author.Needs.{needs}
 use lib.ListN.{length}
 use lib.Ieee.{Float}
-use Rattle.numbers.specs.ArrLaws.{dimension-most}
+use Rattle.numbers.specs.laws.Arr.{dimension-most}
 use Rattle.numbers.specs.declared.refusal.Refusal.{Refusal}
 use Rattle.drivers.specs.Record.{unless, no-places}
 use Rattle.drivers.specs.Answer.{answer-fault, answerOf, read-answer-answer}
-use Rattle.drivers.specs.AnswerLaws.{AnswerSound, answer-sound}
+use Rattle.drivers.specs.laws.Answer.{AnswerSound, answer-sound}
 use Rattle.drivers.specs.declared.record.Fault.{Fault}
 use Rattle.drivers.specs.declared.record.Fault.the-variants.{Sound, At}
 use Rattle.drivers.specs.declared.answer.Answer.{Answer}

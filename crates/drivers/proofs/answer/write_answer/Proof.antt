@@ -2,8 +2,8 @@
 use mathlib.Core.Path.{sym, ap, _∙_}
 use mathlib.Core.Bool.{true, false}
 use borrow.Author.Tests.{not-true, not-false}
-use Rattle.numbers.specs.ArrLaws.{dimension-most}
-use Rattle.oracles.specs.LoopLaws.{says-no, says-yes}
+use Rattle.numbers.specs.laws.Arr.{dimension-most}
+use Rattle.numbers.specs.laws.Pick.{says-no, says-yes}
 use Rattle.drivers.specs.Text.{over}
 use Rattle.drivers.proofs.answer.Writes.{long-found, bytes-none, long-none, wrong-n, wrong-point, no-room, written}
 use borrow.Author.Needs.{needs}

@@ -1,12 +1,11 @@
 -- `drivers::belongs::belongs` meets its contract. Assumes nothing.
 use mathlib.Core.Path.{_≡_, refl, sym, ap, _∙_}
 use borrow.Author.Needs.{needs}
-use Rattle.numbers.specs.Pick.{hit, skip}
-use Rattle.oracles.specs.LoopLaws.{says-no, says-yes}
 use Rattle.drivers.specs.Belongs.{said-by}
-use Rattle.drivers.specs.BelongsLaws.{no-dimension, no-length, belongs-said}
+use Rattle.drivers.specs.laws.Belongs.{no-dimension, no-length, belongs-said}
 use Rattle.drivers.proofs.belongs.belongs.Statement.{statement}
 use Rattle.drivers.proofs.belongs.belongs.Tie as tie
+use Rattle.numbers.specs.laws.Pick.{hit, skip, says-no, says-yes}
 
 is-dimension-requires : tie.Need-is-dimension-requires
 is-dimension-requires c κs = tt

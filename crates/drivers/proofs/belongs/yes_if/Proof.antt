@@ -1,8 +1,8 @@
 -- `drivers::belongs::yes_if` meets its contract. Assumes nothing.
 use mathlib.Core.Path.{refl}
-use Rattle.numbers.specs.Pick.{hit, skip}
 use Rattle.drivers.proofs.belongs.yes_if.Statement.{statement}
 use Rattle.drivers.proofs.belongs.yes_if.Tie as tie
+use Rattle.numbers.specs.laws.Pick.{hit, skip}
 
 returns : tie.Need-returns
 returns c = hit _ _ _ _ (c .if1 .taken) refl

@@ -5,8 +5,8 @@ use Prim.Native.Nat.{ℕ, _*_}
 use native.Mathlib.Nat.{mul-le-mul}
 use native.Mathlib.Omega.{arith}
 use lib.Dec.{eqb}
-use Rattle.numbers.specs.ArrLaws.{dimension-most}
-use Rattle.oracles.specs.LoopLaws.{says-no, says-yes}
+use Rattle.numbers.specs.laws.Arr.{dimension-most}
+use Rattle.numbers.specs.laws.Pick.{says-no, says-yes}
 use Rattle.drivers.proofs.cutting_plane.Checks.{no-dimension, no-length, no-band, no-cursor, all-right}
 use Rattle.drivers.proofs.cutting_plane.check.Statement.{statement}
 use Rattle.drivers.proofs.cutting_plane.check.Tie as tie

@@ -10,9 +10,9 @@ use lib.Dec.{leb}
 use lib.ListN.{length, getD, drop}
 use lib.Seq.{take-all}
 use lib.Ieee.{Float, nan}
-use Rattle.numbers.specs.Pick.{pick, hit, skip}
-use Rattle.numbers.specs.ArrLaws.{FilledTo, filled-start, filled-turn, tab-getD}
-use Rattle.oracles.specs.RoundRobinLaws.{and-parts}
+use Rattle.numbers.specs.Pick.{pick}
+use Rattle.numbers.specs.laws.Arr.{FilledTo, filled-start, filled-turn, tab-getD}
+use Rattle.numbers.specs.laws.Pick.{hit, skip, and-parts}
 use Rattle.drivers.specs.CuttingPlane.{kept}
 use Rattle.drivers.proofs.cutting_plane.keep.Statement.{statement}
 use Rattle.drivers.proofs.cutting_plane.keep.Tie as tie

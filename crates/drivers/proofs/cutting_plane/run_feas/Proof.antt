@@ -7,12 +7,12 @@ use lib.ListN.{length}
 use lib.Ieee.{Float}
 use Rattle.oracles.specs.declared.ell.Ell.{Ell}
 use Rattle.oracles.specs.declared.lowpass_oracle.LowpassOracle.{LowpassOracle}
-use Rattle.oracles.specs.LoopLaws.{says-no, says-yes}
 use Rattle.drivers.specs.CuttingPlane.{Space, feas-run}
 use Rattle.drivers.proofs.cutting_plane.Runs.{all-left, feas-more, feas-ends, feas-out}
 use borrow.Author.Needs.{needs}
 use Rattle.drivers.proofs.cutting_plane.run_feas.Statement.{statement}
 use Rattle.drivers.proofs.cutting_plane.run_feas.Tie as tie
+use Rattle.numbers.specs.laws.Pick.{says-no, says-yes}
 
 -- the space of the slices and the state
 abbrev at-hand : LowpassOracle → Ell → List Float → List Float → List Float → List Float → Space

@@ -6,7 +6,6 @@ use Prim.Native.Nat.{_≤_, _-_}
 use native.Mathlib.Omega.{arith}
 use lib.ListN.{length}
 use lib.Ieee.{Float}
-use Rattle.oracles.specs.LoopLaws.{says-no, says-yes}
 use Rattle.oracles.specs.declared.ell.Ell.{Ell}
 use Rattle.oracles.specs.declared.lowpass_oracle.LowpassOracle.{LowpassOracle}
 use Rattle.drivers.specs.CuttingPlane.{OptimSpace, leaves, optim-left, optim-run}
@@ -14,6 +13,7 @@ use Rattle.drivers.specs.declared.cutting_plane.OptimAnswer.{OptimAnswer
 use Rattle.drivers.proofs.cutting_plane.Runs.{all-left, optim-more, optim-ends, optim-out}
 use Rattle.drivers.proofs.cutting_plane.run_optim.Statement.{statement}
 use Rattle.drivers.proofs.cutting_plane.run_optim.Tie as tie
+use Rattle.numbers.specs.laws.Pick.{says-no, says-yes}
 
 -- the space of the slices and the state
 abbrev at-hand : LowpassOracle → Ell → Float → Bool → List Float → List Float → List Float → List Float → List Float → OptimSpace

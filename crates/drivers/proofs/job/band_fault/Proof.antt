@@ -3,8 +3,8 @@ use mathlib.Core.Path.{_≡_, ap, refl}
 use mathlib.Core.Bool.{Bool, true, false, not, _&&_}
 use Prim.Native.Nat.{ℕ}
 use lib.Dec.{leb}
-use Rattle.numbers.specs.Pick.{hit, skip}
 use Rattle.numbers.specs.declared.refusal.Refusal.the-variants.{Band}
+use Rattle.numbers.specs.laws.Pick.{hit, skip}
 use Rattle.oracles.specs.Scan.{isRows}
 use Rattle.drivers.specs.Record.{startOf}
 use Rattle.drivers.specs.Job.{band-fault}

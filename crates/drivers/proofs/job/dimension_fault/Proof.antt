@@ -4,9 +4,9 @@ use mathlib.Core.Bool.{Bool, true, false, not}
 use mathlib.Core.List.{List}
 use Prim.Native.Nat.{ℕ}
 use borrow.Author.Tests.{eq-eqb, ne-eqb}
-use Rattle.numbers.specs.Pick.{hit, skip}
 use Rattle.numbers.specs.Arr.{isDimension}
 use Rattle.numbers.specs.declared.refusal.Refusal.the-variants.{Dimension, Length}
+use Rattle.numbers.specs.laws.Pick.{hit, skip}
 use Rattle.drivers.specs.Record.{ruleLength, lengthAt, startOf, halfAt}
 use Rattle.drivers.specs.Job.{dimension-fault}
 use Rattle.drivers.specs.declared.record.Fault.the-variants.{Sound, At}

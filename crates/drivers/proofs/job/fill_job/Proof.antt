@@ -8,11 +8,11 @@ use native.Mathlib.Omega.{arith}
 use lib.ListN.{length, take, drop, getD}
 use lib.Seq.{length-take-le}
 use lib.Ieee.{Float}
-use Rattle.numbers.specs.ArrLaws.{length-tab}
+use Rattle.numbers.specs.laws.Arr.{length-tab}
 use Rattle.oracles.specs.declared.lowpass_oracle.LowpassOracle.{LowpassOracle}
 use Rattle.drivers.specs.Record.{halfAt, numberAt, numbersAt, fields-of, row-count, rows-of, fronted}
 use Rattle.drivers.specs.Job.{job-oracle, optionsOf, has-room, jobOf}
-use Rattle.drivers.specs.JobLaws.{room-parts}
+use Rattle.drivers.specs.laws.Job.{room-parts}
 use Rattle.drivers.specs.declared.cutting_plane.Options.{Options}
 use borrow.Author.Needs.{needs}
 use Rattle.drivers.proofs.job.fill_job.Statement.{statement}

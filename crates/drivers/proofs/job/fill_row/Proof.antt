@@ -8,12 +8,11 @@ use borrow.Rule.Slice.PartMut.{putMid}
 use lib.ListN.{length, take, drop, length-drop}
 use lib.Seq.{length-take-le, drop-drop}
 use lib.Ieee.{Float}
-use Rattle.numbers.specs.Pick.{hit, skip}
-use Rattle.oracles.specs.LoopLaws.{says-no, says-yes, is-hit}
 use Rattle.drivers.specs.Record.{contentOf, numbersAt, is-row, rows-in, row-filled}
 use borrow.Author.Needs.{needs}
 use Rattle.drivers.proofs.job.fill_row.Statement.{statement}
 use Rattle.drivers.proofs.job.fill_row.Tie as tie
+use Rattle.numbers.specs.laws.Pick.{hit, skip, says-no, says-yes, is-hit}
 
 module _ (bytes : List ℕ) (at n k : ℕ) (t : Bool) (e : t ≡ is-row bytes at) (y : not t ≡ false) where
   -- the row's place is in the table

@@ -8,10 +8,10 @@ use lib.ListN.{length, take, drop, length-append, length-drop, take-append-drop}
 use lib.Seq.{length-take-le, take-at, drop-at, drop-drop}
 use lib.Ieee.{Float}
 use Rattle.numbers.specs.Pick.{pick}
-use Rattle.numbers.specs.ArrLaws.{length-tab}
-use Rattle.oracles.specs.LoopLaws.{is-hit, is-skip, by-test}
+use Rattle.numbers.specs.laws.Arr.{length-tab}
+use Rattle.numbers.specs.laws.Pick.{is-hit, is-skip, by-test}
 use Rattle.drivers.specs.Record.{contentOf, numberAt, numbersAt, after, fields-of, is-row, rows-in, row-count, rows-of, fronted, row-filled}
-use Rattle.drivers.specs.RecordLaws.{fields-after, fields-start, fields-turn, fields-end, left-less}
+use Rattle.drivers.specs.laws.Record.{fields-after, fields-start, fields-turn, fields-end, left-less}
 use borrow.Author.Needs.{needs}
 use Rattle.drivers.proofs.job.fill_table.Statement.{statement}
 use Rattle.drivers.proofs.job.fill_table.Tie as tie

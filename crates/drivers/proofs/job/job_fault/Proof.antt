@@ -8,8 +8,8 @@ use Rattle.numbers.specs.Bits.{wordAt}
 use Rattle.oracles.specs.declared.lowpass_oracle.LowpassOracle.{LowpassOracle}
 use Rattle.drivers.specs.Record.{halfAt, fields-of, is-fault, _⨾_, record-fault, lengths-fault, row-count}
 use Rattle.drivers.specs.Job.{partOf, job-oracle, dimension-fault, band-fault, cursor-fault, room-fault, job-fault}
-use Rattle.drivers.specs.FaultLaws.{stops, passes}
-use Rattle.drivers.specs.JobLaws.{dimension-small, rows-small}
+use Rattle.drivers.specs.laws.Fault.{stops, passes}
+use Rattle.drivers.specs.laws.Job.{dimension-small, rows-small}
 use Rattle.drivers.specs.declared.record.Fault.{Fault}
 use borrow.Author.Needs.{needs}
 use Rattle.drivers.proofs.job.job_fault.Statement.{statement}

@@ -10,7 +10,7 @@ use denote.Enum.Declared.{tagOf}
 use Rattle.numbers.specs.declared.refusal.Refusal.{Refusal}
 use Rattle.drivers.specs.Record.{no-places}
 use Rattle.drivers.specs.Job.{job-fault, jobOf, read-job-answer}
-use Rattle.drivers.specs.JobLaws.{room-of}
+use Rattle.drivers.specs.laws.Job.{room-of}
 use Rattle.drivers.specs.declared.record.Fault.{Fault}
 use Rattle.drivers.specs.declared.record.Fault.the-variants.{Sound, At}
 use Rattle.drivers.specs.declared.job.Job.{Job}

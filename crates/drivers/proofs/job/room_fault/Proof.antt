@@ -3,10 +3,10 @@ use mathlib.Core.Path.{refl}
 use Prim.Native.Nat.{_≤_, _*_}
 use native.Mathlib.Nat.{mul-le-mul}
 use native.Mathlib.Omega.{arith}
-use Rattle.numbers.specs.Pick.{hit, skip}
 use Rattle.drivers.specs.Job.{room-fault}
 use Rattle.drivers.proofs.job.room_fault.Statement.{statement}
 use Rattle.drivers.proofs.job.room_fault.Tie as tie
+use Rattle.numbers.specs.laws.Pick.{hit, skip}
 
 mul-if1 : tie.Need-mul-if1
 mul-if1 c = let h : c .args .rows * c .args .n ≤ 1024 * 32 = mul-le-mul (c .pre .1) (c .pre .0) in record { fits = omega arith }

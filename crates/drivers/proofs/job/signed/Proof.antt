@@ -6,11 +6,11 @@ use borrow.Author.Tests.{lt-ltb, le-ltb}
 use lib.IntN.{pos, _-ℤ_}
 use mir.Syntax.{w32}
 use mir.Val.{toZ, ofZ}
-use Rattle.numbers.specs.Pick.{hit, skip}
 use Rattle.drivers.specs.Job.{signed}
 use Rattle.drivers.proofs.job.Signs.{half-fits, less-fits, reads-half, reads-less}
 use Rattle.drivers.proofs.job.signed.Statement.{statement}
 use Rattle.drivers.proofs.job.signed.Tie as tie
+use Rattle.numbers.specs.laws.Pick.{hit, skip}
 
 low : (h : ℕ) → h < 65536 → h < 32768 → toZ w32 h ≡ signed h
 unfolding signed

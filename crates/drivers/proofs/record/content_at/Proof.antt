@@ -1,10 +1,10 @@
 -- `drivers::record::content_at` meets its contract. Assumes nothing.
 use mathlib.Core.Path.{refl}
 use borrow.Author.Tests.{lt-ltb, le-ltb}
-use Rattle.numbers.specs.Pick.{hit, skip}
 use borrow.Author.Needs.{needs}
 use Rattle.drivers.proofs.record.content_at.Statement.{statement}
 use Rattle.drivers.proofs.record.content_at.Tie as tie
+use Rattle.numbers.specs.laws.Pick.{hit, skip}
 
 sub-if1 : tie.Need-sub-if1
 sub-if1 c = search needs

@@ -4,12 +4,12 @@ use mathlib.Core.List.{List}
 use Prim.Native.Nat.{ℕ, _<_, _≤_, _+_, _-_}
 use native.Mathlib.Omega.{arith}
 use lib.ListN.{length}
-use Rattle.oracles.specs.LoopLaws.{by-test}
 use Rattle.drivers.specs.Record.{is-row, rows-in, after, fields-of, row-count}
-use Rattle.drivers.specs.RecordLaws.{fields-after, fields-start, fields-turn, fields-end, after-past, left-less}
+use Rattle.drivers.specs.laws.Record.{fields-after, fields-start, fields-turn, fields-end, after-past, left-less}
 use borrow.Author.Needs.{needs}
 use Rattle.drivers.proofs.record.count_rows.Statement.{statement}
 use Rattle.drivers.proofs.record.count_rows.Tie as tie
+use Rattle.numbers.specs.laws.Pick.{by-test}
 
 one : (bytes : List ℕ) (at : ℕ) → rows-in bytes at ≤ 1
 one bytes at = by-test (λ z. z ≤ 1) (is-row bytes at) 1 0 (λ _. omega arith) (λ _. omega arith)

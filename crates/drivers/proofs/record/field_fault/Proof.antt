@@ -7,9 +7,8 @@ use native.Mathlib.Omega.{arith}
 use borrow.Author.Tests.{lt-ltb, le-ltb, leb-false}
 use lib.Dec.{leb, ltb, eqb}
 use lib.ListN.{length, getD}
-use Rattle.numbers.specs.Pick.{hit, skip}
 use Rattle.numbers.specs.declared.refusal.Refusal.the-variants.{CutShort, ForeignTag, RepeatedTag}
-use Rattle.oracles.specs.RoundRobinLaws.{or-parts}
+use Rattle.numbers.specs.laws.Pick.{hit, skip, or-parts}
 use Rattle.drivers.specs.Record.{ruleAt, indexOf, indexAt, lengthAt, field-fault}
 use Rattle.drivers.specs.declared.record.Rule.{Rule}
 use Rattle.drivers.specs.declared.record.Fault.the-variants.{Sound, At}

@@ -6,9 +6,9 @@ use Prim.Native.Nat.{ℕ, _<_, _≤_, _-_}
 use borrow.Author.Tests.{eq-eqb, ne-eqb}
 use lib.ListN.{length}
 use Rattle.numbers.specs.declared.refusal.Refusal.the-variants.{Length}
-use Rattle.oracles.specs.LoopLaws.{is-hit, is-skip}
+use Rattle.numbers.specs.laws.Pick.{is-hit, is-skip}
 use Rattle.drivers.specs.Record.{indexOf, indexAt, lengthAt, ruleLength, after, fields-of, lengths-fault}
-use Rattle.drivers.specs.RecordLaws.{fields-after, fields-start, fields-turn, fields-end, left-less}
+use Rattle.drivers.specs.laws.Record.{fields-after, fields-start, fields-turn, fields-end, left-less}
 use Rattle.drivers.specs.declared.record.Fault.{Fault}
 use Rattle.drivers.specs.declared.record.Fault.the-variants.{Sound, At}
 use borrow.Author.Needs.{needs}

@@ -8,9 +8,8 @@ use native.Mathlib.Nat.{eq-or-lt-of-le}
 use native.Mathlib.Omega.{arith}
 use lib.Dec.{eqb}
 use lib.ListN.{getD}
-use Rattle.numbers.specs.Pick.{hit, skip}
 use Rattle.numbers.specs.declared.refusal.Refusal.the-variants.{MissingTag}
-use Rattle.oracles.specs.ScanLaws.{some-row-holds, none-some-row}
+use Rattle.numbers.specs.laws.Pick.{hit, skip, some-holds, none-some}
 use Rattle.drivers.specs.Record.{ruleAt, is-missing, missing-fault}
 use Rattle.drivers.specs.declared.record.Rule.{Rule}
 use Rattle.drivers.specs.declared.record.Fault.the-variants.{Sound, At}
@@ -21,7 +20,7 @@ use Rattle.drivers.proofs.record.missing_fault.Tie as tie
 module _ (end first past : ℕ) (places : List ℕ) (i : ℕ) (a : first ≤ i) where
   found : (r : Rule) → r ≡ ruleAt i → i < past → (eqb (getD places i 0) 0 && not (r .optional)) ≡ true → At MissingTag end ≡ missing-fault end first past places
   unfolding missing-fault
-  found r e b t = hit _ _ _ _ (some-row-holds (is-missing places) first (past - first) i a (omega arith) (rw (← e) t)) refl
+  found r e b t = hit _ _ _ _ (some-holds (is-missing places) first (past - first) i a (omega arith) (rw (← e) t)) refl
 
   module _ (h : (j : ℕ) → first ≤ j → j < i → is-missing places j ≡ false) where
     one-more : (r : Rule) → r ≡ ruleAt i → (eqb (getD places i 0) 0 && not (r .optional)) ≡ false → (j : ℕ) → first ≤ j → j < i + 1 → is-missing places j ≡ false
@@ -30,7 +29,7 @@ module _ (end first past : ℕ) (places : List ℕ) (i : ℕ) (a : first ≤ i) 
 
     none : past ≤ i → Sound ≡ missing-fault end first past places
     unfolding missing-fault
-    none l = skip _ _ _ _ (none-some-row (is-missing places) first (past - first) (λ j b m. h j b (omega arith))) refl
+    none l = skip _ _ _ _ (none-some (is-missing places) first (past - first) (λ j b m. h j b (omega arith))) refl
 
 abbrev Inv-loop : tie.InvT-loop
 Inv-loop end first past places i₀ i = (first ≤ i) × (i ≤ past) × ((j : ℕ) → first ≤ j → j < i → is-missing places j ≡ false)

@@ -4,11 +4,11 @@ use mathlib.Core.List.{List}
 use Prim.Native.Nat.{ℕ, _<_, _≤_, _+_, _-_}
 use borrow.Author.Tests.{lt-ltb, le-ltb}
 use lib.ListN.{length}
-use Rattle.numbers.specs.Pick.{hit, skip}
 use Rattle.drivers.specs.Record.{lengthAt, after}
 use borrow.Author.Needs.{needs}
 use Rattle.drivers.proofs.record.next_field.Statement.{statement}
 use Rattle.drivers.proofs.record.next_field.Tie as tie
+use Rattle.numbers.specs.laws.Pick.{hit, skip}
 
 cut : (bytes : List ℕ) (at l : ℕ) → l ≡ lengthAt bytes at → length bytes - at < 3 + l → length bytes ≡ after bytes at
 unfolding after

@@ -1,7 +1,7 @@
 -- `drivers::record::numbers_into` meets its contract. The invariant: the numbers below i are written. Assumes nothing.
 use Prim.Native.Nat.{_-_}
 use lib.ListN.{length}
-use Rattle.numbers.specs.ArrLaws.{FilledTo, filled-start, filled-turn, filled-done}
+use Rattle.numbers.specs.laws.Arr.{FilledTo, filled-start, filled-turn, filled-done}
 use Rattle.drivers.specs.Record.{numberAt}
 use borrow.Author.Needs.{needs}
 use Rattle.drivers.proofs.record.numbers_into.Statement.{statement}

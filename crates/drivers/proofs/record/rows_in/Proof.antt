@@ -1,9 +1,9 @@
 -- `drivers::record::rows_in` meets its contract. Assumes nothing.
 use mathlib.Core.Path.{refl, sym, _∙_}
-use Rattle.numbers.specs.Pick.{hit, skip}
 use borrow.Author.Needs.{needs}
 use Rattle.drivers.proofs.record.rows_in.Statement.{statement}
 use Rattle.drivers.proofs.record.rows_in.Tie as tie
+use Rattle.numbers.specs.laws.Pick.{hit, skip}
 
 is-row-requires : tie.Need-is-row-requires
 is-row-requires c κs = search needs

@@ -3,7 +3,7 @@ use mathlib.Core.Path.{_≡_, sym}
 use Prim.Native.Nat.{ℕ, _≤_}
 use lib.ListN.{List·getD-eq-default}
 use Rattle.drivers.specs.Record.{once, rules, ruleAt}
-use Rattle.drivers.specs.RecordLaws.{rule-within}
+use Rattle.drivers.specs.laws.Record.{rule-within}
 use borrow.Author.Needs.{needs}
 use Rattle.drivers.proofs.record.rule_at.Statement.{statement}
 use Rattle.drivers.proofs.record.rule_at.Tie as tie

@@ -3,7 +3,7 @@ use mathlib.Core.Path.{_≡_}
 use Prim.Native.Nat.{_≤_, _+_, _-_}
 use lib.ListN.{drop}
 use Rattle.drivers.specs.Record.{rules, indexIn, indexOf}
-use Rattle.drivers.specs.RecordLaws.{rule-within, index-start, index-found, index-turn, index-end}
+use Rattle.drivers.specs.laws.Record.{rule-within, index-start, index-found, index-turn, index-end}
 use borrow.Author.Needs.{needs}
 use Rattle.drivers.proofs.record.rule_index.Statement.{statement}
 use Rattle.drivers.proofs.record.rule_index.Tie as tie

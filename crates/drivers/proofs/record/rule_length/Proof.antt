@@ -4,7 +4,7 @@ use Prim.Native.Nat.{ℕ, _≤_, _+_, _*_, _^_}
 use native.Mathlib.Nat.{mul-le-mul, pow-le-pow-left, pow-le-pow-right}
 use native.Mathlib.Omega.{arith}
 use Rattle.drivers.specs.Record.{ruleAt, ruleLength}
-use Rattle.drivers.specs.RecordLaws.{rule-small}
+use Rattle.drivers.specs.laws.Record.{rule-small}
 use Rattle.drivers.specs.declared.record.Rule.{Rule}
 use borrow.Author.Needs.{needs}
 use Rattle.drivers.proofs.record.rule_length.Statement.{statement}

@@ -8,10 +8,9 @@ use borrow.Author.Tests.{leb-false}
 use lib.Dec.{leb, ltb}
 use lib.ListN.{length, set}
 use Rattle.numbers.specs.Pick.{pick}
-use Rattle.oracles.specs.LoopLaws.{is-hit, is-skip}
-use Rattle.oracles.specs.RoundRobinLaws.{or-parts}
+use Rattle.numbers.specs.laws.Pick.{is-hit, is-skip, or-parts}
 use Rattle.drivers.specs.Record.{indexOf, indexAt, contentOf, after, is-fault, field-fault, fields-of, walk-of}
-use Rattle.drivers.specs.RecordLaws.{fields-after, fields-start, fields-turn, fields-end, left-less}
+use Rattle.drivers.specs.laws.Record.{fields-after, fields-start, fields-turn, fields-end, left-less}
 use Rattle.drivers.specs.declared.record.Fault.{Fault}
 use Rattle.drivers.specs.declared.record.Fault.the-variants.{Sound}
 use borrow.Author.Needs.{needs}

@@ -2,10 +2,10 @@
 use mathlib.Core.Path.{refl}
 use borrow.Author.Needs.{needs}
 use borrow.Author.Tests.{lt-ltb, le-ltb}
-use Rattle.numbers.specs.Pick.{hit, skip}
 use Rattle.drivers.specs.Text.{digitChar}
 use Rattle.drivers.proofs.text.digit_char.Statement.{statement}
 use Rattle.drivers.proofs.text.digit_char.Tie as tie
+use Rattle.numbers.specs.laws.Pick.{hit, skip}
 
 cast-result : tie.Need-cast-result
 cast-result c = search needs

@@ -3,7 +3,7 @@ use Prim.Native.Nat.{_≤_}
 use native.Mathlib.Nat.{mod-lt}
 use native.Mathlib.Omega.{arith}
 use borrow.Author.Needs.{needs}
-use Rattle.drivers.specs.TextLaws.{put-not, length-digits}
+use Rattle.drivers.specs.laws.Text.{put-not, length-digits}
 use Rattle.drivers.proofs.text.Turns.{Down, down-start, down-turn, down-done}
 use Rattle.drivers.proofs.text.put_digits.Statement.{statement}
 use Rattle.drivers.proofs.text.put_digits.Tie as tie

@@ -3,7 +3,7 @@ use Prim.Native.Nat.{_-_}
 use native.Mathlib.Omega.{arith}
 use borrow.Author.Needs.{needs}
 use lib.ListN.{length}
-use Rattle.drivers.specs.TextLaws.{put-not}
+use Rattle.drivers.specs.laws.Text.{put-not}
 use Rattle.drivers.proofs.text.Turns.{Copied, copied-start, copied-turn, copied-done}
 use Rattle.drivers.proofs.text.put_text.Statement.{statement}
 use Rattle.drivers.proofs.text.put_text.Tie as tie

@@ -5,7 +5,6 @@ use mathlib.Core.List.{List}
 use borrow.Author.Tests.{lt-ltb, le-ltb}
 use lib.ListN.{length}
 use lib.Ieee.{Float}
-use Rattle.numbers.specs.Pick.{hit, skip}
 use Rattle.drivers.specs.declared.job.JobAnswer.{JobAnswer}
 use Rattle.drivers.specs.declared.trace.Text.{Text}
 use Rattle.drivers.specs.declared.trace.Opened.{Opened}
@@ -13,6 +12,7 @@ use Rattle.drivers.specs.Trace.{opened-over, opened-read, with-slices, o
 use borrow.Author.Needs.{needs}
 use Rattle.drivers.proofs.trace.open.Statement.{statement}
 use Rattle.drivers.proofs.trace.open.Tie as tie
+use Rattle.numbers.specs.laws.Pick.{hit, skip}
 
 -- what is opened by what was read
 from-read : (out : List ℕ) (j q : JobAnswer × List Float × List Float × List Float) (r : Opened × List ℕ) → r ≡ opened-read out (j .0) → j ≡ q

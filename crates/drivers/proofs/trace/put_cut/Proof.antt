@@ -1,7 +1,7 @@
 -- `drivers::trace::put_cut` meets its contract. Assumes nothing.
 use mathlib.Core.Path.{ap}
 use Rattle.drivers.specs.Trace.{side-word}
-use Rattle.drivers.specs.TextLaws.{put-then, put-on, put-one, put-same}
+use Rattle.drivers.specs.laws.Text.{put-then, put-on, put-one, put-same}
 use borrow.Author.Needs.{needs}
 use Rattle.drivers.proofs.trace.put_cut.Statement.{statement}
 use Rattle.drivers.proofs.trace.put_cut.Tie as tie

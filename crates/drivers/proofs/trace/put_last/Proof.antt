@@ -1,5 +1,5 @@
 -- `drivers::trace::put_last` meets its contract. Assumes nothing.
-use Rattle.drivers.specs.TextLaws.{put-then, put-one}
+use Rattle.drivers.specs.laws.Text.{put-then, put-one}
 use borrow.Author.Needs.{needs}
 use Rattle.drivers.proofs.trace.put_last.Statement.{statement}
 use Rattle.drivers.proofs.trace.put_last.Tie as tie

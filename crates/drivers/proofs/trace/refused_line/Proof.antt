@@ -1,6 +1,6 @@
 -- `drivers::trace::refused_line` meets its contract. Assumes nothing.
 use native.Mathlib.Omega.{arith}
-use Rattle.drivers.specs.TraceLaws.{not-printed-in, printed-in, refused-most}
+use Rattle.drivers.specs.laws.Trace.{not-printed-in, printed-in, refused-most}
 use borrow.Author.Needs.{needs}
 use Rattle.drivers.proofs.trace.refused_line.Statement.{statement}
 use Rattle.drivers.proofs.trace.refused_line.Tie as tie

@@ -2,7 +2,7 @@
 use Prim.Native.Nat.{_+_, _-_}
 use native.Mathlib.Omega.{arith}
 use lib.ListN.{length}
-use Rattle.numbers.specs.ArrLaws.{FilledTo, filled-start, filled-turn, filled-done}
+use Rattle.numbers.specs.laws.Arr.{FilledTo, filled-start, filled-turn, filled-done}
 use Rattle.lists.specs.Words.{floatAt}
 use Rattle.lists.proofs.words.Laws.{floats-out, floats-in}
 use borrow.Author.Needs.{needs}

@@ -4,7 +4,7 @@ use Prim.Native.Nat.{_-_}
 use borrow.Author.Needs.{needs}
 use lib.ListN.{length, getD}
 use lib.Ieee.{nan}
-use Rattle.numbers.specs.ArrLaws.{FilledTo, filled-start, filled-turn, filled-done}
+use Rattle.numbers.specs.laws.Arr.{FilledTo, filled-start, filled-turn, filled-done}
 use Rattle.numbers.proofs.arr.Laws.{copied}
 use Rattle.numbers.proofs.arr.copy_all.Statement.{statement}
 use Rattle.numbers.proofs.arr.copy_all.Tie as tie

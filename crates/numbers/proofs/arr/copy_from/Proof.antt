@@ -1,7 +1,7 @@
 -- `numbers::arr::copy_from` meets its contract. Assumes nothing.
 use borrow.Author.Tests.{ne-eqb, eq-eqb}
 use borrow.Author.Needs.{needs}
-use Rattle.numbers.specs.ArrLaws.{wrong-dimension, wrong-length, accepted}
+use Rattle.numbers.specs.laws.Arr.{wrong-dimension, wrong-length, accepted}
 use Rattle.numbers.proofs.arr.Laws.{no-dimension, a-dimension, no-left, no-right, both}
 use Rattle.numbers.proofs.arr.copy_from.Statement.{statement}
 use Rattle.numbers.proofs.arr.copy_from.Tie as tie

@@ -2,7 +2,7 @@
 use mathlib.Core.Path.{ap, _∙_}
 use borrow.Author.Tests.{ne-eqb, eq-eqb}
 use borrow.Author.Needs.{needs}
-use Rattle.numbers.specs.ArrLaws.{wrong-dimension, wrong-length, accepted}
+use Rattle.numbers.specs.laws.Arr.{wrong-dimension, wrong-length, accepted}
 use Rattle.numbers.specs.declared.arr.Number.the-variants.{Value}
 use Rattle.numbers.proofs.arr.Laws.{no-dimension, a-dimension, no-left, no-right, both}
 use Rattle.numbers.proofs.arr.dot.Statement.{statement}

@@ -2,7 +2,7 @@
 use native.Mathlib.Omega.{arith}
 use borrow.Author.Tests.{ne-eqb, eq-eqb}
 use borrow.Author.Needs.{needs}
-use Rattle.numbers.specs.ArrLaws.{dimension-least, dimension-most, wrong-dimension, wrong-length, accepted}
+use Rattle.numbers.specs.laws.Arr.{dimension-least, dimension-most, wrong-dimension, wrong-length, accepted}
 use Rattle.numbers.proofs.arr.Laws.{no-dimension, a-dimension, small, square, no-left, no-right, both}
 use Rattle.numbers.proofs.arr.dot_mv_into.Statement.{statement}
 use Rattle.numbers.proofs.arr.dot_mv_into.Tie as tie

@@ -6,7 +6,7 @@ use borrow.Author.Tests.{ne-eqb, eq-eqb}
 use borrow.Author.Needs.{needs}
 use Rattle.numbers.specs.F64.{1ᶠ}
 use Rattle.numbers.specs.Arr.{diagOf}
-use Rattle.numbers.specs.ArrLaws.{wrong-dimension, wrong-length, accepted}
+use Rattle.numbers.specs.laws.Arr.{wrong-dimension, wrong-length, accepted}
 use Rattle.numbers.proofs.arr.Laws.{same-long, take-replicate, no-dimension, a-dimension, small, square}
 use Rattle.numbers.proofs.arr.eye.Statement.{statement}
 use Rattle.numbers.proofs.arr.eye.Tie as tie

@@ -4,7 +4,7 @@ use Prim.Native.Nat.{_-_}
 use borrow.Author.Needs.{needs}
 use lib.ListN.{length}
 use Rattle.numbers.specs.F64.{0ᶠ}
-use Rattle.numbers.specs.ArrLaws.{FilledTo, filled-start, filled-turn, filled-done, tab-replicate}
+use Rattle.numbers.specs.laws.Arr.{FilledTo, filled-start, filled-turn, filled-done, tab-replicate}
 use Rattle.numbers.proofs.arr.fill_zero.Statement.{statement}
 use Rattle.numbers.proofs.arr.fill_zero.Tie as tie
 

@@ -2,7 +2,7 @@
 use native.Mathlib.Omega.{arith}
 use borrow.Author.Tests.{ne-eqb, eq-eqb}
 use borrow.Author.Needs.{needs}
-use Rattle.numbers.specs.ArrLaws.{wrong-dimension, wrong-length, accepted}
+use Rattle.numbers.specs.laws.Arr.{wrong-dimension, wrong-length, accepted}
 use Rattle.numbers.proofs.arr.Laws.{no-dimension, a-dimension, small, square, no-left, no-right, both}
 use Rattle.numbers.proofs.arr.from_diag.Statement.{statement}
 use Rattle.numbers.proofs.arr.from_diag.Tie as tie

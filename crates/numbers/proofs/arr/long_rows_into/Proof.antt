@@ -5,7 +5,7 @@ use native.Mathlib.Omega.{arith}
 use lib.ListN.{length-set}
 use Rattle.numbers.specs.F64.{0ᶠ}
 use Rattle.numbers.specs.Arr.{dotFrom, rowOf}
-use Rattle.numbers.specs.ArrLaws.{row-in, FilledTo, filled-start, filled-turn, filled-four, filled-done}
+use Rattle.numbers.specs.laws.Arr.{row-in, FilledTo, filled-start, filled-turn, filled-four, filled-done}
 use Rattle.numbers.specs.declared.arr.Four.{Four}
 use Rattle.numbers.proofs.arr.Laws.{block-in, multiplied}
 use borrow.Author.Needs.{needs}

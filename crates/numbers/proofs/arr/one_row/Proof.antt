@@ -4,7 +4,7 @@ use mathlib.Core.List.{List}
 use lib.Ieee.{Float}
 use Rattle.numbers.specs.F64.{0ᶠ}
 use Rattle.numbers.specs.Arr.{dotFrom}
-use Rattle.numbers.specs.ArrLaws.{row-part}
+use Rattle.numbers.specs.laws.Arr.{row-part}
 use borrow.Author.Needs.{needs}
 use Rattle.numbers.proofs.arr.one_row.Statement.{statement}
 use Rattle.numbers.proofs.arr.one_row.Tie as tie

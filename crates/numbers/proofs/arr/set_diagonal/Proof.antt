@@ -4,7 +4,7 @@ use Prim.Native.Nat.{_≤_, _-_}
 use native.Mathlib.Omega.{arith}
 use borrow.Author.Needs.{needs}
 use lib.ListN.{length}
-use Rattle.numbers.specs.ArrLaws.{row-in}
+use Rattle.numbers.specs.laws.Arr.{row-in}
 use Rattle.numbers.specs.Arr.{setDiag}
 use Rattle.numbers.proofs.arr.Laws.{row-small, diagonal-turn, diagonal-done}
 use Rattle.numbers.proofs.arr.set_diagonal.Statement.{statement}

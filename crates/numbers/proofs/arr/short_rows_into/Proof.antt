@@ -1,7 +1,7 @@
 -- `numbers::arr::short_rows_into` meets its contract. Assumes nothing.
 use native.Mathlib.Omega.{arith}
 use lib.ListN.{length-set}
-use Rattle.numbers.specs.ArrLaws.{row-in}
+use Rattle.numbers.specs.laws.Arr.{row-in}
 use Rattle.numbers.proofs.arr.Laws.{short-all-two, short-all-three}
 use borrow.Author.Needs.{needs}
 use Rattle.numbers.proofs.arr.short_rows_into.Statement.{statement}

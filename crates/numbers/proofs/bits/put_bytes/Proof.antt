@@ -4,7 +4,7 @@ use Prim.Native.Nat.{ℕ, _-_, _≤_}
 use native.Mathlib.Omega.{arith}
 use lib.ListN.{length}
 use Rattle.numbers.specs.Bits.{putBytes}
-use Rattle.numbers.specs.BitsLaws.{length-put}
+use Rattle.numbers.specs.laws.Bits.{length-put}
 use Rattle.numbers.proofs.bits.Laws.{shift, put-turn, put-none}
 use borrow.Author.Needs.{needs}
 use Rattle.numbers.proofs.bits.put_bytes.Statement.{statement}

@@ -1,6 +1,6 @@
 -- `numbers::bits::put_word` meets its contract.
 use borrow.Author.Needs.{needs}
-use Rattle.numbers.specs.BitsLaws.{put-short}
+use Rattle.numbers.specs.laws.Bits.{put-short}
 use Rattle.numbers.proofs.bits.Laws.{put-whole}
 use Rattle.numbers.proofs.bits.put_word.Statement.{statement}
 use Rattle.numbers.proofs.bits.put_word.Tie as tie

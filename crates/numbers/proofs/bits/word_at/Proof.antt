@@ -4,7 +4,7 @@ use mathlib.Core.Path.{refl, _∙_}
 use Prim.Native.Nat.{_+_, _-_}
 use native.Mathlib.Omega.{arith}
 use lib.ListN.{length}
-use Rattle.numbers.specs.BitsLaws.{word-past}
+use Rattle.numbers.specs.laws.Bits.{word-past}
 use Rattle.numbers.proofs.bits.Laws.{word-short, word-whole}
 use Rattle.numbers.proofs.bits.word_at.Statement.{statement}
 use Rattle.numbers.proofs.bits.word_at.Tie as tie

@@ -1,6 +1,6 @@
 -- `numbers::sqrt::halved` meets its contract. Assumes nothing.
 use native.Mathlib.Omega.{arith}
-use Rattle.numbers.specs.Rounded.{even-exponent, odd-exponent}
+use Rattle.numbers.specs.laws.Rounded.{even-exponent, odd-exponent}
 use borrow.Author.Needs.{needs}
 use Rattle.numbers.proofs.sqrt.halved.Statement.{statement}
 use Rattle.numbers.proofs.sqrt.halved.Tie as tie

@@ -4,7 +4,7 @@ use lib.Dec.{T}
 use lib.Ieee.{Float, binary64, fits}
 use lib.Ieee.Positive.{positive}
 use Rattle.numbers.specs.Sqrt.{sqrtOf, NearestRoot}
-use Rattle.numbers.specs.Nearest.{sqrt-nearest}
+use Rattle.numbers.specs.laws.Nearest.{sqrt-nearest}
 use Rattle.numbers.proofs.sqrt.Patterns.{nan-root, not-a-nan, negative-root, positive-root, normal-bits, positive-bits, other-root}
 use Rattle.numbers.proofs.sqrt.sqrt.Statement.{statement}
 use Rattle.numbers.proofs.sqrt.sqrt.Tie as tie

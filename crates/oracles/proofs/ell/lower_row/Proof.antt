@@ -7,10 +7,11 @@ use borrow.Author.Tests.{le-leb, lt-leb}
 use lib.Dec.{leb}
 use lib.ListN.{length}
 use Rattle.numbers.specs.F64.{_⊖_, _⊗_}
-use Rattle.numbers.specs.Pick.{pick, hit, skip}
+use Rattle.numbers.specs.Pick.{pick}
+use Rattle.numbers.specs.laws.Pick.{hit, skip}
 use Rattle.oracles.specs.Matrix.{entry}
-use Rattle.oracles.specs.LoopLaws.{VectorOf, swept, sweep-zero, sweep-turn, sweep-left, sweep-done}
-use Rattle.oracles.specs.EllLaws.{row-lowered}
+use Rattle.oracles.specs.laws.Loop.{VectorOf, swept, sweep-zero, sweep-turn, sweep-left, sweep-done}
+use Rattle.oracles.specs.laws.Ell.{row-lowered}
 use Rattle.oracles.proofs.ell.lower_row.Statement.{statement}
 use Rattle.oracles.proofs.ell.lower_row.Tie as tie
 

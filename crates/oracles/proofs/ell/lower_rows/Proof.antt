@@ -4,9 +4,9 @@ use Prim.Native.Nat.{_-_, _+_, _*_, _≤_}
 use native.Mathlib.Omega.{arith}
 use borrow.Author.Needs.{needs}
 use lib.ListN.{length, take, drop}
-use Rattle.numbers.specs.ArrLaws.{row-in}
-use Rattle.oracles.specs.MatrixLaws.{row-small}
-use Rattle.oracles.specs.LoopLaws.{MatrixOf}
+use Rattle.numbers.specs.laws.Arr.{row-in}
+use Rattle.oracles.specs.laws.Matrix.{row-small}
+use Rattle.oracles.specs.laws.Loop.{MatrixOf}
 use Rattle.oracles.proofs.ell.Laws.{lowered-to, rows-start, row-long, rows-turn, rows-done}
 use Rattle.oracles.proofs.ell.lower_rows.Statement.{statement}
 use Rattle.oracles.proofs.ell.lower_rows.Tie as tie

@@ -1,7 +1,7 @@
 -- `oracles::ell::mirror` meets its contract. The invariant: the columns below i are taken from the rows. Assumes nothing.
 use Prim.Native.Nat.{_-_, _≤_}
 use borrow.Author.Needs.{needs}
-use Rattle.oracles.specs.LoopLaws.{MatrixOf}
+use Rattle.oracles.specs.laws.Loop.{MatrixOf}
 use Rattle.oracles.proofs.ell.Laws.{from-rows, columns-start, columns-turn, columns-done}
 use Rattle.oracles.proofs.ell.mirror.Statement.{statement}
 use Rattle.oracles.proofs.ell.mirror.Tie as tie

@@ -2,9 +2,9 @@
 use Prim.Native.Nat.{_-_, _≤_}
 use native.Mathlib.Omega.{arith}
 use borrow.Author.Needs.{needs}
-use Rattle.oracles.specs.MatrixLaws.{row-small, place-in}
-use Rattle.oracles.specs.LoopLaws.{MatrixOf}
-use Rattle.oracles.specs.EllLaws.{mirrored-to}
+use Rattle.oracles.specs.laws.Matrix.{row-small, place-in}
+use Rattle.oracles.specs.laws.Loop.{MatrixOf}
+use Rattle.oracles.specs.laws.Ell.{mirrored-to}
 use Rattle.oracles.proofs.ell.Laws.{mirror-start, mirror-turn, mirror-done}
 use Rattle.oracles.proofs.ell.mirror_row.Statement.{statement}
 use Rattle.oracles.proofs.ell.mirror_row.Tie as tie

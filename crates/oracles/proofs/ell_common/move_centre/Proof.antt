@@ -7,7 +7,7 @@ use lib.ListN.{length}
 use Rattle.numbers.specs.F64.{_⊖_, _⊗_}
 use Rattle.oracles.specs.Matrix.{entry}
 use Rattle.oracles.specs.EllCommon.{centreOf}
-use Rattle.oracles.specs.LoopLaws.{VectorOf, swept, sweep-zero, sweep-turn, sweep-left, sweep-done}
+use Rattle.oracles.specs.laws.Loop.{VectorOf, swept, sweep-zero, sweep-turn, sweep-left, sweep-done}
 use Rattle.oracles.proofs.ell_common.move_centre.Statement.{statement}
 use Rattle.oracles.proofs.ell_common.move_centre.Tie as tie
 

@@ -4,8 +4,8 @@ use Prim.Native.Nat.{_-_, _+_, _<_, _≤_}
 use native.Mathlib.Omega.{arith}
 use borrow.Author.Needs.{needs}
 use lib.ListN.{length}
-use Rattle.oracles.specs.MatrixLaws.{row-small, place-in}
-use Rattle.oracles.specs.EllStableLaws.{solved-back}
+use Rattle.oracles.specs.laws.Matrix.{row-small, place-in}
+use Rattle.oracles.specs.laws.EllStable.{solved-back}
 use Rattle.oracles.proofs.ell_stable.Laws.{back-start, back-turn, back-done}
 use Rattle.oracles.proofs.ell_stable.backward_row.Statement.{statement}
 use Rattle.oracles.proofs.ell_stable.backward_row.Tie as tie

@@ -4,9 +4,9 @@ use Prim.Native.Nat.{_+_, _-_, _≤_}
 use native.Mathlib.Omega.{arith}
 use borrow.Author.Needs.{needs}
 use lib.ListN.{length-set}
-use Rattle.numbers.specs.ArrLaws.{FilledTo, filled-start, filled-turn}
+use Rattle.numbers.specs.laws.Arr.{FilledTo, filled-start, filled-turn}
 use Rattle.oracles.specs.Matrix.{at}
-use Rattle.oracles.specs.MatrixLaws.{row-small, place-in}
+use Rattle.oracles.specs.laws.Matrix.{row-small, place-in}
 use Rattle.oracles.proofs.ell_stable.Laws.{column-two, column-done}
 use Rattle.oracles.proofs.ell_stable.column_into.Statement.{statement}
 use Rattle.oracles.proofs.ell_stable.column_into.Tie as tie

@@ -5,9 +5,9 @@ use Prim.Native.Nat.{_-_}
 use native.Mathlib.Omega.{arith}
 use borrow.Author.Needs.{needs}
 use lib.ListN.{length}
-use Rattle.numbers.specs.ArrLaws.{row-in}
-use Rattle.oracles.specs.MatrixLaws.{row-small}
-use Rattle.oracles.specs.LoopLaws.{VectorOf, MatrixOf, sweep-done}
+use Rattle.numbers.specs.laws.Arr.{row-in}
+use Rattle.oracles.specs.laws.Matrix.{row-small}
+use Rattle.oracles.specs.laws.Loop.{VectorOf, MatrixOf, sweep-done}
 use Rattle.oracles.proofs.ell_stable.Laws.{lowered-to, solved, lowered-start, solved-start, row-fits, lowered-turn, solved-turn, lowered-done}
 use Rattle.oracles.proofs.ell_stable.forward.Statement.{statement}
 use Rattle.oracles.proofs.ell_stable.forward.Tie as tie

@@ -5,8 +5,8 @@ use native.Mathlib.Omega.{arith}
 use lib.ListN.{length}
 use Rattle.numbers.specs.F64.{_⊖_, _⊗_}
 use Rattle.oracles.specs.Matrix.{entry, total}
-use Rattle.oracles.specs.MatrixLaws.{total-turn, total-at}
-use Rattle.oracles.specs.LoopLaws.{VectorOf, swept, sweep-zero, sweep-turn, sweep-done}
+use Rattle.oracles.specs.laws.Matrix.{total-turn, total-at}
+use Rattle.oracles.specs.laws.Loop.{VectorOf, swept, sweep-zero, sweep-turn, sweep-done}
 use borrow.Author.Needs.{needs}
 use Rattle.oracles.proofs.ell_stable.forward_row.Statement.{statement}
 use Rattle.oracles.proofs.ell_stable.forward_row.Tie as tie

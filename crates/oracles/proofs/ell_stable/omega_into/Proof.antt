@@ -8,8 +8,8 @@ use lib.ListN.{length, length-set}
 use lib.Seq.{getD-set-same}
 use Rattle.numbers.specs.F64.{_⊗_, _⊕_, 0ᶠ}
 use Rattle.oracles.specs.Matrix.{entry, total}
-use Rattle.oracles.specs.MatrixLaws.{total-turn, total-at}
-use Rattle.oracles.specs.LoopLaws.{VectorOf, swept, sweep-zero, sweep-turn, sweep-done}
+use Rattle.oracles.specs.laws.Matrix.{total-turn, total-at}
+use Rattle.oracles.specs.laws.Loop.{VectorOf, swept, sweep-zero, sweep-turn, sweep-done}
 use Rattle.oracles.proofs.ell_stable.omega_into.Statement.{statement}
 use Rattle.oracles.proofs.ell_stable.omega_into.Tie as tie
 

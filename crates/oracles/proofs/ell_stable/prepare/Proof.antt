@@ -2,7 +2,7 @@
 use mathlib.Core.Path.{_≡_}
 use borrow.Author.Needs.{needs}
 use lib.ListN.{length}
-use Rattle.numbers.specs.ArrLaws.{dimension-most}
+use Rattle.numbers.specs.laws.Arr.{dimension-most}
 use Rattle.oracles.proofs.ell_common.Laws.{copied}
 use Rattle.oracles.proofs.ell_stable.Laws.{prepare-done}
 use Rattle.oracles.proofs.ell_stable.prepare.Statement.{statement}

@@ -4,11 +4,11 @@ use mathlib.Core.Path.{_≡_, refl}
 use Prim.Native.Nat.{_-_, _≤_}
 use native.Mathlib.Omega.{arith}
 use borrow.Author.Needs.{needs}
-use Rattle.numbers.specs.ArrLaws.{row-in}
+use Rattle.numbers.specs.laws.Arr.{row-in}
 use Rattle.oracles.specs.Matrix.{total}
-use Rattle.oracles.specs.MatrixLaws.{row-small}
-use Rattle.oracles.specs.LoopLaws.{VectorOf, MatrixOf, by-zero}
-use Rattle.oracles.specs.EllStableLaws.{t-after}
+use Rattle.oracles.specs.laws.Matrix.{row-small}
+use Rattle.oracles.specs.laws.Loop.{VectorOf, MatrixOf, by-zero}
+use Rattle.oracles.specs.laws.EllStable.{t-after}
 use Rattle.oracles.proofs.ell_stable.Laws.{factored-to, columns-to, columns-start, columns-turn, parts-fit, t-turn, factored-turn, factored-done, columns-done}
 use Rattle.oracles.proofs.ell_stable.rank_one.Statement.{statement}
 use Rattle.oracles.proofs.ell_stable.rank_one.Tie as tie

@@ -5,8 +5,8 @@ use native.Mathlib.Omega.{arith}
 use borrow.Author.Needs.{needs}
 use Rattle.numbers.specs.F64.{_⊗_}
 use Rattle.oracles.specs.Matrix.{entry, at}
-use Rattle.oracles.specs.MatrixLaws.{row-small, place-in}
-use Rattle.oracles.specs.LoopLaws.{VectorOf, swept, sweep-zero, sweep-turn, sweep-done}
+use Rattle.oracles.specs.laws.Matrix.{row-small, place-in}
+use Rattle.oracles.specs.laws.Loop.{VectorOf, swept, sweep-zero, sweep-turn, sweep-done}
 use Rattle.oracles.proofs.ell_stable.scale_into.Statement.{statement}
 use Rattle.oracles.proofs.ell_stable.scale_into.Tie as tie
 

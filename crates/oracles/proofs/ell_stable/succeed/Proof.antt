@@ -1,6 +1,6 @@
 -- `oracles::ell_stable::succeed` meets its contract. Assumes nothing.
 use borrow.Author.Needs.{needs}
-use Rattle.numbers.specs.ArrLaws.{dimension-most}
+use Rattle.numbers.specs.laws.Arr.{dimension-most}
 use Rattle.oracles.proofs.ell_common.Laws.{copied, dimension-least}
 use Rattle.oracles.proofs.ell_stable.Laws.{succeed-done}
 use Rattle.oracles.proofs.ell_stable.succeed.Statement.{statement}

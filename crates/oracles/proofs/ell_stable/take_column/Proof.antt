@@ -6,11 +6,12 @@ use borrow.Author.Needs.{needs}
 use borrow.Author.Tests.{lt-ltb, le-ltb}
 use lib.Dec.{ltb}
 use Rattle.numbers.specs.F64.{_⊖_}
-use Rattle.numbers.specs.Pick.{pick, hit, skip}
+use Rattle.numbers.specs.Pick.{pick}
+use Rattle.numbers.specs.laws.Pick.{hit, skip}
 use Rattle.oracles.specs.Matrix.{entry, at}
-use Rattle.oracles.specs.MatrixLaws.{row-small, place-in}
-use Rattle.oracles.specs.LoopLaws.{VectorOf, swept, sweep-start, sweep-left, sweep-turn, sweep-done}
-use Rattle.oracles.specs.EllStableLaws.{column-taken}
+use Rattle.oracles.specs.laws.Matrix.{row-small, place-in}
+use Rattle.oracles.specs.laws.Loop.{VectorOf, swept, sweep-start, sweep-left, sweep-turn, sweep-done}
+use Rattle.oracles.specs.laws.EllStable.{column-taken}
 use Rattle.oracles.proofs.ell_stable.take_column.Statement.{statement}
 use Rattle.oracles.proofs.ell_stable.take_column.Tie as tie
 

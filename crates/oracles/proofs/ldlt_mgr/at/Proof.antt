@@ -1,7 +1,7 @@
 -- `oracles::ldlt_mgr::at` meets its contract. Assumes nothing.
 use native.Mathlib.Omega.{arith}
 use borrow.Author.Needs.{needs}
-use Rattle.oracles.specs.MatrixLaws.{row-small, place-in}
+use Rattle.oracles.specs.laws.Matrix.{row-small, place-in}
 use Rattle.oracles.proofs.ldlt_mgr.at.Statement.{statement}
 use Rattle.oracles.proofs.ldlt_mgr.at.Tie as tie
 

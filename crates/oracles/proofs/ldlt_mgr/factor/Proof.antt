@@ -5,7 +5,7 @@ use native.Mathlib.Omega.{arith}
 use borrow.Author.Tests.{eq-eqb, ne-eqb}
 use borrow.Author.Needs.{needs}
 use Rattle.oracles.specs.LdltMgr.{get-elem}
-use Rattle.oracles.specs.LdltLaws.{order-most, wrong-order, wrong-length, accepted, plain-reads}
+use Rattle.oracles.specs.laws.Ldlt.{order-most, wrong-order, wrong-length, accepted, plain-reads}
 use Rattle.oracles.proofs.ldlt_mgr.Laws.{definite, stopped-at}
 use Rattle.oracles.proofs.ldlt_mgr.factor.Statement.{statement}
 use Rattle.oracles.proofs.ldlt_mgr.factor.Tie as tie

@@ -5,7 +5,7 @@ use native.Mathlib.Omega.{arith}
 use borrow.Author.Needs.{needs}
 use lib.ListN.{length-set}
 use Rattle.oracles.specs.LdltMgr.{get-elem}
-use Rattle.oracles.specs.MatrixLaws.{row-small, place-in}
+use Rattle.oracles.specs.laws.Matrix.{row-small, place-in}
 use Rattle.oracles.proofs.ldlt_mgr.Laws.{RowTo, row-start, row-turn, pivot-done, row-done}
 use Rattle.oracles.proofs.ldlt_mgr.factor_row.Statement.{statement}
 use Rattle.oracles.proofs.ldlt_mgr.factor_row.Tie as tie

@@ -4,7 +4,7 @@ use mathlib.Core.Path.{sym, ap, _∙_}
 use borrow.Author.Needs.{needs}
 use lib.ListN.{length}
 use Rattle.oracles.specs.LdltMgr.{get-elem}
-use Rattle.oracles.specs.LdltLaws.{length-filled}
+use Rattle.oracles.specs.laws.Ldlt.{length-filled}
 use Rattle.oracles.proofs.ldlt_mgr.Laws.{RowsTo, rows-start, rows-long, rows-factored, rows-turn, rows-stop, rows-done}
 use Rattle.oracles.proofs.ldlt_mgr.factor_rows.Statement.{statement}
 use Rattle.oracles.proofs.ldlt_mgr.factor_rows.Tie as tie

@@ -7,7 +7,7 @@ use lib.ListN.{length}
 use Rattle.numbers.specs.F64.{_⊖_, _⊗_}
 use Rattle.oracles.specs.Matrix.{entry, at, total}
 use Rattle.oracles.specs.LdltMgr.{get-elem}
-use Rattle.oracles.specs.MatrixLaws.{total-turn, total-at}
+use Rattle.oracles.specs.laws.Matrix.{total-turn, total-at}
 use Rattle.oracles.proofs.ldlt_mgr.Laws.{small-f, place-f}
 use Rattle.oracles.proofs.ldlt_mgr.get_elem.Statement.{statement}
 use Rattle.oracles.proofs.ldlt_mgr.get_elem.Tie as tie

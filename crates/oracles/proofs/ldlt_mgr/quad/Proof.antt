@@ -3,7 +3,7 @@ use Prim.Native.Nat.{_-_}
 use borrow.Author.Needs.{needs}
 use Rattle.numbers.specs.F64.{_⊕_, 0ᶠ}
 use Rattle.oracles.specs.LdltMgr.{quad-term, quadOf}
-use Rattle.oracles.specs.MatrixLaws.{SummedFrom, from-start, from-turn, from-done}
+use Rattle.oracles.specs.laws.Matrix.{SummedFrom, from-start, from-turn, from-done}
 use Rattle.oracles.proofs.ldlt_mgr.quad.Statement.{statement}
 use Rattle.oracles.proofs.ldlt_mgr.quad.Tie as tie
 

@@ -4,7 +4,7 @@ use borrow.Author.Needs.{needs}
 use Rattle.numbers.specs.F64.{_⊕_, _⊗_, 0ᶠ}
 use Rattle.oracles.specs.Matrix.{entry, at}
 use Rattle.oracles.specs.LdltMgr.{quad-term}
-use Rattle.oracles.specs.MatrixLaws.{SummedFrom, from-start, from-turn, from-done}
+use Rattle.oracles.specs.laws.Matrix.{SummedFrom, from-start, from-turn, from-done}
 use Rattle.oracles.proofs.ldlt_mgr.quad_row.Statement.{statement}
 use Rattle.oracles.proofs.ldlt_mgr.quad_row.Tie as tie
 

@@ -4,7 +4,7 @@ use Prim.Native.Nat.{_-_, _≤_}
 use borrow.Author.Needs.{needs}
 use Rattle.numbers.specs.F64.{_⊕_, _⊗_, 0ᶠ}
 use Rattle.oracles.specs.Matrix.{at, total}
-use Rattle.oracles.specs.MatrixLaws.{total-turn, total-at}
+use Rattle.oracles.specs.laws.Matrix.{total-turn, total-at}
 use Rattle.oracles.proofs.ldlt_mgr.row_sum.Statement.{statement}
 use Rattle.oracles.proofs.ldlt_mgr.row_sum.Tie as tie
 

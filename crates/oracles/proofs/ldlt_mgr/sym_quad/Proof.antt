@@ -4,9 +4,9 @@ use native.Mathlib.Nat.{mul-le-mul}
 use native.Mathlib.Omega.{arith}
 use borrow.Author.Tests.{le-leb, lt-leb, eq-eqb, ne-eqb}
 use borrow.Author.Needs.{needs}
-use Rattle.numbers.specs.Pick.{hit, skip}
 use Rattle.numbers.specs.declared.arr.Number.the-variants.{Value}
-use Rattle.oracles.specs.LdltLaws.{order-most, wrong-order, wrong-length, accepted}
+use Rattle.numbers.specs.laws.Pick.{hit, skip}
+use Rattle.oracles.specs.laws.Ldlt.{order-most, wrong-order, wrong-length, accepted}
 use Rattle.oracles.proofs.ldlt_mgr.sym_quad.Statement.{statement}
 use Rattle.oracles.proofs.ldlt_mgr.sym_quad.Tie as tie
 

@@ -4,10 +4,10 @@ use native.Mathlib.Nat.{mul-le-mul}
 use native.Mathlib.Omega.{arith}
 use borrow.Author.Tests.{le-ltb, lt-ltb, le-leb, lt-leb, eq-eqb, ne-eqb}
 use borrow.Author.Needs.{needs}
-use Rattle.numbers.specs.Pick.{hit, skip}
-use Rattle.oracles.specs.LdltLaws.{order-most, wrong-order, wrong-length, accepted}
+use Rattle.oracles.specs.laws.Ldlt.{order-most, wrong-order, wrong-length, accepted}
 use Rattle.oracles.proofs.ldlt_mgr.witness.Statement.{statement}
 use Rattle.oracles.proofs.ldlt_mgr.witness.Tie as tie
+use Rattle.numbers.specs.laws.Pick.{hit, skip}
 
 is-order-requires : tie.Need-is-order-requires
 is-order-requires c κs = search needs

@@ -1,7 +1,7 @@
 -- `oracles::lmi_oracle::assess` meets its contract. Assumes nothing.
 use native.Mathlib.Omega.{arith}
 use borrow.Author.Needs.{needs}
-use Rattle.oracles.specs.LdltLaws.{rows-most}
+use Rattle.oracles.specs.laws.Ldlt.{rows-most}
 use Rattle.oracles.proofs.lmi_oracle.Laws.{reads, feasible, cut}
 use Rattle.oracles.proofs.lmi_oracle.assess.Statement.{statement}
 use Rattle.oracles.proofs.lmi_oracle.assess.Tie as tie

@@ -1,6 +1,6 @@
 -- `oracles::lmi_oracle::assess_feas` meets its contract. Assumes nothing.
 use borrow.Author.Needs.{needs}
-use Rattle.oracles.specs.LdltLaws.{order-most}
+use Rattle.oracles.specs.laws.Ldlt.{order-most}
 use Rattle.oracles.proofs.lmi_oracle.Laws.{dimension-small, wrong-order, wrong-dimension, wrong-length, accepted, lengths}
 use Rattle.oracles.proofs.lmi_oracle.assess_feas.Statement.{statement}
 use Rattle.oracles.proofs.lmi_oracle.assess_feas.Tie as tie

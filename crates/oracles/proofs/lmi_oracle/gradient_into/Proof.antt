@@ -5,7 +5,7 @@ use native.Mathlib.Nat.{mul-le-mul}
 use native.Mathlib.Omega.{arith}
 use borrow.Author.Needs.{needs}
 use Rattle.numbers.specs.F64.{_⊗_, 1ᶠ}
-use Rattle.numbers.specs.ArrLaws.{row-in, FilledTo, filled-start, filled-turn, filled-done}
+use Rattle.numbers.specs.laws.Arr.{row-in, FilledTo, filled-start, filled-turn, filled-done}
 use Rattle.oracles.specs.LdltMgr.{quadOf}
 use Rattle.oracles.specs.LmiOracle.{matOf}
 use Rattle.oracles.proofs.lmi_oracle.Laws.{end-small, part-long, quad-is, gradient-is}

@@ -10,10 +10,10 @@ use types.Run.{OneOf}
 use denote.Enum.Declared.{tagOf}
 use Rattle.numbers.specs.F64.{_⊖_}
 use Rattle.numbers.specs.declared.cut.CutChoice.the-variants.{Single}
+use Rattle.numbers.specs.laws.Pick.{hit, skip}
 use Rattle.oracles.specs.declared.scan.Upper.{Upper}
 use Rattle.oracles.specs.declared.scan.Upper.the-variants.{Absent, At}
 use Rattle.oracles.proofs.scan.Upper as B
-use Rattle.numbers.specs.Pick.{hit, skip}
 use Rattle.oracles.specs.Scan.{band-beta}
 use Rattle.oracles.proofs.lowpass_oracle.band_beta.Statement.{statement}
 use Rattle.oracles.proofs.lowpass_oracle.band_beta.Tie as tie

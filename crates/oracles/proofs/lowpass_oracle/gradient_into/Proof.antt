@@ -9,10 +9,10 @@ use lib.Dec.{eqb}
 use lib.ListN.{length, take, drop, length-drop}
 use lib.Seq.{length-take-le}
 use lib.Ieee.{Float, neg}
-use Rattle.numbers.specs.Pick.{hit, skip}
 use Rattle.numbers.specs.Arr.{isDimension, rowOf, copy-from-answer}
-use Rattle.numbers.specs.ArrLaws.{accepted}
+use Rattle.numbers.specs.laws.Arr.{accepted}
 use Rattle.numbers.specs.declared.arr.Written.{Written}
+use Rattle.numbers.specs.laws.Pick.{hit, skip}
 use Rattle.oracles.specs.Scan.{band-gradient}
 use borrow.Author.Needs.{needs}
 use Rattle.oracles.proofs.lowpass_oracle.gradient_into.Statement.{statement}

@@ -5,8 +5,7 @@ use Prim.Native.Nat.{ℕ, _-_}
 use lib.ListN.{length, getD, length-map, List·getD-map}
 use lib.Ieee.{Float, nan, neg}
 use Rattle.numbers.specs.Arr.{tab}
-use Rattle.numbers.specs.ArrLaws.{FilledTo, filled-start, filled-turn, filled-done}
-use Rattle.oracles.specs.MatrixLaws.{tab-ext}
+use Rattle.numbers.specs.laws.Arr.{FilledTo, filled-start, filled-turn, filled-done, tab-ext}
 use borrow.Author.Needs.{needs}
 use Rattle.oracles.proofs.lowpass_oracle.negate_into.Statement.{statement}
 use Rattle.oracles.proofs.lowpass_oracle.negate_into.Tie as tie

@@ -10,11 +10,11 @@ use mir.Syntax.{w32}
 use mir.Val.{SFits, toZ, ofZ}
 use mir.Facts.{toZ-ofZ}
 use Rattle.oracles.specs.RoundRobin.{isBand}
-use Rattle.oracles.specs.RoundRobinLaws.{and-parts}
 use Rattle.oracles.specs.Scan.{isRows, band-fits}
 use Rattle.oracles.proofs.Signed.{read, pos-fits}
 use Rattle.oracles.proofs.scan.band_fits.Statement.{statement}
 use Rattle.oracles.proofs.scan.band_fits.Tie as tie
+use Rattle.numbers.specs.laws.Pick.{and-parts}
 
 module _ (rows : ℕ) (lo hi : ℤ) {t : Bool} (e : t ≡ isRows rows) where
   too-many : not t ≡ true → false ≡ band-fits rows lo hi

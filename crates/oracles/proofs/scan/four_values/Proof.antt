@@ -6,10 +6,10 @@ use native.Mathlib.Omega.{arith}
 use lib.Ieee.{Float}
 use lib.ListN.{take, drop}
 use Rattle.numbers.specs.Arr.{dotOf, fourOf}
-use Rattle.numbers.specs.ArrLaws.{row-part}
+use Rattle.numbers.specs.laws.Arr.{row-part}
 use Rattle.numbers.specs.declared.arr.Four.{Four}
 use Rattle.oracles.specs.Scan.{valueOf}
-use Rattle.oracles.specs.ScanRun.{valuesOf}
+use Rattle.oracles.specs.laws.ScanRun.{valuesOf}
 use borrow.Author.Needs.{needs}
 use Rattle.oracles.proofs.scan.four_values.Statement.{statement}
 use Rattle.oracles.proofs.scan.four_values.Tie as tie

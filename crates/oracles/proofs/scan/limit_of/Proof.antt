@@ -1,7 +1,7 @@
 -- `oracles::scan::limit_of` meets its contract. Assumes nothing.
 use mathlib.Core.Path.{sym, ap}
 use lib.Ieee
-use Rattle.oracles.specs.ScanRun.{limitOf}
+use Rattle.oracles.specs.laws.ScanRun.{limitOf}
 use borrow.Author.Needs.{needs}
 use Rattle.oracles.proofs.scan.limit_of.Statement.{statement}
 use Rattle.oracles.proofs.scan.limit_of.Tie as tie

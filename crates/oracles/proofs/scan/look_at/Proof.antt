@@ -7,7 +7,7 @@ use native.Mathlib.Omega.{arith}
 use lib.IntN.{ℤ}
 use lib.Ieee.{Float}
 use mir.Facts.{toZ-ofZ}
-use Rattle.oracles.specs.ScanRun.{runOf}
+use Rattle.oracles.specs.laws.ScanRun.{runOf}
 use Rattle.oracles.specs.declared.scan.Scan.{Scan}
 use Rattle.oracles.proofs.scan.Run.{as-judged, run-one}
 use Rattle.oracles.proofs.scan.look_at.Statement.{statement}

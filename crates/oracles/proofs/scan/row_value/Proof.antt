@@ -5,7 +5,7 @@ use Prim.Native.Nat.{ℕ, _+_, _-_, _*_}
 use lib.Ieee.{Float}
 use lib.ListN.{take, drop}
 use Rattle.numbers.specs.Arr.{dotOf}
-use Rattle.numbers.specs.ArrLaws.{row-part}
+use Rattle.numbers.specs.laws.Arr.{row-part}
 use Rattle.oracles.specs.Scan.{valueOf}
 use borrow.Author.Needs.{needs}
 use Rattle.oracles.proofs.scan.row_value.Statement.{statement}

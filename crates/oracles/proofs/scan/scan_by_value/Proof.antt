@@ -9,7 +9,7 @@ use mir.Val.{SFits}
 use mir.Facts.{toZ-ofZ}
 use lib.Ieee.{Float}
 use mathlib.Core.List.{List}
-use Rattle.oracles.specs.Scan.{band-fits, scanOf, scan-band-answer, Scannable}
+use Rattle.oracles.specs.Scan.{band-fits, scanOf, scan-band-answer}
 use Rattle.oracles.specs.declared.scan.Upper.{Upper}
 use Rattle.oracles.specs.declared.scan.Scan.{Scan}
 use Rattle.oracles.specs.declared.scan.ScanAnswer.{ScanAnswer}
@@ -17,6 +17,7 @@ use Rattle.oracles.specs.declared.scan.ScanAnswer.the-variants.{Scanned,
 use Rattle.oracles.specs.declared.scan.ScanEnd.{ScanEnd}
 use Rattle.numbers.specs.declared.refusal.Refusal.{Refusal}
 use Rattle.oracles.specs.declared.round_robin.RoundRobin.{RoundRobin}
+use Rattle.oracles.specs.laws.Scan.{Scannable}
 use Rattle.oracles.proofs.Signed.{read}
 use Rattle.oracles.proofs.scan.Tests.{ready-of, scanned, no-dimension, no-length, no-band, no-cursor, passed, failed}
 use Rattle.oracles.proofs.scan.scan_by_value.Statement.{statement}

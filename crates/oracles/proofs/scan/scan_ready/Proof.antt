@@ -9,12 +9,13 @@ use mir.Facts.{toZ-ofZ}
 use types.Run.{OneOf}
 use denote.Enum.Declared.{tagOf}
 use Rattle.oracles.specs.RoundRobin.{moved}
-use Rattle.oracles.specs.Scan.{scanOf, scan-band-answer, Scannable}
+use Rattle.oracles.specs.Scan.{scanOf, scan-band-answer}
 use Rattle.oracles.specs.declared.round_robin.RoundRobin.{RoundRobin}
 use Rattle.oracles.specs.declared.scan.Upper.{Upper}
 use Rattle.oracles.specs.declared.scan.Scan.{Scan}
 use Rattle.oracles.specs.declared.scan.ScanAnswer.{ScanAnswer}
 use Rattle.oracles.specs.declared.scan.ScanAnswer.the-variants.{Scanned, Refused}
+use Rattle.oracles.specs.laws.Scan.{Scannable}
 use Rattle.oracles.proofs.scan.ScanAnswer as R
 use Rattle.oracles.proofs.scan.Tests.{scanned}
 use Rattle.oracles.proofs.scan.scan_ready.Statement.{statement}

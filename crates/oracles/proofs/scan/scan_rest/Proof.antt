@@ -8,7 +8,7 @@ use mir.Val.{toZ}
 use mir.Facts.{toZ-ofZ}
 use lib.IntN.{ℤ}
 use Rattle.oracles.specs.Scan.{scanFrom}
-use Rattle.oracles.specs.ScanRun.{Going}
+use Rattle.oracles.specs.laws.ScanRun.{Going}
 use Rattle.oracles.specs.declared.scan.Upper.the-variants.{At}
 use Rattle.oracles.proofs.Signed.{cur-fits}
 use Rattle.oracles.proofs.scan.Turn.{clear, row-there, legal-there, row-before-past, rows-small, rows-in, ends, still, goes-on}

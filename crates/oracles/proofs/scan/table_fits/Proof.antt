@@ -7,9 +7,9 @@ use native.Mathlib.Omega.{arith}
 use borrow.Author.Tests.{leb-true, eqb-true, eqb-false, eq-eqb, ne-eqb}
 use borrow.Author.Needs.{needs}
 use lib.Dec.{leb, eqb}
-use Rattle.oracles.specs.RoundRobinLaws.{and-parts}
 use Rattle.oracles.proofs.scan.table_fits.Statement.{statement}
 use Rattle.oracles.proofs.scan.table_fits.Tie as tie
+use Rattle.numbers.specs.laws.Pick.{and-parts}
 
 divides : (t n rows : ℕ) → 0 < n → (eqb (t / n) rows && eqb (t % n) 0) ≡ eqb t (rows * n)
 divides t n rows p = go (eqb t (rows * n)) refl

@@ -6,7 +6,8 @@ use lib.IntN.{pos}
 use mir.Syntax.{w32}
 use mir.Val.{SFits}
 use mir.Facts.{toZ-ofZ}
-use Rattle.numbers.specs.Pick.{pick, hit, skip}
+use Rattle.numbers.specs.Pick.{pick}
+use Rattle.numbers.specs.laws.Pick.{hit, skip}
 use Rattle.oracles.proofs.Signed.{pos-fits}
 use borrow.Author.Needs.{needs}
 use Rattle.oracles.proofs.scan.test_row.Statement.{statement}

@@ -1,8 +1,8 @@
 -- `ponduvizh::ellipsoids::beta_of` meets its contract. Assumes nothing.
 use mathlib.Core.Path.{refl}
-use Rattle.numbers.specs.Pick.{hit, skip}
 use Rattle.ponduvizh.proofs.ellipsoids.beta_of.Statement.{statement}
 use Rattle.ponduvizh.proofs.ellipsoids.beta_of.Tie as tie
+use Rattle.numbers.specs.laws.Pick.{hit, skip}
 
 returns : tie.Need-returns
 returns c = hit _ _ _ _ (c .if1 .taken) refl

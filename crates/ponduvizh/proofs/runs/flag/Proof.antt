@@ -1,8 +1,8 @@
 -- `ponduvizh::runs::flag` meets its contract. Assumes nothing.
 use mathlib.Core.Path.{refl}
-use Rattle.numbers.specs.Pick.{hit, skip}
 use Rattle.ponduvizh.proofs.runs.flag.Statement.{statement}
 use Rattle.ponduvizh.proofs.runs.flag.Tie as tie
+use Rattle.numbers.specs.laws.Pick.{hit, skip}
 
 returns : tie.Need-returns
 returns c = hit _ _ _ _ (c .if1 .taken) refl

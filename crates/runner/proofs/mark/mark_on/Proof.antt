@@ -5,7 +5,7 @@ use native.Mathlib.Omega.{arith}
 use borrow.Author.Needs.{needs}
 use lib.ListN.{length, drop}
 use Rattle.runner.specs.Mark.{marked}
-use Rattle.runner.specs.MarkLaws.{marked-turn, marked-done}
+use Rattle.runner.specs.laws.Mark.{marked-turn, marked-done}
 use Rattle.runner.proofs.mark.mark_on.Statement.{statement}
 use Rattle.runner.proofs.mark.mark_on.Tie as tie
 

@@ -8,7 +8,7 @@ use lib.ListN.{length, take, replicate}
 use lib.Ieee.{Float}
 use Rattle.numbers.specs.F64.{0ᶠ}
 use Rattle.drivers.specs.Program.{program-text, calls-text}
-use Rattle.drivers.specs.ProgramLaws.{program-prints, run-all-prints, open-held}
+use Rattle.drivers.specs.laws.Program.{program-prints, run-all-prints, open-held}
 use Rattle.drivers.specs.Trace.{open-answer}
 use Rattle.drivers.specs.Calls.{run-all-text}
 use Rattle.drivers.specs.declared.trace.Run.{Run}

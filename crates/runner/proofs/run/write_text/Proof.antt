@@ -3,7 +3,7 @@ use mathlib.Core.Path.{sym}
 use denote.Ref.{now}
 use borrow.Author.Needs.{needs}
 use lib.Seq.{take-all, length-take-le}
-use Rattle.runner.specs.MarkLaws.{marked-none}
+use Rattle.runner.specs.laws.Mark.{marked-none}
 use Rattle.runner.proofs.run.write_text.Statement.{statement}
 use Rattle.runner.proofs.run.write_text.Tie as tie
 

@@ -4,13 +4,13 @@ use mathlib.Core.Bool.{true, false}
 use mathlib.Core.List.{[]}
 use native.Mathlib.Numerals.{add-one}
 use native.Mathlib.Omega.{arith}
-use Rattle.numbers.specs.Pick.{hit, skip}
-use Rattle.drivers.specs.TextLaws.{put-none, put-on}
+use Rattle.drivers.specs.laws.Text.{put-none, put-on}
 use Rattle.drivers.specs.Trace.{ended-pieces}
 use Rattle.drivers.proofs.trace.Steps.{step-shown}
 use borrow.Author.Needs.{needs}
 use Rattle.drivers.proofs.trace.Run.step.Statement.{statement}
 use Rattle.drivers.proofs.trace.Run.step.Tie as tie
+use Rattle.numbers.specs.laws.Pick.{hit, skip}
 
 feas-step-requires : tie.Need-feas-step-requires
 feas-step-requires c κs = search needs

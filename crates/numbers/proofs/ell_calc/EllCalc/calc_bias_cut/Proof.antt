@@ -1,8 +1,8 @@
 -- `numbers::ell_calc::EllCalc::calc_bias_cut` meets its contract.
 use mathlib.Core.Path.{refl, ap}
-use Rattle.numbers.specs.Pick.{hit, skip}
 use Rattle.numbers.specs.Cut.{success}
 use Rattle.numbers.specs.EllCalc.{calc-bias-cut}
+use Rattle.numbers.specs.laws.Pick.{hit, skip}
 use Rattle.numbers.proofs.ell_calc.EllCalc.calc_bias_cut.Statement.{statement}
 use Rattle.numbers.proofs.ell_calc.EllCalc.calc_bias_cut.Tie as tie
 

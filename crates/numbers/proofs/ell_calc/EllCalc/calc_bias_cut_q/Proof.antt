@@ -1,8 +1,8 @@
 -- `numbers::ell_calc::EllCalc::calc_bias_cut_q` meets its contract.
 use mathlib.Core.Path.{refl, ap}
-use Rattle.numbers.specs.Pick.{hit, skip}
 use Rattle.numbers.specs.Cut.{success}
 use Rattle.numbers.specs.EllCalc.{calc-bias-cut-q}
+use Rattle.numbers.specs.laws.Pick.{hit, skip}
 use Rattle.numbers.proofs.ell_calc.EllCalc.calc_bias_cut_q.Statement.{statement}
 use Rattle.numbers.proofs.ell_calc.EllCalc.calc_bias_cut_q.Tie as tie
 

@@ -1,9 +1,9 @@
 -- `numbers::ell_calc::EllCalc::calc_parallel_central_cut` meets its contract.
 use mathlib.Core.Path.{refl, ap}
 use mathlib.Core.Logic.{⊎-elim}
-use Rattle.numbers.specs.Pick.{hit, skip}
 use Rattle.numbers.specs.Cut.{success}
 use Rattle.numbers.specs.EllCalc.{calc-parallel-central-cut}
+use Rattle.numbers.specs.laws.Pick.{hit, skip}
 use Rattle.numbers.proofs.ell_calc.EllCalc.calc_parallel_central_cut.Statement.{statement}
 use Rattle.numbers.proofs.ell_calc.EllCalc.calc_parallel_central_cut.Tie as tie
 

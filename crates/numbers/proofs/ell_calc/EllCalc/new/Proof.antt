@@ -5,9 +5,9 @@ use native.Mathlib.Omega.{arith}
 use lib.Ieee.{inFloat}
 use borrow.Author.Tests.{le-leb, not-false}
 use denote.Floats.{passes}
-use Rattle.numbers.specs.ArrLaws.{dimension-most}
-use Rattle.numbers.specs.Pick.{hit, skip}
+use Rattle.numbers.specs.laws.Arr.{dimension-most}
 use Rattle.numbers.specs.EllCalc.{made, new-answer}
+use Rattle.numbers.specs.laws.Pick.{hit, skip}
 use Rattle.numbers.proofs.ell_calc.EllCalc.new.Statement.{statement}
 use Rattle.numbers.proofs.ell_calc.EllCalc.new.Tie as tie
 

@@ -2,8 +2,8 @@
 use mathlib.Core.Path.{_∙_}
 use borrow.Author.Needs.{needs}
 use borrow.Author.Tests.{eq-eqb, ne-eqb}
-use Rattle.numbers.specs.ArrLaws.{dimension-most, wrong-dimension, wrong-length, accepted}
-use Rattle.oracles.specs.LoopLaws.{says-no, says-yes}
+use Rattle.numbers.specs.laws.Arr.{dimension-most, wrong-dimension, wrong-length, accepted}
+use Rattle.numbers.specs.laws.Pick.{says-no, says-yes}
 use Rattle.oracles.proofs.ell_common.Laws.{no-left, no-right, both, lengths}
 use Rattle.oracles.proofs.ell.Ell.cut.Statement.{statement}
 use Rattle.oracles.proofs.ell.Ell.cut.Tie as tie

@@ -1,7 +1,7 @@
 -- `oracles::ell::Ell::update` meets its contract. Assumes nothing.
 use mathlib.Core.Path.{_∙_}
 use borrow.Author.Needs.{needs}
-use Rattle.numbers.specs.ArrLaws.{dimension-most}
+use Rattle.numbers.specs.laws.Arr.{dimension-most}
 use Rattle.oracles.specs.Ell.{updated}
 use Rattle.oracles.proofs.ell_common.Laws.{multiplied}
 use Rattle.oracles.proofs.ell.Laws.{no-effect, fails, succeeds}

@@ -1,8 +1,8 @@
 -- `oracles::ell_stable::EllStable::update_core` meets its contract. Assumes nothing.
 use mathlib.Core.Path.{refl, _∙_}
 use borrow.Author.Needs.{needs}
-use Rattle.numbers.specs.ArrLaws.{dimension-most, wrong-dimension, wrong-length, accepted}
-use Rattle.oracles.specs.LoopLaws.{says-no, says-yes}
+use Rattle.numbers.specs.laws.Arr.{dimension-most, wrong-dimension, wrong-length, accepted}
+use Rattle.numbers.specs.laws.Pick.{says-no, says-yes}
 use Rattle.oracles.proofs.ell_stable.Laws.{unfit, fit-by, lengths-known}
 use Rattle.oracles.proofs.ell_stable.EllStable.update_core.Statement.{statement}
 use Rattle.oracles.proofs.ell_stable.EllStable.update_core.Tie as tie

@@ -1,9 +1,9 @@
 -- `oracles::lowpass_oracle::LowpassOracle::assess` meets its contract. Assumes nothing.
 use mathlib.Core.Path.{sym, subst}
 use borrow.Author.Needs.{needs}
-use Rattle.oracles.specs.Scan.{Scannable}
 use Rattle.oracles.specs.declared.scan.Upper.the-variants.{At}
 use Rattle.oracles.specs.declared.lowpass_oracle.LowpassOracle.{LowpassOracle}
+use Rattle.oracles.specs.laws.Scan.{Scannable}
 use Rattle.oracles.proofs.lowpass_oracle.Steps.{nothing-of, least, most, row-fits, pass-passes, pass-breaks}
 use Rattle.oracles.proofs.lowpass_oracle.LowpassOracle.assess.Statement.{statement}
 use Rattle.oracles.proofs.lowpass_oracle.LowpassOracle.assess.Tie as tie

@@ -7,8 +7,8 @@ use lib.ListN.{length, getD, set, replicate}
 use lib.Ieee
 use lib.Ieee.{Float, nan, lt, neg}
 use Rattle.numbers.specs.F64.{0ᶠ}
-use Rattle.numbers.specs.Pick.{hit, skip}
 use Rattle.numbers.specs.declared.cut.CutChoice.the-variants.{Single}
+use Rattle.numbers.specs.laws.Pick.{hit, skip}
 use Rattle.oracles.specs.LowpassOracle.{−1ᶠ, assess-sign}
 use Rattle.oracles.specs.declared.lowpass_oracle.LowpassOracle.{LowpassOracle}
 use Rattle.oracles.specs.declared.lowpass_oracle.Assessed.{Assessed}

@@ -3,9 +3,9 @@ use mathlib.Core.Path.{sym, subst}
 use lib.Ieee
 use borrow.Author.Needs.{needs}
 use Rattle.numbers.specs.F64.{0ᶠ}
-use Rattle.oracles.specs.Scan.{Scannable}
 use Rattle.oracles.specs.declared.scan.Upper.the-variants.{At}
 use Rattle.oracles.specs.declared.lowpass_oracle.LowpassOracle.{LowpassOracle}
+use Rattle.oracles.specs.laws.Scan.{Scannable}
 use Rattle.oracles.proofs.lowpass_oracle.Steps.{nothing-of, least, most, row-fits, stop-passes, stop-breaks}
 use Rattle.oracles.proofs.lowpass_oracle.LowpassOracle.assess_stop.Statement.{statement}
 use Rattle.oracles.proofs.lowpass_oracle.LowpassOracle.assess_stop.Tie as tie

@@ -9,7 +9,6 @@ use lib.Signed.{leZ}
 use mir.Syntax.{w32}
 use mir.Val.{SFits}
 use mir.Facts.{toZ-ofZ}
-use Rattle.oracles.specs.RoundRobinLaws.{and-parts}
 use Rattle.oracles.specs.Scan.{isRows}
 use Rattle.oracles.specs.LowpassOracle.{isOf, bands-fit}
 use Rattle.oracles.specs.declared.lowpass_oracle.LowpassOracle.{LowpassOracle}
@@ -17,6 +16,7 @@ use Rattle.oracles.proofs.Signed.{read, pos-fits}
 use Rattle.oracles.proofs.scan.Tests.{passed, failed}
 use Rattle.oracles.proofs.lowpass_oracle.LowpassOracle.bands_fit.Statement.{statement}
 use Rattle.oracles.proofs.lowpass_oracle.LowpassOracle.bands_fit.Tie as tie
+use Rattle.numbers.specs.laws.Pick.{and-parts}
 
 rows-fit : (rows : ℕ) → isRows rows ≡ true → SFits w32 (pos rows)
 rows-fit rows h = pos-fits rows (leb-true rows 1024 (and-parts (leb 1 rows) (leb rows 1024) h .1))

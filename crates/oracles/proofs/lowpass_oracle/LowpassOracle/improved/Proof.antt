@@ -11,10 +11,11 @@ use lib.Ieee.{Float}
 use mir.Syntax.{w32}
 use mir.Val.{SFits}
 use mir.Facts.{toZ-ofZ}
-use Rattle.numbers.specs.Pick.{pick, hit, skip}
+use Rattle.numbers.specs.Pick.{pick}
 use Rattle.numbers.specs.F64.{0ᶠ}
 use Rattle.numbers.specs.declared.cut.CutChoice.the-variants.{Parallel}
 use Rattle.numbers.specs.declared.refusal.Refusal.the-variants.{NoStopValue}
+use Rattle.numbers.specs.laws.Pick.{hit, skip}
 use Rattle.oracles.specs.Scan.{band-gradient}
 use Rattle.oracles.specs.LowpassOracle.{improvedOf}
 use Rattle.oracles.specs.declared.lowpass_oracle.LowpassOracle.{LowpassOracle}

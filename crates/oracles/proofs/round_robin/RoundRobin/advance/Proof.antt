@@ -6,12 +6,12 @@ use lib.Signed.{ltZ}
 use mir.Syntax.{w32}
 use mir.Val.{SFits}
 use mir.Facts.{toZ-ofZ}
-use Rattle.numbers.specs.Pick.{hit, skip}
-use Rattle.oracles.specs.RoundRobin.{isBand, isAt, advanced, advance-answer, Legal}
-use Rattle.oracles.specs.RoundRobinLaws.{and-parts, legal-of}
+use Rattle.oracles.specs.RoundRobin.{isBand, isAt, advanced, advance-answer}
+use Rattle.oracles.specs.laws.RoundRobin.{legal-of, Legal}
 use Rattle.oracles.specs.declared.round_robin.RoundRobin.{RoundRobin}
 use Rattle.oracles.specs.declared.round_robin.CursorAnswer.the-variants.{At, Refused}
 use Rattle.numbers.specs.declared.refusal.Refusal.the-variants.{Band, Cursor}
+use Rattle.numbers.specs.laws.Pick.{hit, skip, and-parts}
 use Rattle.oracles.proofs.Signed.{read}
 use Rattle.oracles.proofs.round_robin.RoundRobin.advance.Statement.{statement}
 use Rattle.oracles.proofs.round_robin.RoundRobin.advance.Tie as tie

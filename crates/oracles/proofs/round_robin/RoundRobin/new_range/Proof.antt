@@ -7,11 +7,10 @@ use lib.Signed.{leZ}
 use mir.Syntax.{w32}
 use mir.Val.{SFits}
 use mir.Facts.{toZ-ofZ}
-use Rattle.numbers.specs.Pick.{hit, skip}
 use Rattle.oracles.specs.RoundRobin.{isBand, new-range-answer}
-use Rattle.oracles.specs.RoundRobinLaws.{and-parts}
 use Rattle.oracles.specs.declared.round_robin.CursorAnswer.the-variants.{At, Refused}
 use Rattle.numbers.specs.declared.refusal.Refusal.the-variants.{Band}
+use Rattle.numbers.specs.laws.Pick.{hit, skip, and-parts}
 use Rattle.oracles.proofs.Signed.{read, pred-fits}
 use Rattle.oracles.proofs.round_robin.RoundRobin.new_range.Statement.{statement}
 use Rattle.oracles.proofs.round_robin.RoundRobin.new_range.Tie as tie

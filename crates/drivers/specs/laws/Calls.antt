@@ -1,0 +1,148 @@
+-- Laws of Calls: a call after which there is more to come took a step, so that the calls come to an end. Assumes nothing.
+use Prim.Native.Nat.{ℕ, zero, suc, _-_, _<_}
+use mathlib.Core.Path.{_≡_, refl, sym, ap, _∙_}
+use mathlib.Core.Bool.{Bool, true, false, true≢false}
+use mathlib.Core.List.{List, [], _++_}
+use native.Mathlib.Omega.{arith}
+use borrow.Author.Tests.{ltb-true}
+use lib.Dec.{ltb}
+use lib.ListN.{length}
+use lib.Ieee.{Float}
+use Rattle.numbers.specs.Pick.{pick}
+use Rattle.numbers.specs.laws.Pick.{is-hit, is-skip, by-test, pick-cong}
+use Rattle.oracles.specs.Ell.{EllBuffers}
+use Rattle.drivers.specs.CuttingPlane.{check-space}
+use Rattle.drivers.specs.Trace.{space-of, step-printed, limit-printed, next-checked, next-answer, printed-by}
+use Rattle.drivers.specs.declared.cutting_plane.Checked.{Checked}
+use Rattle.drivers.specs.declared.cutting_plane.Checked.the-variants.{Right, Wrong}
+use Rattle.drivers.specs.declared.trace.Run.{Run}
+use Rattle.drivers.specs.declared.trace.Printed.{Printed}
+use Rattle.drivers.specs.Calls.{Left, calls-left, next-of, last-of, run-all-answer, text-of, texts-after, run-all-text}
+
+-- where there is more to come, the run is one step on
+abbrev Moves : Run → Left → Type 0
+Moves run r =
+    r .0 .more ≡ true → (run .niter < run .options .«max_iters») × (r .0 .run .options .«max_iters» ≡ run .options .«max_iters») × (r .0 .run .niter ≡ suc (run .niter))
+
+no-more : {A : Type 0} (t : Bool) → t ≡ false → t ≡ true → A
+no-more t e h = absurd (true≢false (sym h ∙ e))
+
+module _ (run : Run) (table : List Float) (b : EllBuffers) (grad : List Float) (out : List ℕ) where
+  step-moves : run .niter < run .options .«max_iters» → Moves run (step-printed run table b grad out)
+  unfolding step-printed
+  step-moves l h = (l, refl, is-hit _ _ _ h)
+
+  limit-moves : Moves run (limit-printed run b grad out)
+  unfolding limit-printed
+  limit-moves h = no-more false refl h
+
+  checked-moves : (c : Checked) → Moves run (next-checked run table b grad out c)
+  checked-moves (Wrong why) = no-more false refl
+  checked-moves Right =
+      by-test (Moves run) (ltb (length out) 128) _ _ (λ _. no-more false refl)
+      (λ _. by-test (Moves run) (ltb (run .niter) (run .options .«max_iters»)) _ _ (λ t. step-moves (ltb-true _ _ t)) (λ _. limit-moves))
+
+  next-moves : Moves run (next-answer run table b grad out)
+  unfolding next-answer
+  next-moves = checked-moves (check-space (run .rows) table (space-of run b grad))
+
+going : (p : Printed) → p .more ≡ true → calls-left p ≡ suc (p .run .options .«max_iters» - p .run .niter)
+unfolding calls-left
+going p e = is-hit _ _ _ e
+
+over : (p : Printed) → p .more ≡ false → calls-left p ≡ 0
+unfolding calls-left
+over p e = is-skip _ _ _ e
+
+module _ (run : Run) (table : List Float) (b : EllBuffers) (grad : List Float) (out : List ℕ) where
+  abbrev first : Left
+  first = next-answer run table b grad out
+
+  one-fewer : first .0 .more ≡ true → calls-left (first .0) ≡ run .options .«max_iters» - run .niter
+  one-fewer h =
+      let m = next-moves run table b grad out h in
+      going (first .0) h ∙ omega (arith, m .0, m .1, m .2)
+
+  -- the texts of a run are its first call's and those after it
+  first-text : run-all-text run table b grad out ≡ text-of first ++ texts-after table first
+  unfolding printed-by texts-after
+  first-text =
+      ap (λ (l : List ℕ). text-of first ++ l)
+      (pick-cong (first .0 .more) (λ h. ap (λ (k : ℕ). printed-by k (first .0 .run) table (first .1) (first .2) (first .3)) (sym (one-fewer h))) (λ _. refl))
+
+-- ---- a turn of the calls
+
+-- where this call is the last, nothing is left of them
+pub last-done : (k : ℕ) (table : List Float) (r : Left) → r .0 .more ≡ false → last-of k table r ≡ r
+unfolding last-of
+last-done zero table r e = refl
+last-done (suc k) table r e = is-skip _ _ _ e
+
+pub texts-done : (table : List Float) (r : Left) → r .0 .more ≡ false → texts-after table r ≡ []
+unfolding texts-after
+texts-done table r e = is-skip _ _ _ e
+
+last-turn : (k : ℕ) (table : List Float) (r : Left) → r .0 .more ≡ true → last-of (suc k) table r ≡ last-of k table (next-of table r)
+unfolding last-of
+last-turn k table r e = is-hit _ _ _ e
+
+module _ (table : List Float) (r : Left) (e : r .0 .more ≡ true) where
+  abbrev run : Run
+  run = r .0 .run
+
+  abbrev q : Left
+  q = next-of table r
+
+  abbrev left : ℕ
+  left = run .options .«max_iters» - run .niter
+
+  fewer : q .0 .more ≡ true → calls-left (q .0) ≡ left
+  fewer = one-fewer run table (r .1) (r .2) (r .3)
+
+  by-more : {P : Type 0} → (q .0 .more ≡ true → P) → (q .0 .more ≡ false → P) → P
+  by-more f g = go (q .0 .more) f g
+    where
+      go : {P : Type 0} (t : Bool) → (t ≡ true → P) → (t ≡ false → P) → P
+      go true f g = f refl
+      go false f g = g refl
+
+  pub calls-fewer : calls-left (q .0) < calls-left (r .0)
+  calls-fewer = by-more (λ h. omega (arith, going (r .0) e, fewer h)) (λ h. omega (arith, going (r .0) e, over (q .0) h))
+
+  pub calls-turn : last-of (calls-left (r .0)) table r ≡ last-of (calls-left (q .0)) table q
+  calls-turn =
+      ap (λ (k : ℕ). last-of k table r) (going (r .0) e) ∙ last-turn left table r e
+      ∙ by-more (λ h. ap (λ (k : ℕ). last-of k table q) (sym (fewer h)))
+      (λ h. last-done left table q h ∙ sym (last-done (calls-left (q .0)) table q h))
+
+  pub texts-turn : texts-after table r ≡ text-of q ++ texts-after table q
+  unfolding texts-after
+  texts-turn =
+      is-hit _ _ _ e ∙ ap (λ (k : ℕ). printed-by k run table (r .1) (r .2) (r .3)) (going (r .0) e)
+      ∙ first-text run table (r .1) (r .2) (r .3)
+
+-- from a run's first call on
+pub all-from : (run : Run) (table : List Float) (b : EllBuffers) (grad : List Float) (out : List ℕ) (r : Left) → r ≡ next-answer run table b grad out
+    → last-of (calls-left (r .0)) table r ≡ run-all-answer run table b grad out
+unfolding run-all-answer
+all-from run table b grad out r e = ap (λ (q : Left). last-of (calls-left (q .0)) table q) e
+
+pub texts-from : (run : Run) (table : List Float) (b : EllBuffers) (grad : List Float) (out : List ℕ) (r : Left) → r ≡ next-answer run table b grad out
+    → text-of r ++ texts-after table r ≡ run-all-text run table b grad out
+texts-from run table b grad out r e = ap (λ (q : Left). text-of q ++ texts-after table q) e ∙ sym (first-text run table b grad out)
+
+-- more calls than there can be print no more
+pub calls-enough : (calls more : ℕ) (run : Run) (table : List Float) (b : EllBuffers) (grad : List Float) (out : List ℕ)
+    → (let left = run .options .«max_iters» - run .niter in
+    left < calls → left < more → printed-by calls run table b grad out ≡ printed-by more run table b grad out)
+unfolding printed-by
+calls-enough zero more run table b grad out h l = absurd (omega (arith, h))
+calls-enough (suc calls) zero run table b grad out h l = absurd (omega (arith, l))
+calls-enough (suc calls) (suc more) run table b grad out h l =
+    let q = next-answer run table b grad out in
+    ap (λ (rest : List ℕ). text-of q ++ rest)
+    (pick-cong (q .0 .more)
+    (λ e.
+    let m = next-moves run table b grad out e in
+    calls-enough calls more (q .0 .run) table (q .1) (q .2) (q .3) (omega (arith, m .0, m .1, m .2)) (omega (arith, m .0, m .1, m .2)))
+    (λ _. refl))

@@ -1,0 +1,84 @@
+-- What `cutting_plane_feas` answers to a job belongs to that job, if its step limit is above 0. Assumes nothing.
+use Prim.Native.Nat.{ℕ, _*_, _≤_}
+use mathlib.Core.Path.{_≡_, sym, ap, subst, _∙_}
+use mathlib.Core.Bool.{true, not, _&&_}
+use mathlib.Core.List.{List}
+use native.Mathlib.Omega.{arith}
+use borrow.Author.Tests.{le-leb, le-ltb}
+use lib.Dec.{leb}
+use lib.ListN.{length, take, drop}
+use lib.Seq.{take-at}
+use lib.Ieee.{Float}
+use Rattle.oracles.specs.Verdict.{judge, is-feasible}
+use Rattle.oracles.specs.Ell.{EllBuffers}
+use Rattle.drivers.specs.Record.{fronted}
+use Rattle.drivers.specs.CuttingPlane.{Space, feas-run, kept, is-found, feas-checked, feas-answer}
+use Rattle.drivers.specs.Job.{read-job-answer}
+use Rattle.drivers.specs.Belongs.{feasible-for, is-of}
+use Rattle.drivers.specs.laws.StepRight.{right-fits}
+use Rattle.drivers.specs.laws.RunEnds.{RunEnded, asked-again}
+use Rattle.drivers.specs.laws.JobRuns.{JobSound, JobSlices, job-sound, held-slices, job-space, job-right, job-ends}
+use Rattle.drivers.specs.declared.answer.Answer.{Answer}
+use Rattle.drivers.specs.declared.cutting_plane.FeasAnswer.{FeasAnswer}
+use Rattle.drivers.specs.declared.cutting_plane.FeasAnswer.the-variants.{Ended}
+use Rattle.drivers.specs.declared.job.Job.{Job}
+use Rattle.drivers.specs.declared.job.JobAnswer.the-variants.{Read}
+use Rattle.numbers.specs.laws.Pick.{is-hit, is-skip, both-ways}
+
+-- An answer, r, to a job whose point is x. Its steps are within the job's limit. A point that is found is feasible for the job.
+-- Where the limit allows a step, an answer without a point belongs to the job too: its own point is not feasible.
+pub record Answered (j : Job) (table x : List Float) (r : FeasAnswer × Space × List Float) : Type 0 where
+  pub answer : Answer
+  pub answer-is : r .0 ≡ Ended answer
+  pub steps-within : answer .steps ≤ j .options .«max_iters»
+  pub found-feasible : answer .found ≡ true → feasible-for j table (take (j .n) (r .2)) ≡ true
+  pub belongs : 1 ≤ j .options .«max_iters» → is-of j table x answer (take (j .n) (r .2)) ≡ true
+
+module _ (j : Job) (h : JobSound j) (table : List Float) (b : EllBuffers) (grad best : List Float) (l : JobSlices j table b grad) (room : j .n ≤ length best) where
+  pub job-answered : Answered j table (b .xc) (feas-answer (j .options) (j .rows) table (job-space j b grad) best)
+  unfolding feas-answer
+  job-answered =
+      subst (λ z. Answered j table (b .xc) z) (sym is) (record {
+        answer = e .answer;
+        answer-is = e .answer-is;
+        steps-within = omega (arith, e .steps-within);
+        found-feasible = found;
+        belongs = λ k. sym (both-ways (e .answer .found) (λ f. sym (found f)) (λ f. sym (ap not (e .none-feasible f k))));
+      })
+    where
+      s : Space
+      s = job-space j b grad
+
+      r : FeasAnswer × Space
+      r = feas-run (j .rows) table (j .options .tolerance) (j .options .«max_iters») 0 s
+
+      e : RunEnded (j .rows) table (j .options .«max_iters») 0 s r
+      e = job-ends j h table b grad l
+
+      is : feas-answer (j .options) (j .rows) table s best ≡ (r .0, r .1, kept (is-found (r .0)) (r .1 .buffers .xc) best)
+      is = ap (λ z. feas-checked (j .options) (j .rows) table s best z) (job-right j h table b grad l) ∙ is-skip _ _ _ (le-ltb (length best) (j .n) room)
+
+      xc-long : length (r .1 .buffers .xc) ≡ j .n
+      xc-long = right-fits (j .rows) table (r .1) (e .right) .long .xc-long ∙ e .ndim-stays
+
+      point-is : e .answer .found ≡ true → take (j .n) (kept (is-found (r .0)) (r .1 .buffers .xc) best) ≡ r .1 .buffers .xc
+      point-is f =
+          let xc = r .1 .buffers .xc in
+          let t : (is-found (r .0) && leb (length xc) (length best)) ≡ true = rw (e .answer-is, f) (le-leb (length xc) (length best) (omega (arith, xc-long))) in
+          ap (λ (l : List Float). take (j .n) l) (is-hit _ (fronted xc best) best t) ∙ take-at xc (drop (length xc) best) (j .n) xc-long
+
+      found : e .answer .found ≡ true → feasible-for j table (take (j .n) (kept (is-found (r .0)) (r .1 .buffers .xc) best)) ≡ true
+      found f =
+          ap (λ (x : List Float). feasible-for j table x) (point-is f)
+          ∙ ap (λ q. is-feasible (judge q)) (sym (asked-again (j .rows) table s (r .1) (e .ndim-stays) (e .limits-stay)))
+          ∙ e .found-feasible f
+
+-- So every job that `read_job` has read is answered over the slices that it was read into, with scratch and an output of n numbers.
+pub read-answered : (bytes : List ℕ) (table xc mq table′ xc′ mq′ : List Float) (j : Job) → read-job-answer bytes table xc mq ≡ (Read j, table′, xc′, mq′)
+    → (grad grad-t best : List Float) → length grad ≡ j .n → length grad-t ≡ j .n → j .n ≤ length best
+    → let rows = take (j .rows * j .n) table′ in
+    let b : EllBuffers = record { mq = take (j .n * j .n) mq′; xc = take (j .n) xc′; grad-t = grad-t } in
+    Answered j rows (take (j .n) xc′) (feas-answer (j .options) (j .rows) rows (job-space j b grad) best)
+read-answered bytes table xc mq table′ xc′ mq′ j e grad grad-t best g t room =
+    let h = job-sound bytes table xc mq j table′ xc′ mq′ e in
+    job-answered j (h .0) _ _ grad best (held-slices j table′ xc′ mq′ grad grad-t (h .1) g t) room

@@ -1,0 +1,118 @@
+-- Laws of records: the table of tags, and the fields that a walk has left. Assumes nothing.
+use mathlib.Core.Path.{_≡_, refl, sym, ap, _∙_}
+use mathlib.Core.Bool.{Bool, true, false, _&&_, and-eq-true-iff}
+use mathlib.Core.List.{List, [], _∷_}
+use Prim.Native.Nat.{ℕ, zero, suc, _≤_, _<_, _+_, _-_}
+use native.Mathlib.Numerals.{add-one}
+use native.Mathlib.Omega.{arith}
+use borrow.Author.Tests.{ltb-true, ltb-false, leb-true, lt-ltb, le-ltb, eq-eqb, ne-eqb}
+use lib.Dec.{leb, ltb, eqb}
+use lib.ListN.{length, drop, getD}
+use lib.Seq.{drop-cons}
+use Rattle.numbers.specs.Pick.{pick}
+use Rattle.numbers.specs.laws.Pick.{is-hit, is-skip, pick-cong, by-test}
+use Rattle.drivers.specs.Record.{once, rules, ruleAt, indexIn, indexOf, lengthAt, overruns, after, fields-from, fields-of}
+use Rattle.drivers.specs.declared.record.Rule.{Rule}
+
+-- ---- the table
+
+-- a test that every rule of a list passes, and the one past its end
+holds-of-all : (Rule → Bool) → List Rule → Bool
+holds-of-all f [] = true
+holds-of-all f (r ∷ rs) = f r && holds-of-all f rs
+
+each-holds : (f : Rule → Bool) (rs : List Rule) (d : Rule) → holds-of-all f rs ≡ true → f d ≡ true → (i : ℕ) → f (getD rs i d) ≡ true
+unfolding holds-of-all
+each-holds f [] d h e i = e
+each-holds f (r ∷ rs) d h e zero = and-eq-true-iff (f r) (holds-of-all f rs) .0 h .0
+each-holds f (r ∷ rs) d h e (suc i) = each-holds f rs d (and-eq-true-iff (f r) (holds-of-all f rs) .0 h .1) e i
+
+is-small : Rule → Bool
+is-small r = leb (r .base) 24 && (leb (r .factor) 8 && leb (r .power) 2)
+
+-- a field's length is far below a word's limit
+pub rule-small : (i : ℕ) → (ruleAt i .base ≤ 24) × (ruleAt i .factor ≤ 8) × (ruleAt i .power ≤ 2)
+unfolding ruleAt rules holds-of-all is-small
+rule-small i =
+    let r = ruleAt i in
+    let h : is-small (ruleAt i) ≡ true = each-holds is-small rules (once 256 0 0 0) refl refl i in
+    let a = and-eq-true-iff (leb (r .base) 24) (leb (r .factor) 8 && leb (r .power) 2) .0 h in
+    let b = and-eq-true-iff (leb (r .factor) 8) (leb (r .power) 2) .0 (a .1) in
+    (leb-true (r .base) 24 (a .0), leb-true (r .factor) 8 (b .0), leb-true (r .power) 2 (b .1))
+
+-- an element that is read within the table, whatever is read past it
+pub rule-within : (i : ℕ) (d : Rule) → i < 12 → getD rules i d ≡ ruleAt i
+unfolding ruleAt rules
+rule-within i d h =
+    let a = drop-cons rules i d h in
+    let b = drop-cons rules i (once 256 0 0 0) h in
+    cc
+
+-- the search for a tag: none passed, one that is found, one passed, and none left
+module _ (tag : ℕ) where
+  pub index-start : indexOf tag ≡ 0 + indexIn (drop 0 rules) tag
+  unfolding indexOf
+  index-start = omega arith
+
+  rule-next : (i : ℕ) → i < 12 → indexIn (drop i rules) tag ≡ pick (eqb (ruleAt i .tag) tag) 0 (suc (indexIn (drop (i + 1) rules) tag))
+  unfolding ruleAt indexIn
+  rule-next i h = rw (drop-cons rules i (once 256 0 0 0) h, add-one)
+
+  module _ (i : ℕ) (r : Rule) (is : r ≡ ruleAt i) (h : i < 12) where
+    pub index-found : r .tag ≡ tag → indexOf tag ≡ i + indexIn (drop i rules) tag → i ≡ indexOf tag
+    index-found e k =
+        let t : eqb (ruleAt i .tag) tag ≡ true = rw (← is) (eq-eqb (r .tag) tag e) in
+        omega (arith, k, rule-next i h ∙ is-hit _ _ _ t)
+
+    pub index-turn : (r .tag ≡ tag → ⊥) → indexOf tag ≡ i + indexIn (drop i rules) tag → indexOf tag ≡ i + 1 + indexIn (drop (i + 1) rules) tag
+    index-turn e k =
+        let t : eqb (ruleAt i .tag) tag ≡ false = rw (← is) (ne-eqb (r .tag) tag e) in
+        omega (arith, k, rule-next i h ∙ is-skip _ _ _ t)
+
+  pub index-end : (i : ℕ) → i ≡ 12 → indexOf tag ≡ i + indexIn (drop i rules) tag → i ≡ indexOf tag
+  unfolding indexIn rules
+  index-end i e k = omega (arith, k, none i e)
+    where
+      none : (i : ℕ) → i ≡ 12 → indexIn (drop i rules) tag ≡ 0
+      none i e = rw e
+
+-- ---- the fields from `at` on
+
+abbrev pub fields-after : List ℕ → ℕ → List ℕ
+fields-after bytes at = fields-from (length bytes) bytes at
+
+module _ (bytes : List ℕ) where
+  -- the next field begins further on, and at most at the end
+  pub after-past : (at : ℕ) → at < length bytes → at < after bytes at
+  unfolding after
+  after-past at h = by-test (λ z. at < z) (overruns bytes at) (length bytes) (at + (3 + lengthAt bytes at)) (λ _. h) (λ _. omega arith)
+
+  -- so a walk ends
+  pub left-less : (at next : ℕ) → next ≡ after bytes at → at < length bytes → length bytes - next < length bytes - at
+  left-less at next e h = omega (arith, after-past at h)
+
+  -- fuel that is enough does not matter
+  fuel-free : (f g at : ℕ) → length bytes - at ≤ f → length bytes - at ≤ g → fields-from f bytes at ≡ fields-from g bytes at
+  unfolding fields-from
+  fuel-free zero zero at a b = refl
+  fuel-free zero (suc g) at a b = sym (is-skip _ _ _ (le-ltb at (length bytes) (omega arith)))
+  fuel-free (suc f) zero at a b = is-skip _ _ _ (le-ltb at (length bytes) (omega arith))
+  fuel-free (suc f) (suc g) at a b =
+      pick-cong (ltb at (length bytes))
+      (λ e.
+      let h = after-past at (ltb-true at (length bytes) e) in
+      ap (λ (l : List ℕ). at ∷ l) (fuel-free f g (after bytes at) (omega arith) (omega arith)))
+      (λ _. refl)
+
+  -- all of them, one more, and none left
+  pub fields-start : fields-after bytes 0 ≡ fields-of bytes
+  unfolding fields-of
+  fields-start = refl
+
+  pub fields-turn : (at : ℕ) → at < length bytes → fields-after bytes at ≡ at ∷ fields-after bytes (after bytes at)
+  unfolding fields-from
+  fields-turn at h = fuel-free (length bytes) (suc (length bytes)) at (omega arith) (omega arith) ∙ is-hit _ _ _ (lt-ltb at (length bytes) h)
+
+  pub fields-end : (at : ℕ) → length bytes ≤ at → fields-after bytes at ≡ []
+  unfolding fields-from
+  fields-end at h = fuel-free (length bytes) 0 at (omega arith) (omega arith)

@@ -1,0 +1,204 @@
+-- Laws of Text: bytes written over a list, pieces one after the other, and digits. Assumes nothing.
+use Prim.Native.Nat.{ℕ, zero, suc, _+_, _/_, _%_, _≤_, _<_}
+use mathlib.Core.Path.{_≡_, refl, sym, ap, _∙_}
+use mathlib.Core.List.{List, [], _∷_, _++_, append-assoc, append-nil}
+use native.Mathlib.Nat.{add-zero, zero-add}
+use native.Mathlib.Omega.{arith}
+use borrow.Author.Tests.{le-leb, lt-leb}
+use lib.Dec.{ltb}
+use lib.ListN.{length, take, drop, set, length-append, length-drop, take-append-drop}
+use lib.Seq.{take-at, drop-at, take-append-le, take-take, drop-append-add, drop-drop, set-split, length-take-le, append-snoc}
+use Rattle.numbers.specs.Bits.{leBytes, putBytes}
+use Rattle.numbers.specs.laws.Bits.{length-bytes}
+use Rattle.numbers.specs.laws.Pick.{hit, skip, by-test}
+use Rattle.drivers.specs.Text.{over, put, put-all, joined, digitChar, digitsOf, digit-count-to, digit-count, decimal, hex}
+
+-- ---- bytes over a list
+
+module _ (out : List ℕ) (at : ℕ) where
+  pub over-none : over out at [] ≡ out
+  unfolding over
+  over-none = rw (append-nil, add-zero, take-append-drop)
+
+  module _ (xs : List ℕ) (h : at + length xs ≤ length out) where
+    front-long : length (take at out ++ xs) ≡ at + length xs
+    front-long = length-append (take at out) xs ∙ ap (λ (n : ℕ). n + length xs) (length-take-le at out (omega arith))
+
+    pub length-over : length (over out at xs) ≡ length out
+    unfolding over
+    length-over = length-append (take at out ++ xs) (drop (at + length xs) out) ∙ omega (arith, front-long, length-drop (at + length xs) out)
+
+    -- more bytes behind those that are written
+    pub over-on : (ys : List ℕ) → over (over out at xs) (at + length xs) ys ≡ over out at (xs ++ ys)
+    unfolding over
+    over-on ys =
+        let p = take at out ++ xs in
+        let d = drop (at + length xs) out in
+        let e : at + length xs + length ys ≡ length p + length ys = omega (arith, front-long) in
+        let l : at + length xs + length ys ≡ at + length (xs ++ ys) = omega (arith, length-append xs ys) in
+        ap (λ (l : List ℕ). l ++ ys ++ drop (at + length xs + length ys) (p ++ d)) (take-at p d (at + length xs) front-long)
+        ∙ ap (λ (n : ℕ). p ++ ys ++ drop n (p ++ d)) e
+        ∙ ap (λ (l : List ℕ). p ++ ys ++ l) (drop-append-add p d (length ys) ∙ drop-drop (length ys) (at + length xs) out)
+        ∙ ap (λ (l : List ℕ). l ++ drop (at + length xs + length ys) out) (append-assoc (take at out) xs ys)
+        ∙ ap (λ (n : ℕ). take at out ++ (xs ++ ys) ++ drop n out) l
+
+-- what is written at the front can be read there
+pub front-over : (out text : List ℕ) → take (length text) (over out 0 text) ≡ text
+unfolding over
+front-over out text = take-at text (drop (0 + length text) out) (length text) refl
+
+-- a byte stored
+pub set-over : (out : List ℕ) (i v : ℕ) → i < length out → set out i v ≡ over out i (v ∷ [])
+unfolding over
+set-over out i v h =
+    let e : suc i ≡ i + 1 = omega arith in
+    set-split out i v h ∙ sym (append-snoc (take i out) v (drop (suc i) out)) ∙ ap (λ (n : ℕ). take i out ++ (v ∷ []) ++ drop n out) e
+
+-- behind those that are written, and before them
+pub store-on : (out : List ℕ) (at : ℕ) (xs : List ℕ) (v : ℕ) → at + length xs < length out → set (over out at xs) (at + length xs) v ≡ over out at (xs ++ (v ∷ []))
+store-on out at xs v h =
+    let l : at + length xs ≤ length out = omega arith in
+    set-over (over out at xs) (at + length xs) v (rw (length-over out at xs l) h) ∙ over-on out at xs l (v ∷ [])
+
+pub store-before : (out : List ℕ) (i : ℕ) (xs : List ℕ) (v : ℕ) → suc i + length xs ≤ length out → set (over out (suc i) xs) i v ≡ over out i (v ∷ xs)
+unfolding over
+store-before out i xs v h =
+    let a = take (suc i) out in
+    let d = drop (suc i + length xs) out in
+    let la : length a ≡ suc i = length-take-le (suc i) out (omega arith) in
+    let n : suc i + length xs ≡ i + suc (length xs) = omega arith in
+    set-split (a ++ xs ++ d) i v (rw (length-append (a ++ xs) d, length-append a xs, la) (omega arith))
+    ∙ ap (λ (l : List ℕ). take i l ++ v ∷ drop (suc i) l) (append-assoc a xs d)
+    ∙ ap (λ (l : List ℕ). l ++ v ∷ drop (suc i) (a ++ (xs ++ d))) (take-append-le i a (xs ++ d) (omega (arith, la)) ∙ take-take i (suc i) out (omega arith))
+    ∙ ap (λ (l : List ℕ). take i out ++ v ∷ l) (drop-at a (xs ++ d) (suc i) la)
+    ∙ sym (append-assoc (take i out) (v ∷ xs) d)
+    ∙ ap (λ (k : ℕ). take i out ++ (v ∷ xs) ++ drop k out) n
+
+-- ---- pieces
+
+-- a piece that fits, and one that does not
+pub put-fits : (out : List ℕ) (at : ℕ) (text : List ℕ) → at + length text ≤ length out → (at + length text, over out at text) ≡ put out at text
+unfolding put
+put-fits out at text h = hit _ _ _ _ (le-leb (at + length text) (length out) h) refl
+
+pub put-not : (out : List ℕ) (at : ℕ) (text : List ℕ) → length out < at + length text → (at, out) ≡ put out at text
+unfolding put
+put-not out at text h = skip _ _ _ _ (lt-leb (at + length text) (length out) h) refl
+
+-- none; one, or some, and then others
+pub put-none : (out : List ℕ) (at : ℕ) → (at, out) ≡ put-all out at []
+unfolding put-all
+put-none out at = refl
+
+put-some : (out : List ℕ) (at : ℕ) (xs ys : List (List ℕ)) → (let p = put-all out at xs in put-all (p .1) (p .0) ys) ≡ put-all out at (xs ++ ys)
+unfolding put-all
+put-some out at [] ys = refl
+put-some out at (x ∷ xs) ys = let p = put out at x in put-some (p .1) (p .0) xs ys
+
+module _ (out : List ℕ) (at : ℕ) (p r : ℕ × List ℕ) where
+  pub put-then : (text : List ℕ) (texts : List (List ℕ)) → p ≡ put out at text → r ≡ put-all (p .1) (p .0) texts → r ≡ put-all out at (text ∷ texts)
+  unfolding put-all
+  put-then text texts e f = f ∙ ap (λ (q : ℕ × List ℕ). put-all (q .1) (q .0) texts) e
+
+  pub put-on : (xs ys : List (List ℕ)) → p ≡ put-all out at xs → r ≡ put-all (p .1) (p .0) ys → r ≡ put-all out at (xs ++ ys)
+  put-on xs ys e f = f ∙ ap (λ (q : ℕ × List ℕ). put-all (q .1) (q .0) ys) e ∙ put-some out at xs ys
+
+pub put-one : (out : List ℕ) (at : ℕ) (r : ℕ × List ℕ) (text : List ℕ) → r ≡ put out at text → r ≡ put-all out at (text ∷ [])
+unfolding put-all
+put-one out at r text e = e
+
+-- the same piece, told otherwise
+pub put-same : (out : List ℕ) (at : ℕ) (r : ℕ × List ℕ) (text other : List ℕ) → r ≡ put out at text → text ≡ other → r ≡ put out at other
+put-same out at r text other e f = e ∙ ap (put out at) f
+
+pub joined-none : joined [] ≡ []
+unfolding joined
+joined-none = refl
+
+pub joined-append : (xs ys : List (List ℕ)) → joined (xs ++ ys) ≡ joined xs ++ joined ys
+unfolding joined
+joined-append [] ys = refl
+joined-append (x ∷ xs) ys = ap (λ (l : List ℕ). x ++ l) (joined-append xs ys) ∙ sym (append-assoc x (joined xs) (joined ys))
+
+-- pieces that fit are one text
+pub put-all-fits : (out : List ℕ) (at : ℕ) (texts : List (List ℕ)) → at + length (joined texts) ≤ length out
+    → put-all out at texts ≡ (at + length (joined texts), over out at (joined texts))
+unfolding put-all joined
+put-all-fits out at [] h = sym (λ i. (add-zero at i, over-none out at i))
+put-all-fits out at (x ∷ xs) h =
+    let t = joined xs in
+    let l : length (x ++ t) ≡ length x + length t = length-append x t in
+    let f : at + length x ≤ length out = omega (arith, l) in
+    let f′ : at + length x + length t ≤ length (over out at x) = rw (length-over out at x f) (omega (arith, l)) in
+    let n : at + length x + length t ≡ at + length (x ++ t) = omega (arith, l) in
+    sym (put-then out at (at + length x, over out at x) _ x xs (put-fits out at x f) refl)
+    ∙ put-all-fits (over out at x) (at + length x) xs f′
+    ∙ (λ i. (n i, over-on out at x f t i))
+
+-- at the front of a list
+pub put-front : (out : List ℕ) (texts : List (List ℕ)) (r : ℕ × List ℕ) → length (joined texts) ≤ length out → r ≡ put-all out 0 texts
+    → r ≡ (length (joined texts), over out 0 (joined texts))
+put-front out texts r h e =
+    let z : 0 + length (joined texts) ≡ length (joined texts) = zero-add (length (joined texts)) in
+    e ∙ put-all-fits out 0 texts (omega (arith, h)) ∙ (λ i. (z i, over out 0 (joined texts)))
+
+-- how long pieces are, from a bound for each
+pub most-more : (a b : ℕ) (text : List ℕ) (texts : List (List ℕ)) → length text ≤ a → length (joined texts) ≤ b → length (joined (text ∷ texts)) ≤ a + b
+unfolding joined
+most-more a b text texts h k = omega (arith, length-append text (joined texts))
+
+pub most-on : (a b : ℕ) (xs ys : List (List ℕ)) → length (joined xs) ≤ a → length (joined ys) ≤ b → length (joined (xs ++ ys)) ≤ a + b
+most-on a b xs ys h k = rw (joined-append xs ys, length-append (joined xs) (joined ys)) (omega arith)
+
+pub most-none : length (joined []) ≤ 0
+unfolding joined
+most-none = omega arith
+
+-- ---- digits
+
+-- w without its j lowest digits
+unfoldable pub shift : ℕ → ℕ → ℕ → ℕ
+shift base zero w = w
+shift base (suc j) w = shift base j (w / base)
+
+module _ (base : ℕ) where
+  pub shift-more : (j w : ℕ) → shift base j w / base ≡ shift base (suc j) w
+  unfolding shift
+  shift-more zero w = refl
+  shift-more (suc j) w = shift-more j (w / base)
+
+  -- the next digit stands before the lower ones
+  pub digits-more : (j w : ℕ) → digitsOf base (suc j) w ≡ digitChar (shift base j w % base) ∷ digitsOf base j w
+  unfolding digitsOf shift
+  digits-more zero w = refl
+  digits-more (suc j) w = ap (λ (l : List ℕ). l ++ (digitChar (w % base) ∷ [])) (digits-more j (w / base))
+
+  pub length-digits : (count w : ℕ) → length (digitsOf base count w) ≡ count
+  unfolding digitsOf
+  length-digits zero w = refl
+  length-digits (suc count) w = length-append (digitsOf base count (w / base)) (digitChar (w % base) ∷ []) ∙ omega (arith, length-digits count (w / base))
+
+-- the lowest byte stands first
+pub bytes-more : (j w : ℕ) → leBytes (suc j) w ≡ leBytes j w ++ (shift 256 j w % 256 ∷ [])
+unfolding leBytes shift
+bytes-more zero w = refl
+bytes-more (suc j) w = ap (λ (l : List ℕ). w % 256 ∷ l) (bytes-more j (w / 256))
+
+pub put-over : (out : List ℕ) (at k w : ℕ) → putBytes out at k w ≡ over out at (leBytes k w)
+unfolding putBytes over
+put-over out at k w = ap (λ (n : ℕ). take at out ++ leBytes k w ++ drop (at + n) out) (sym (length-bytes k w))
+
+-- ---- how long
+
+count-most : (most w : ℕ) → digit-count-to most w ≤ suc most
+unfolding digit-count-to
+count-most zero w = omega arith
+count-most (suc most) w = by-test (λ (n : ℕ). n ≤ suc (suc most)) (ltb w 10) _ _ (λ _. omega arith) (λ _. omega (arith, count-most most (w / 10)))
+
+pub length-decimal : (w : ℕ) → length (decimal w) ≤ 20
+unfolding decimal digit-count
+length-decimal w = rw (length-digits 10 (digit-count-to 19 w) w) (count-most 19 w)
+
+pub length-hex : (w : ℕ) → length (hex w) ≡ 16
+unfolding hex
+length-hex w = length-digits 16 16 w

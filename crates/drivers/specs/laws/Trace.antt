@@ -1,0 +1,251 @@
+-- Laws of Trace: the text of a step fits 128 bytes; what the calls of a run print, one after the other, is the run's text. Assumes nothing.
+use Prim.Native.Nat.{ℕ, zero, suc, _+_, _-_, _≤_, _<_}
+use mathlib.Core.Path.{_≡_, refl, sym, ap, _∙_, subst}
+use mathlib.Core.Bool.{Bool, true, false, true≢false}
+use mathlib.Core.List.{List, [], _++_, append-assoc, append-nil}
+use native.Mathlib.Omega.{arith}
+use borrow.Author.Tests.{lt-ltb, le-ltb, ltb-true, ltb-false}
+use lib.Dec.{ltb}
+use lib.ListN.{length, take}
+use lib.Ieee.{Float}
+use Rattle.numbers.specs.Pick.{pick}
+use Rattle.numbers.specs.Refusal.{refusalNumber}
+use Rattle.numbers.specs.Bits.{bitsOf}
+use Rattle.numbers.specs.declared.refusal.Refusal.{Refusal}
+use Rattle.numbers.specs.declared.refusal.Refusal.the-variants.{Room}
+use Rattle.numbers.specs.declared.cut.CutChoice.{CutChoice}
+use Rattle.numbers.specs.declared.cut.CutChoice.the-variants.{Single, Parallel}
+use Rattle.numbers.specs.declared.cut.CutStatus.{CutStatus}
+use Rattle.numbers.specs.declared.cut.CutStatus.the-variants.{Success, NoSoln, NoEffect}
+use Rattle.numbers.specs.laws.Pick.{hit, skip, is-hit, pick-cong, by-test, pick-map}
+use Rattle.oracles.specs.LowpassOracle.{groupSide}
+use Rattle.oracles.specs.Ell.{EllBuffers}
+use Rattle.oracles.specs.declared.lowpass_oracle.Group.{Group}
+use Rattle.oracles.specs.declared.lowpass_oracle.Group.the-variants.{Pass, Stop, Middle, Sign}
+use Rattle.drivers.specs.Text.{over, put-all, joined, hex}
+use Rattle.drivers.specs.laws.Text.{length-over, length-decimal, length-hex, most-more, most-on, most-none, put-front, joined-append, joined-none, front-over}
+use Rattle.drivers.specs.Trace.{group-word, row-text, side-word, beta-pieces, status-word, said-pieces, outcome-word, last-pieces, ended-pieces, refused-pieces, printed, step-text, space-of, run-at, step-printed, limit-printed, next-checked, next-answer, run-text, cut-lines, text-left, text-in, printed-by}
+use Rattle.drivers.specs.CuttingPlane.{Space, check-space, feas-step, goes-on, feas-ended, feas-run}
+use Rattle.drivers.specs.laws.StepRight.{step-right}
+use Rattle.drivers.specs.declared.answer.Answer.{Answer}
+use Rattle.drivers.specs.declared.cutting_plane.Said.{Said}
+use Rattle.drivers.specs.declared.cutting_plane.Said.the-variants.{Feasible, Cut, Refused as NotStepped}
+use Rattle.drivers.specs.declared.cutting_plane.FeasAnswer.{FeasAnswer}
+use Rattle.drivers.specs.declared.cutting_plane.FeasAnswer.the-variants.{Ended, Refused as NotRun}
+use Rattle.drivers.specs.declared.cutting_plane.Checked.{Checked}
+use Rattle.drivers.specs.declared.cutting_plane.Checked.the-variants.{Right}
+use Rattle.drivers.specs.declared.trace.Run.{Run}
+use Rattle.drivers.specs.declared.trace.Printed.{Printed}
+use Rattle.drivers.specs.declared.trace.Text.the-variants.{Bytes, Refused}
+
+-- ---- how long the texts are
+
+group-most : (g : Group) → length (group-word g) ≤ 8
+group-most (Pass row over) = omega arith
+group-most (Stop row over) = omega arith
+group-most (Middle row) = omega arith
+group-most Sign = omega arith
+
+row-most : (g : Group) → length (row-text g) ≤ 20
+row-most (Pass row over) = length-decimal row
+row-most (Stop row over) = length-decimal row
+row-most (Middle row) = length-decimal row
+row-most Sign = omega arith
+
+side-most : (over : Bool) → length (side-word over) ≤ 7
+side-most true = omega arith
+side-most false = omega arith
+
+hex-most : (w : ℕ) → length (hex w) ≤ 16
+hex-most w = omega (arith, length-hex w)
+
+betas-most : (beta : CutChoice) → length (joined (beta-pieces beta)) ≤ 33
+betas-most (Single beta0) = most-more 16 17 _ _ (hex-most (bitsOf beta0)) (most-more 2 15 _ _ (omega arith) (omega (arith, most-none)))
+betas-most (Parallel beta0 beta1) =
+    most-more 16 17 _ _ (hex-most (bitsOf beta0)) (most-more 1 16 _ _ (omega arith) (most-more 16 0 _ _ (hex-most (bitsOf beta1)) most-none))
+
+status-most : (s : CutStatus) → length (status-word s) ≤ 10
+status-most Success = omega arith
+status-most NoSoln = omega arith
+status-most NoEffect = omega arith
+
+said-most : (k : ℕ) (said : Said) → length (joined (said-pieces k said)) ≤ 98
+said-most k Feasible = omega (arith, most-none)
+said-most k (Cut group beta status) =
+    most-more 20 78 _ _ (length-decimal k)
+    (most-more 8 70 _ _ (group-most group)
+    (most-more 20 50 _ _ (row-most group)
+    (most-more 7 43 _ _ (side-most (groupSide group))
+    (most-on 33 10 _ _ (betas-most beta) (most-more 10 0 _ _ (status-most status) most-none)))))
+said-most k (NotStepped why) = omega (arith, most-none)
+
+outcome-most : (found : Bool) → length (outcome-word found) ≤ 6
+outcome-most true = omega arith
+outcome-most false = omega arith
+
+pub last-most : (a : Answer) → length (joined (last-pieces a)) ≤ 27
+last-most a = most-more 6 21 _ _ (outcome-most (a .found)) (most-more 20 1 _ _ (length-decimal (a .steps)) (most-more 1 0 _ _ (omega arith) most-none))
+
+ended-most : (a : FeasAnswer) → length (joined (ended-pieces a)) ≤ 27
+ended-most (Ended a) = last-most a
+ended-most (NotRun why) = omega (arith, most-none)
+
+pub refused-most : (why : Refusal) (place : ℕ) → length (joined (refused-pieces why place)) ≤ 50
+refused-most why place =
+    most-more 8 42 _ _ (omega arith)
+    (most-more 20 22 _ _ (length-decimal (refusalNumber why))
+    (most-more 1 21 _ _ (omega arith) (most-more 20 1 _ _ (length-decimal place) (most-more 1 0 _ _ (omega arith) most-none))))
+
+pub step-most : (k : ℕ) (more : Bool) (said : Said) → length (step-text k more said) ≤ 125
+unfolding step-text
+step-most k more said =
+    most-on 98 27 _ _ (said-most k said)
+    (by-test (λ (ps : List (List ℕ)). length (joined ps) ≤ 27) more _ _ (λ _. omega (arith, most-none)) (λ _. ended-most (feas-ended said k)))
+
+-- ---- where they are written
+
+pub not-printed-in : (text out : List ℕ) → length out < 128 → (Refused Room, out) ≡ printed text out
+unfolding printed
+not-printed-in text out h = hit _ _ _ _ (lt-ltb (length out) 128 h) refl
+
+pub printed-in : (out : List ℕ) (texts : List (List ℕ)) (r : ℕ × List ℕ) → 128 ≤ length out → length (joined texts) ≤ 128 → r ≡ put-all out 0 texts
+    → (Bytes (r .0), r .1) ≡ printed (joined texts) out
+unfolding printed
+printed-in out texts r h l e =
+    let f : length (joined texts) ≤ length out = omega arith in
+    skip _ _ _ _ (le-ltb (length out) 128 h) (ap (λ (q : ℕ × List ℕ). (Bytes (q .0), q .1)) (put-front out texts r f e))
+
+-- a step's pieces, and those of the answer where it is the last
+pub step-pieces : (out : List ℕ) (k : ℕ) (more : Bool) (said : Said) (rest : List (List ℕ)) (r : ℕ × List ℕ) → 128 ≤ length out
+    → rest ≡ pick more [] (ended-pieces (feas-ended said k)) → r ≡ put-all out 0 (said-pieces k said ++ rest)
+    → r ≡ (length (step-text k more said), over out 0 (step-text k more said))
+unfolding step-text
+step-pieces out k more said rest r h e f =
+    let l : length (step-text k more said) ≤ length out = omega (arith, step-most k more said) in
+    put-front out _ r l (f ∙ ap (λ (ps : List (List ℕ)). put-all out 0 (said-pieces k said ++ ps)) e)
+
+-- ---- the run
+
+-- a step, and what the rest of the run prints
+one-step : (k : ℕ) (more : Bool) (said : Said) (text lines : List ℕ) (answer : FeasAnswer) → text ≡ lines ++ joined (ended-pieces answer)
+    → step-text k more said ++ pick more text [] ≡ (joined (said-pieces k said) ++ pick more lines []) ++ joined (ended-pieces (pick more answer (feas-ended said k)))
+unfolding step-text pick
+one-step k true said text lines answer e =
+    let p = joined (said-pieces k said) in
+    ap (λ (l : List ℕ). l ++ text) (joined-append (said-pieces k said) [])
+    ∙ rw (joined-none, append-nil p, e) (sym (append-assoc p lines (joined (ended-pieces answer))))
+one-step k false said text lines answer e =
+    rw (append-nil, append-nil) (joined-append (said-pieces k said) (ended-pieces (feas-ended said k)))
+
+module _ (rows : ℕ) (table : List Float) (tolerance : Float) where
+  -- a run prints the lines of its cuts, and last the answer of `feas-run`, which `cutting_plane_feas` gives where it is not refused
+  pub run-prints : (left k : ℕ) (s : Space)
+      → run-text rows table tolerance left k s ≡ cut-lines rows table tolerance left k s ++ joined (ended-pieces (feas-run rows table tolerance left k s .0))
+  unfolding run-text cut-lines feas-run
+  run-prints zero k s = refl
+  run-prints (suc left) k s =
+      let r = feas-step rows table s in
+      let more = goes-on (r .0) (r .1 .ell .tsq) tolerance in
+      one-step k more (r .0) _ _ _ (run-prints left (suc k) (r .1))
+      ∙ ap (λ (a : FeasAnswer). (joined (said-pieces k (r .0)) ++ pick more (cut-lines rows table tolerance left (suc k) (r .1)) []) ++ joined (ended-pieces a))
+      (sym (pick-map (λ (p : FeasAnswer × Space). p .0) more (feas-run rows table tolerance left (suc k) (r .1)) (feas-ended (r .0) k, r .1)))
+
+-- ---- its calls
+
+module _ (run : Run) (table : List Float) (b : EllBuffers) (grad : List Float) (out : List ℕ) where
+  -- a call prints the next part of what is left, and the rest is left where there is more
+  abbrev pub Prints : Printed × EllBuffers × List Float × List ℕ → Type 0
+  Prints p = text-left run table b grad ≡ text-in (p .0 .text) (p .3) ++ pick (p .0 .more) (text-left (p .0 .run) table (p .1) (p .2)) []
+
+  limit-prints : run .options .«max_iters» ≤ run .niter → Prints (limit-printed run b grad out)
+  unfolding limit-printed run-text
+  limit-prints h =
+      let none : run .options .«max_iters» - run .niter ≡ 0 = omega arith in
+      let text = joined (last-pieces (record { found = false; steps = run .niter })) in
+      ap (λ (j : ℕ). run-text (run .rows) table (run .options .tolerance) j (run .niter) (space-of run b grad)) none
+      ∙ sym (front-over out text) ∙ sym (append-nil (take (length text) (over out 0 text)))
+      ∙ ap (λ (l : List ℕ). take (length text) (over out 0 text) ++ l) (skip false (text-left run table b grad) [] [] refl refl)
+
+  step-prints : run .niter < run .options .«max_iters» → Prints (step-printed run table b grad out)
+  unfolding step-printed run-text
+  step-prints h =
+      let k = run .niter in
+      let m = run .options .«max_iters» in
+      let some : m - k ≡ suc (m - suc k) = omega arith in
+      let r = feas-step (run .rows) table (space-of run b grad) in
+      let more = goes-on (r .0) (r .1 .ell .tsq) (run .options .tolerance) in
+      let text = step-text k more (r .0) in
+      rw some
+      (ap (λ (l : List ℕ). text ++ l)
+      (pick-cong more
+      (λ e. ap (λ (j : ℕ). run-text (run .rows) table (run .options .tolerance) (m - j) j (r .1)) (sym (is-hit more (suc k) k e)))
+      (λ e. refl))
+      ∙ ap (λ (l : List ℕ). l ++ pick more (text-left (run-at run (r .1) (pick more (suc k) k)) table (r .1 .buffers) (r .1 .grad)) []) (sym (front-over out text)))
+
+  -- what follows where there is more: another call, with fewer steps left
+  record Goes (p : Printed × EllBuffers × List Float × List ℕ) : Type 0 where
+    right : check-space (p .0 .run .rows) table (space-of (p .0 .run) (p .1) (p .2)) ≡ Right
+    room : 128 ≤ length (p .3)
+    fewer : p .0 .run .options .«max_iters» - p .0 .run .niter < run .options .«max_iters» - run .niter
+
+  module _ (e : check-space (run .rows) table (space-of run b grad) ≡ Right) (h : 128 ≤ length out) where
+    by-next : (P : Printed × EllBuffers × List Float × List ℕ → Type 0) → (run .niter < run .options .«max_iters» → P (step-printed run table b grad out))
+        → (run .options .«max_iters» ≤ run .niter → P (limit-printed run b grad out)) → P (next-answer run table b grad out)
+    unfolding next-answer
+    by-next P f g =
+        subst (λ (c : Checked). P (next-checked run table b grad out c)) (sym e)
+        (by-test P (ltb (length out) 128) _ _ (λ l. absurd (omega (arith, ltb-true (length out) 128 l)))
+        (λ _. by-test P (ltb (run .niter) (run .options .«max_iters»)) _ _
+        (λ l. f (ltb-true (run .niter) (run .options .«max_iters») l))
+        (λ l. g (ltb-false (run .niter) (run .options .«max_iters») l))))
+
+    pub next-prints : Prints (next-answer run table b grad out)
+    next-prints = by-next Prints step-prints limit-prints
+
+    step-goes : run .niter < run .options .«max_iters» → step-printed run table b grad out .0 .more ≡ true → Goes (step-printed run table b grad out)
+    unfolding step-printed
+    step-goes l m =
+        let k = run .niter in
+        let s = space-of run b grad in
+        let r = feas-step (run .rows) table s in
+        let text = step-text k (goes-on (r .0) (r .1 .ell .tsq) (run .options .tolerance)) (r .0) in
+        let next : pick (goes-on (r .0) (r .1 .ell .tsq) (run .options .tolerance)) (suc k) k ≡ suc k = is-hit _ (suc k) k m in
+        record {
+          right = step-right (run .rows) table s e .right;
+          room = rw (length-over out 0 text (omega (arith, step-most k (goes-on (r .0) (r .1 .ell .tsq) (run .options .tolerance)) (r .0)))) h;
+          fewer = omega (arith, next);
+        }
+
+    next-goes : next-answer run table b grad out .0 .more ≡ true → Goes (next-answer run table b grad out)
+    unfolding limit-printed
+    next-goes = by-next (λ p. p .0 .more ≡ true → Goes p) step-goes (λ l m. absurd (true≢false (sym m)))
+
+-- enough calls of `next` print all of a run that passes the check
+pub calls-print : (calls : ℕ) (run : Run) (table : List Float) (b : EllBuffers) (grad : List Float) (out : List ℕ)
+    → check-space (run .rows) table (space-of run b grad) ≡ Right → 128 ≤ length out → run .options .«max_iters» - run .niter < calls
+    → printed-by calls run table b grad out ≡ text-left run table b grad
+unfolding printed-by
+calls-print zero run table b grad out e h l = absurd (omega (arith, l))
+calls-print (suc calls) run table b grad out e h l =
+    let p = next-answer run table b grad out in
+    ap (λ (rest : List ℕ). text-in (p .0 .text) (p .3) ++ rest)
+    (pick-cong (p .0 .more)
+    (λ m.
+    let g = next-goes run table b grad out e h m in
+    calls-print calls (p .0 .run) table (p .1) (p .2) (p .3) (g .right) (g .room) (omega (arith, g .fewer)))
+    (λ _. refl))
+    ∙ sym (next-prints run table b grad out e h)
+
+-- so a run from its first step on prints the lines of its cuts, and last the answer of `feas-run`
+pub run-printed : (run : Run) (table : List Float) (b : EllBuffers) (grad : List Float) (out : List ℕ)
+    → check-space (run .rows) table (space-of run b grad) ≡ Right → 128 ≤ length out → run .niter ≡ 0
+    → (let m = run .options .«max_iters» in
+    let t = run .options .tolerance in
+    let s = space-of run b grad in
+    printed-by (m + 1) run table b grad out ≡ cut-lines (run .rows) table t m 0 s ++ joined (ended-pieces (feas-run (run .rows) table t m 0 s .0)))
+run-printed run table b grad out e h z =
+    let m = run .options .«max_iters» in
+    let left : m - run .niter ≡ m = omega arith in
+    calls-print (m + 1) run table b grad out e h (omega arith)
+    ∙ (λ i. run-text (run .rows) table (run .options .tolerance) (left i) (z i) (space-of run b grad))
+    ∙ run-prints (run .rows) table (run .options .tolerance) m 0 (space-of run b grad)

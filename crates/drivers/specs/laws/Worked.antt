@@ -1,0 +1,60 @@
+-- Document 01's worked job of 145 bytes, two of its refused records, and long inputs: what the definition prints for them, computed. Assumes nothing.
+use Prim.Native.Nat.{ℕ, _<_}
+use mathlib.Core.Path.{_≡_, refl}
+use mathlib.Core.List.{List, [], _∷_}
+use borrow.Author.Tests.{lt-ltb}
+use lib.ListN.{length}
+use lib.Ieee.{add, lt, sub, mul, le, ofBits, toBits}
+use Rattle.numbers.specs.Pick.{pick, some}
+use Rattle.numbers.specs.Bits.{leNumber, wordAt}
+use Rattle.numbers.specs.Arr.{tab, dotFrom, dotOf, mvOf, tested}
+use Rattle.numbers.specs.EllCalc.{made, calc-bias-cut, calc-parallel-impl, calc-parallel-bias-cut, calc-single-or-parallel-bias-cut}
+use Rattle.numbers.specs.laws.Pick.{is-hit}
+use Rattle.oracles.specs.RoundRobin.{advanced}
+use Rattle.oracles.specs.Scan.{valueOf, scanFrom, scanOf, band-gradient}
+use Rattle.oracles.specs.LowpassOracle.{assessOf, assess-feas-answer}
+use Rattle.oracles.specs.Ell.{ell-updateOf}
+use Rattle.drivers.specs.Record.{rules, ruleAt, indexIn, indexOf, ruleLength, after, numberAt, fields-from, fields-of, field-fault, walk-of, missing-fault, record-fault, lengths-fault, row-count, rows-of}
+use Rattle.drivers.specs.CuttingPlane.{feas-step}
+use Rattle.drivers.specs.Text.{joined, digitChar, digitsOf, digit-count-to, digit-count, decimal, hex}
+use Rattle.drivers.specs.Job.{signed, job-oracle, optionsOf, dimension-fault, band-fault, cursor-fault, room-fault, job-fault}
+use Rattle.drivers.specs.Trace.{step-text, run-text}
+use Rattle.drivers.specs.Program.{first-space, job-text, program-text}
+
+-- n 2; bands 1, 1; limits 1, 2, 1; row (1, 0); point (0, 0); cursors −1, 0, 0; kappa 0.25; identity; 10 steps, tolerance 0
+abbrev pub worked-job : List ℕ
+worked-job =
+    0x01 ∷ 0x02 ∷ 0 ∷ 0x02 ∷ 0  -- n 2
+    ∷ 0x02 ∷ 0x04 ∷ 0 ∷ 0x01 ∷ 0 ∷ 0x01 ∷ 0  -- bands 1, 1
+    ∷ 0x03 ∷ 0x18 ∷ 0 ∷ 0 ∷ 0 ∷ 0 ∷ 0 ∷ 0 ∷ 0 ∷ 0xf0 ∷ 0x3f ∷ 0 ∷ 0 ∷ 0 ∷ 0 ∷ 0 ∷ 0 ∷ 0 ∷ 0x40 ∷ 0 ∷ 0 ∷ 0 ∷ 0 ∷ 0 ∷ 0 ∷ 0xf0 ∷ 0x3f  -- limits 1, 2, 1
+    ∷ 0x04 ∷ 0x10 ∷ 0 ∷ 0 ∷ 0 ∷ 0 ∷ 0 ∷ 0 ∷ 0 ∷ 0xf0 ∷ 0x3f ∷ 0 ∷ 0 ∷ 0 ∷ 0 ∷ 0 ∷ 0 ∷ 0 ∷ 0  -- row (1, 0)
+    ∷ 0x05 ∷ 0x10 ∷ 0 ∷ 0 ∷ 0 ∷ 0 ∷ 0 ∷ 0 ∷ 0 ∷ 0 ∷ 0 ∷ 0 ∷ 0 ∷ 0 ∷ 0 ∷ 0 ∷ 0 ∷ 0 ∷ 0  -- point (0, 0)
+    ∷ 0x06 ∷ 0x06 ∷ 0 ∷ 0xff ∷ 0xff ∷ 0 ∷ 0 ∷ 0 ∷ 0  -- cursors −1, 0, 0
+    ∷ 0x07 ∷ 0x08 ∷ 0 ∷ 0 ∷ 0 ∷ 0 ∷ 0 ∷ 0 ∷ 0 ∷ 0xd0 ∷ 0x3f  -- kappa 0.25
+    ∷ 0x08 ∷ 0x20 ∷ 0 ∷ 0 ∷ 0 ∷ 0 ∷ 0 ∷ 0 ∷ 0 ∷ 0xf0 ∷ 0x3f ∷ 0 ∷ 0 ∷ 0 ∷ 0 ∷ 0 ∷ 0 ∷ 0 ∷ 0 ∷ 0 ∷ 0 ∷ 0 ∷ 0 ∷ 0 ∷ 0 ∷ 0 ∷ 0 ∷ 0 ∷ 0 ∷ 0 ∷ 0 ∷ 0 ∷ 0 ∷ 0xf0 ∷ 0x3f  -- identity
+    ∷ 0x09 ∷ 0x0a ∷ 0 ∷ 0x0a ∷ 0 ∷ 0 ∷ 0 ∷ 0 ∷ 0 ∷ 0 ∷ 0 ∷ 0 ∷ 0 ∷ []  -- 10 steps, tolerance 0
+
+-- all of its output
+abbrev pub worked-text : List ℕ
+worked-text =
+    48 ∷ 32 ∷ 112 ∷ 97 ∷ 115 ∷ 115 ∷ 32 ∷ 48 ∷ 32 ∷ 117 ∷ 110 ∷ 100 ∷ 101 ∷ 114 ∷ 32 ∷ 51 ∷ 70 ∷ 70 ∷ 48 ∷ 48 ∷ 48 ∷ 48 ∷ 48 ∷ 48 ∷ 48 ∷ 48 ∷ 48 ∷ 48 ∷ 48 ∷ 48 ∷ 48 ∷ 32 ∷ 52 ∷ 48 ∷ 48 ∷ 48 ∷ 48 ∷ 48 ∷ 48 ∷ 48 ∷ 48 ∷ 48 ∷ 48 ∷ 48 ∷ 48 ∷ 48 ∷ 48 ∷ 48 ∷ 32 ∷ 78 ∷ 111 ∷ 83 ∷ 111 ∷ 108 ∷ 110 ∷ 10  -- 0 pass 0 under 3FF0000000000000 4000000000000000 NoSoln
+    ∷ 110 ∷ 111 ∷ 110 ∷ 101 ∷ 32 ∷ 48 ∷ 10 ∷ []  -- none 0
+
+pub worked : program-text worked-job ≡ worked-text
+unfolding add lt sub mul le ofBits toBits pick leNumber wordAt tab dotFrom dotOf mvOf tested made calc-bias-cut calc-parallel-impl calc-parallel-bias-cut calc-single-or-parallel-bias-cut advanced valueOf scanFrom scanOf band-gradient assessOf assess-feas-answer some ell-updateOf rules ruleAt indexIn indexOf ruleLength after numberAt fields-from fields-of field-fault walk-of missing-fault record-fault lengths-fault row-count rows-of feas-step joined digitChar digitsOf digit-count-to digit-count decimal hex signed job-oracle optionsOf dimension-fault band-fault cursor-fault room-fault job-fault step-text run-text first-space job-text program-text
+worked = refl
+
+-- the empty record: refused 10 0
+pub empty-refused : program-text [] ≡ 114 ∷ 101 ∷ 102 ∷ 117 ∷ 115 ∷ 101 ∷ 100 ∷ 32 ∷ 49 ∷ 48 ∷ 32 ∷ 48 ∷ 10 ∷ []
+unfolding pick rules ruleAt fields-from fields-of walk-of missing-fault record-fault some joined digitChar digitsOf digit-count-to digit-count decimal job-fault program-text
+empty-refused = refl
+
+-- 01 02: refused 7 0
+pub short-refused : program-text (0x01 ∷ 0x02 ∷ []) ≡ 114 ∷ 101 ∷ 102 ∷ 117 ∷ 115 ∷ 101 ∷ 100 ∷ 32 ∷ 55 ∷ 32 ∷ 48 ∷ 10 ∷ []
+unfolding pick leNumber wordAt rules ruleAt indexIn indexOf after fields-from fields-of field-fault walk-of record-fault joined digitChar digitsOf digit-count-to digit-count decimal job-fault program-text
+short-refused = refl
+
+-- any input of more than 65,536 bytes: refused 11 65536
+pub long-refused : (bytes : List ℕ) → 65536 < length bytes → program-text bytes ≡ 114 ∷ 101 ∷ 102 ∷ 117 ∷ 115 ∷ 101 ∷ 100 ∷ 32 ∷ 49 ∷ 49 ∷ 32 ∷ 54 ∷ 53 ∷ 53 ∷ 51 ∷ 54 ∷ 10 ∷ []
+unfolding pick joined digitChar digitsOf digit-count-to digit-count decimal program-text
+long-refused bytes h = is-hit _ _ _ (lt-ltb 65536 (length bytes) h)
