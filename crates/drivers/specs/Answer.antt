@@ -9,10 +9,11 @@ use Rattle.numbers.specs.Pick.{pick}
 use Rattle.numbers.specs.Bits.{bitsOf, leBytes}
 use Rattle.numbers.specs.Arr.{isDimension}
 use Rattle.numbers.specs.declared.refusal.Refusal.the-variants.{Dimension, Length, Room, Outcome}
+use Rattle.numbers.specs.Refusal.{_⨾_, unless}
 use Rattle.drivers.specs.Text.{over}
-use Rattle.drivers.specs.Record.{tagAt, startOf, halfAt, numbersAt, fields-of, _⨾_, unless, no-places, record-fault, lengths-fault, fronted}
-use Rattle.drivers.specs.declared.record.Fault.{Fault}
-use Rattle.drivers.specs.declared.record.Fault.the-variants.{Sound, At}
+use Rattle.drivers.specs.Record.{tagAt, startOf, halfAt, numbersAt, fields-of, no-places, record-fault, lengths-fault, fronted}
+use Rattle.numbers.specs.declared.refusal.Fault.{Fault}
+use Rattle.numbers.specs.declared.refusal.Fault.the-variants.{Sound, At}
 use Rattle.drivers.specs.declared.answer.Answer.{Answer}
 use Rattle.drivers.specs.declared.answer.AnswerRead.{AnswerRead}
 use Rattle.drivers.specs.declared.answer.AnswerRead.the-variants.{Read, Refused}

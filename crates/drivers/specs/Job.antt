@@ -10,13 +10,14 @@ use Rattle.numbers.specs.Pick.{pick}
 use Rattle.numbers.specs.Bits.{floatOf, wordAt}
 use Rattle.numbers.specs.Arr.{isDimension}
 use Rattle.numbers.specs.declared.refusal.Refusal.the-variants.{Dimension, Length, Band, Cursor, Room}
+use Rattle.numbers.specs.Refusal.{_⨾_, unless}
 use Rattle.oracles.specs.Scan.{−∞, none, isRows}
 use Rattle.oracles.specs.LowpassOracle.{cursors-fit}
 use Rattle.oracles.specs.declared.round_robin.RoundRobin.{RoundRobin}
 use Rattle.oracles.specs.declared.lowpass_oracle.LowpassOracle.{LowpassOracle}
-use Rattle.drivers.specs.Record.{ruleLength, lengthAt, startOf, halfAt, numberAt, numbersAt, fields-of, _⨾_, unless, no-places, record-fault, lengths-fault, row-count, rows-of, fronted}
-use Rattle.drivers.specs.declared.record.Fault.{Fault}
-use Rattle.drivers.specs.declared.record.Fault.the-variants.{Sound, At}
+use Rattle.drivers.specs.Record.{ruleLength, lengthAt, startOf, halfAt, numberAt, numbersAt, fields-of, no-places, record-fault, lengths-fault, row-count, rows-of, fronted}
+use Rattle.numbers.specs.declared.refusal.Fault.{Fault}
+use Rattle.numbers.specs.declared.refusal.Fault.the-variants.{Sound, At}
 use Rattle.drivers.specs.declared.cutting_plane.Options.{Options}
 use Rattle.drivers.specs.declared.job.Job.{Job}
 use Rattle.drivers.specs.declared.job.JobAnswer.{JobAnswer}

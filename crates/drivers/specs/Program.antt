@@ -9,8 +9,9 @@ use Rattle.numbers.specs.Pick.{pick}
 use Rattle.numbers.specs.EllCalc.{made}
 use Rattle.numbers.specs.declared.refusal.Refusal.{Refusal}
 use Rattle.numbers.specs.declared.refusal.Refusal.the-variants.{Room}
+use Rattle.numbers.specs.Refusal.{unless}
 use Rattle.drivers.specs.Text.{joined}
-use Rattle.drivers.specs.Record.{numbersAt, halfAt, numberAt, fields-of, row-count, rows-of, unless, no-places}
+use Rattle.drivers.specs.Record.{numbersAt, halfAt, numberAt, fields-of, row-count, rows-of, no-places}
 use Rattle.drivers.specs.CuttingPlane.{Space}
 use Rattle.drivers.specs.Job.{job-oracle, optionsOf, job-fault}
 use Rattle.drivers.specs.Trace.{refused-pieces, run-text, text-in, printed-by}

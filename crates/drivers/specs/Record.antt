@@ -11,8 +11,8 @@ use Rattle.numbers.specs.Arr.{tab}
 use Rattle.numbers.specs.declared.refusal.Refusal.{Refusal}
 use Rattle.numbers.specs.declared.refusal.Refusal.the-variants.{Length, CutShort, ForeignTag, RepeatedTag, MissingTag}
 use Rattle.drivers.specs.declared.record.Rule.{Rule}
-use Rattle.drivers.specs.declared.record.Fault.{Fault}
-use Rattle.drivers.specs.declared.record.Fault.the-variants.{Sound, At}
+use Rattle.numbers.specs.declared.refusal.Fault.{Fault}
+use Rattle.numbers.specs.declared.refusal.Fault.the-variants.{Sound, At}
 
 -- ---- the table
 
@@ -96,21 +96,6 @@ fields-from (suc fuel) bytes at = pick (ltb at (length bytes)) (at ∷ fields-fr
 unfoldable pub fields-of : List ℕ → List ℕ
 unfolding fields-from
 fields-of bytes = fields-from (length bytes) bytes 0
-
--- ---- faults: the first that is found counts
-
-abbrev pub is-fault : Fault → Bool
-is-fault Sound = false
-is-fault (At why place) = true
-
-infixr 20 _⨾_
-abbrev pub _⨾_ : Fault → Fault → Fault
-a ⨾ b = pick (is-fault a) a b
-
--- what is made of a refusal, or of no fault
-abbrev pub unless {ℓ} : {X : Type ℓ} → Fault → (Refusal → ℕ → X) → X → X
-unless Sound refused done = done
-unless (At why place) refused done = refused why place
 
 -- where the contents of the table's tags begin, as far as they have been met; 0 for a tag that has not
 abbrev pub no-places : List ℕ

@@ -1,4 +1,3 @@
-pub mod Fault
 pub mod Record
 pub mod Answer
 pub mod Job

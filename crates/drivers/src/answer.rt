@@ -1,7 +1,5 @@
 // The answer record: tag 20, 21 and, if a point was found, 22. Its reader takes the tags in any order, its writer puts them in rising order.
-use crate::record::Fault;
 use crate::record::half_at;
-use crate::record::is_fault;
 use crate::record::lengths_fault;
 use crate::record::numbers_into;
 use crate::record::record_fault;
@@ -10,7 +8,9 @@ use crate::record::tag_at;
 use numbers::arr::is_dimension;
 use numbers::bits::put_word;
 use numbers::bits::to_bits;
+use numbers::refusal::Fault;
 use numbers::refusal::Refusal;
+use numbers::refusal::is_fault;
 ghost use mathlib.Core.Path.{_≡_};
 ghost use mathlib.Core.Bool.{true};
 ghost use Prim.Native.Nat.{_+_, _*_, _≤_};

@@ -1,10 +1,8 @@
 // The job record: tags 01 to 09, in any order.
 use crate::cutting_plane::Options;
-use crate::record::Fault;
 use crate::record::content_at;
 use crate::record::count_rows;
 use crate::record::half_at;
-use crate::record::is_fault;
 use crate::record::is_row;
 use crate::record::length_at;
 use crate::record::lengths_fault;
@@ -17,7 +15,9 @@ use crate::record::start_of;
 use numbers::arr::is_dimension;
 use numbers::bits::of_bits;
 use numbers::bits::word_at;
+use numbers::refusal::Fault;
 use numbers::refusal::Refusal;
+use numbers::refusal::is_fault;
 use oracles::lowpass_oracle::LowpassOracle;
 use oracles::round_robin::RoundRobin;
 use oracles::scan::is_rows;

@@ -1,11 +1,14 @@
 // Records: fields of a one-byte tag, a two-byte length and content, in any order. What a job and an answer share: the table of tags, and the walk over the fields.
 use numbers::bits::of_bits;
 use numbers::bits::word_at;
+use numbers::refusal::Fault;
 use numbers::refusal::Refusal;
+use numbers::refusal::is_fault;
 ghost use mathlib.Core.Path.{_≡_};
 ghost use Prim.Native.Nat.{_^_, _≤_, _<_};
 ghost use lib.ListN.{length};
-ghost use Rattle.drivers.specs.Record.{ruleAt, indexOf, ruleLength, tagAt, lengthAt, halfAt, numberAt, numbersAt, startOf, contentOf, is-row, rows-in, after, field-fault, is-fault, fields-of, walk-of, missing-fault, record-fault, lengths-fault, row-count};
+ghost use Rattle.drivers.specs.Record.{ruleAt, indexOf, ruleLength, tagAt, lengthAt, halfAt, numberAt, numbersAt, startOf, contentOf, is-row, rows-in, after, field-fault, fields-of, walk-of, missing-fault, record-fault, lengths-fault, row-count};
+ghost use Rattle.numbers.specs.Refusal.{is-fault};
 
 // A tag's rule: its field has base + factor × n ^ power bytes. A tag that repeats has a field for each row of the table; an optional one may be missing.
 // The fields are narrow since the table, a constant, is made anew at each use: it has 96 bytes.
@@ -127,21 +130,6 @@ const NO_RULE: Rule = Rule {
     repeats: false,
     optional: false,
 };
-
-// What is wrong with a record, and where.
-pub(crate) enum Fault {
-    Sound,
-    At(Refusal, usize),
-}
-
-pub(crate) fn is_fault(fault: Fault) -> bool
-    ensures { λ r. ⌜ r ≡ is-fault fault ⌝ }
-{
-    match fault {
-        Fault::Sound => false,
-        Fault::At(_, _) => true,
-    }
-}
 
 fn rule_at(i: usize) -> Rule
     ensures { λ r. ⌜ r ≡ ruleAt i ⌝ }

@@ -1,7 +1,7 @@
 -- Definitions, which a reader has to believe.
+pub mod Pick
 pub mod Refusal
 pub mod F64
-pub mod Pick
 pub mod Arr
 pub mod Bits
 pub mod Sqrt

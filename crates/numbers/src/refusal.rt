@@ -1,6 +1,6 @@
 // Why a call says no. One enum serves the whole project; its numbers are document 01's.
 ghost use mathlib.Core.Path.{_≡_};
-ghost use Rattle.numbers.specs.Refusal.{refusalNumber};
+ghost use Rattle.numbers.specs.Refusal.{refusalNumber, is-fault};
 
 pub enum Refusal {
     Dimension,
@@ -35,5 +35,20 @@ impl Refusal {
             Refusal::Room => 11,
             Refusal::Outcome => 12,
         }
+    }
+}
+
+// What tests found: nothing, or the first refusal and its place in a record, 0 outside of one.
+pub enum Fault {
+    Sound,
+    At(Refusal, usize),
+}
+
+pub fn is_fault(fault: Fault) -> bool
+    ensures { λ r. ⌜ r ≡ is-fault fault ⌝ }
+{
+    match fault {
+        Fault::Sound => false,
+        Fault::At(_, _) => true,
     }
 }

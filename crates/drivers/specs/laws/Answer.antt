@@ -11,11 +11,12 @@ use Rattle.numbers.specs.Pick.{pick}
 use Rattle.numbers.specs.Arr.{isDimension}
 use Rattle.numbers.specs.declared.refusal.Refusal.the-variants.{Dimension, Room}
 use Rattle.numbers.specs.laws.Pick.{by-test}
-use Rattle.drivers.specs.Record.{is-fault, _⨾_, fields-of, record-fault, lengths-fault}
-use Rattle.drivers.specs.laws.Fault.{both-sound}
+use Rattle.numbers.specs.Refusal.{is-fault, _⨾_}
+use Rattle.numbers.specs.laws.Refusal.{both-sound}
+use Rattle.drivers.specs.Record.{fields-of, record-fault, lengths-fault}
 use Rattle.drivers.specs.Answer.{has-point, outcome-fault, answer-room-fault, answer-fault}
-use Rattle.drivers.specs.declared.record.Fault.{Fault}
-use Rattle.drivers.specs.declared.record.Fault.the-variants.{Sound, At}
+use Rattle.numbers.specs.declared.refusal.Fault.{Fault}
+use Rattle.numbers.specs.declared.refusal.Fault.the-variants.{Sound, At}
 
 -- n is in its range, and a point that is there has room
 pub record AnswerSound (n : ℕ) (places : List ℕ) (room : ℕ) : Type 0 where

@@ -13,12 +13,13 @@ use Rattle.numbers.specs.laws.Arr.{dimension-most}
 use Rattle.numbers.specs.declared.refusal.Refusal.{Refusal}
 use Rattle.numbers.specs.declared.refusal.Refusal.the-variants.{Dimension, Length}
 use Rattle.numbers.specs.laws.Pick.{hit, skip, is-hit, is-skip, and-parts}
+use Rattle.numbers.specs.Refusal.{is-fault, _⨾_}
+use Rattle.numbers.specs.laws.Refusal.{no-fault, both-sound, test-sound}
 use Rattle.oracles.specs.Scan.{isRows}
-use Rattle.drivers.specs.Record.{is-fault, _⨾_, ruleLength, lengthAt, startOf, halfAt, fields-of, record-fault, lengths-fault, row-count}
-use Rattle.drivers.specs.laws.Fault.{no-fault, both-sound, test-sound}
+use Rattle.drivers.specs.Record.{ruleLength, lengthAt, startOf, halfAt, fields-of, record-fault, lengths-fault, row-count}
 use Rattle.drivers.specs.Job.{partOf, job-oracle, dimension-fault, band-fault, cursor-fault, room-fault, job-fault, has-room}
-use Rattle.drivers.specs.declared.record.Fault.{Fault}
-use Rattle.drivers.specs.declared.record.Fault.the-variants.{Sound, At}
+use Rattle.numbers.specs.declared.refusal.Fault.{Fault}
+use Rattle.numbers.specs.declared.refusal.Fault.the-variants.{Sound, At}
 
 -- ---- what the tests of a job leave
 

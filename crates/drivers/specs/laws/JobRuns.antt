@@ -17,20 +17,21 @@ use Rattle.numbers.specs.laws.Arr.{length-tab}
 use Rattle.numbers.specs.Bits.{wordAt}
 use Rattle.numbers.specs.EllCalc.{made}
 use Rattle.numbers.specs.laws.Pick.{and-parts}
+use Rattle.numbers.specs.Refusal.{_⨾_, unless}
+use Rattle.numbers.specs.laws.Refusal.{both-sound, test-sound}
 use Rattle.oracles.specs.Scan.{isRows}
 use Rattle.oracles.specs.LowpassOracle.{bands-fit, cursors-fit}
 use Rattle.oracles.specs.Ell.{EllBuffers}
 use Rattle.oracles.specs.laws.EllCalls.{EllLong, ell-makes}
-use Rattle.drivers.specs.Record.{halfAt, numberAt, numbersAt, fields-of, _⨾_, unless, no-places, record-fault, lengths-fault, row-count, rows-of, is-row, rows-in, contentOf, fronted}
+use Rattle.drivers.specs.Record.{halfAt, numberAt, numbersAt, fields-of, no-places, record-fault, lengths-fault, row-count, rows-of, is-row, rows-in, contentOf, fronted}
 use Rattle.drivers.specs.CuttingPlane.{Space, check-space, feas-run}
 use Rattle.drivers.specs.Job.{partOf, job-oracle, dimension-fault, band-fault, cursor-fault, room-fault, job-fault, jobOf, read-job-answer}
-use Rattle.drivers.specs.laws.Fault.{both-sound, test-sound}
 use Rattle.drivers.specs.laws.Job.{dimension-sound, band-sound, room-of, room-parts}
 use Rattle.drivers.specs.Trace.{run-of, new-run-answer, space-of}
 use Rattle.drivers.specs.laws.StepRight.{fits-right}
 use Rattle.drivers.specs.laws.RunEnds.{RunEnded, run-ends}
-use Rattle.drivers.specs.declared.record.Fault.{Fault}
-use Rattle.drivers.specs.declared.record.Fault.the-variants.{Sound, At}
+use Rattle.numbers.specs.declared.refusal.Fault.{Fault}
+use Rattle.numbers.specs.declared.refusal.Fault.the-variants.{Sound, At}
 use Rattle.drivers.specs.declared.cutting_plane.Checked.the-variants.{Right}
 use Rattle.drivers.specs.declared.job.Job.{Job}
 use Rattle.drivers.specs.declared.job.JobAnswer.{JobAnswer}

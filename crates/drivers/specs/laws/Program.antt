@@ -13,8 +13,9 @@ use Rattle.numbers.specs.laws.Arr.{length-tab}
 use Rattle.numbers.specs.declared.refusal.Refusal.{Refusal}
 use Rattle.numbers.specs.declared.refusal.Refusal.the-variants.{Room}
 use Rattle.numbers.specs.laws.Pick.{is-skip, by-test, pick-cong, pick-map}
+use Rattle.numbers.specs.Refusal.{unless}
 use Rattle.oracles.specs.Ell.{EllBuffers}
-use Rattle.drivers.specs.Record.{halfAt, numbersAt, numberAt, fields-of, rows-of, fronted, unless, no-places}
+use Rattle.drivers.specs.Record.{halfAt, numbersAt, numberAt, fields-of, rows-of, fronted, no-places}
 use Rattle.drivers.specs.Job.{optionsOf, job-fault, jobOf, read-job-answer}
 use Rattle.drivers.specs.Trace.{printed, new-run-answer, opened-run, opened-read, with-slices, run-text, text-in, printed-by, open-answer}
 use Rattle.drivers.specs.laws.Text.{front-over}
@@ -23,8 +24,8 @@ use Rattle.drivers.specs.Calls.{run-all-text}
 use Rattle.drivers.specs.laws.Calls.{calls-enough}
 use Rattle.drivers.specs.laws.JobRuns.{JobSound, JobHeld, sound-held, job-sound, rows-long, held-slices, job-run, job-right, run-made}
 use Rattle.drivers.specs.Program.{refused-text, first-space, job-text, program-text, opened-text, calls-text}
-use Rattle.drivers.specs.declared.record.Fault.{Fault}
-use Rattle.drivers.specs.declared.record.Fault.the-variants.{Sound, At}
+use Rattle.numbers.specs.declared.refusal.Fault.{Fault}
+use Rattle.numbers.specs.declared.refusal.Fault.the-variants.{Sound, At}
 use Rattle.drivers.specs.declared.job.JobAnswer.{JobAnswer}
 use Rattle.drivers.specs.declared.job.JobAnswer.the-variants.{Read, Refused}
 use Rattle.drivers.specs.declared.trace.Run.{Run}

@@ -15,13 +15,14 @@ use Rattle.numbers.specs.Arr.{isDimension}
 use Rattle.numbers.specs.laws.Arr.{dimension-most}
 use Rattle.numbers.specs.declared.refusal.Refusal.{Refusal}
 use Rattle.numbers.specs.laws.Pick.{is-skip, by-test}
+use Rattle.numbers.specs.Refusal.{is-fault, _⨾_, unless}
 use Rattle.drivers.specs.Text.{over}
-use Rattle.drivers.specs.Record.{rules, ruleAt, ruleLength, tagAt, lengthAt, numbersAt, after, fields-of, is-fault, _⨾_, unless, no-places, field-fault, walk-of, missing-fault, record-fault, lengths-fault, fronted}
+use Rattle.drivers.specs.Record.{rules, ruleAt, ruleLength, tagAt, lengthAt, numbersAt, after, fields-of, no-places, field-fault, walk-of, missing-fault, record-fault, lengths-fault, fronted}
 use Rattle.drivers.specs.laws.Record.{fields-after, fields-start, fields-turn, fields-end}
 use Rattle.drivers.specs.Answer.{outcome-fault, answer-room-fault, answer-fault, answerOf, read-answer-answer, header, answer-head, pointPut, answer-bytes, write-answer-answer}
 use Rattle.drivers.specs.laws.WrittenFields.{AllF64, Field, size-20, size-21, size-22, length-head, field-20, field-21, outcome-is, steps-are, field-22, numbers-are, length-point}
-use Rattle.drivers.specs.declared.record.Fault.{Fault}
-use Rattle.drivers.specs.declared.record.Fault.the-variants.{Sound}
+use Rattle.numbers.specs.declared.refusal.Fault.{Fault}
+use Rattle.numbers.specs.declared.refusal.Fault.the-variants.{Sound}
 use Rattle.drivers.specs.declared.answer.Answer.{Answer}
 use Rattle.drivers.specs.declared.answer.AnswerRead.the-variants.{Read, Refused}
 use Rattle.drivers.specs.declared.answer.AnswerWritten.{AnswerWritten}

@@ -11,11 +11,12 @@ use Rattle.numbers.specs.Arr.{isDimension}
 use Rattle.numbers.specs.laws.Arr.{dimension-most}
 use Rattle.numbers.specs.declared.refusal.Refusal.the-variants.{Dimension, Room}
 use Rattle.numbers.specs.laws.Pick.{hit, skip, says-no, says-yes}
-use Rattle.drivers.specs.Record.{is-fault, _⨾_, fields-of, record-fault, lengths-fault}
-use Rattle.drivers.specs.laws.Fault.{stops, passes}
+use Rattle.numbers.specs.Refusal.{is-fault, _⨾_}
+use Rattle.numbers.specs.laws.Refusal.{stops, passes}
+use Rattle.drivers.specs.Record.{fields-of, record-fault, lengths-fault}
 use Rattle.drivers.specs.Answer.{has-point, outcome-fault, answer-room-fault, answer-fault}
-use Rattle.drivers.specs.declared.record.Fault.{Fault}
-use Rattle.drivers.specs.declared.record.Fault.the-variants.{Sound, At}
+use Rattle.numbers.specs.declared.refusal.Fault.{Fault}
+use Rattle.numbers.specs.declared.refusal.Fault.the-variants.{Sound, At}
 use Rattle.drivers.proofs.answer.answer_fault.Statement.{statement}
 use Rattle.drivers.proofs.answer.answer_fault.Tie as tie
 

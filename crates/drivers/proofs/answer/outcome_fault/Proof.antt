@@ -10,7 +10,7 @@ use Rattle.numbers.specs.declared.refusal.Refusal.the-variants.{Outcome}
 use Rattle.numbers.specs.laws.Pick.{hit, skip}
 use Rattle.drivers.specs.Record.{tagAt, startOf}
 use Rattle.drivers.specs.Answer.{outcome-fault}
-use Rattle.drivers.specs.declared.record.Fault.the-variants.{Sound, At}
+use Rattle.numbers.specs.declared.refusal.Fault.the-variants.{Sound, At}
 use Rattle.drivers.proofs.answer.outcome_fault.Statement.{statement}
 use Rattle.drivers.proofs.answer.outcome_fault.Tie as tie
 

@@ -7,11 +7,12 @@ use lib.ListN.{length}
 use lib.Ieee.{Float}
 use Rattle.numbers.specs.laws.Arr.{dimension-most}
 use Rattle.numbers.specs.declared.refusal.Refusal.{Refusal}
-use Rattle.drivers.specs.Record.{unless, no-places}
+use Rattle.numbers.specs.Refusal.{unless}
+use Rattle.drivers.specs.Record.{no-places}
 use Rattle.drivers.specs.Answer.{answer-fault, answerOf, read-answer-answer}
 use Rattle.drivers.specs.laws.Answer.{AnswerSound, answer-sound}
-use Rattle.drivers.specs.declared.record.Fault.{Fault}
-use Rattle.drivers.specs.declared.record.Fault.the-variants.{Sound, At}
+use Rattle.numbers.specs.declared.refusal.Fault.{Fault}
+use Rattle.numbers.specs.declared.refusal.Fault.the-variants.{Sound, At}
 use Rattle.drivers.specs.declared.answer.Answer.{Answer}
 use Rattle.drivers.specs.declared.answer.AnswerRead.{AnswerRead}
 use Rattle.drivers.specs.declared.answer.AnswerRead.the-variants.{Read, Refused}

@@ -8,7 +8,7 @@ use Rattle.numbers.specs.laws.Pick.{hit, skip}
 use Rattle.oracles.specs.Scan.{isRows}
 use Rattle.drivers.specs.Record.{startOf}
 use Rattle.drivers.specs.Job.{band-fault}
-use Rattle.drivers.specs.declared.record.Fault.the-variants.{Sound, At}
+use Rattle.numbers.specs.declared.refusal.Fault.the-variants.{Sound, At}
 use borrow.Author.Needs.{needs}
 use Rattle.drivers.proofs.job.band_fault.Statement.{statement}
 use Rattle.drivers.proofs.job.band_fault.Tie as tie

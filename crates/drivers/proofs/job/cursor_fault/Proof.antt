@@ -8,7 +8,7 @@ use Rattle.oracles.specs.LowpassOracle.{cursors-fit}
 use Rattle.oracles.specs.declared.lowpass_oracle.LowpassOracle.{LowpassOracle}
 use Rattle.drivers.specs.Record.{startOf}
 use Rattle.drivers.specs.Job.{cursor-fault}
-use Rattle.drivers.specs.declared.record.Fault.the-variants.{Sound, At}
+use Rattle.numbers.specs.declared.refusal.Fault.the-variants.{Sound, At}
 use borrow.Author.Needs.{needs}
 use Rattle.drivers.proofs.job.cursor_fault.Statement.{statement}
 use Rattle.drivers.proofs.job.cursor_fault.Tie as tie

@@ -9,7 +9,7 @@ use Rattle.numbers.specs.declared.refusal.Refusal.the-variants.{Dimension, Leng
 use Rattle.numbers.specs.laws.Pick.{hit, skip}
 use Rattle.drivers.specs.Record.{ruleLength, lengthAt, startOf, halfAt}
 use Rattle.drivers.specs.Job.{dimension-fault}
-use Rattle.drivers.specs.declared.record.Fault.the-variants.{Sound, At}
+use Rattle.numbers.specs.declared.refusal.Fault.the-variants.{Sound, At}
 use borrow.Author.Needs.{needs}
 use Rattle.drivers.proofs.job.dimension_fault.Statement.{statement}
 use Rattle.drivers.proofs.job.dimension_fault.Tie as tie

@@ -5,12 +5,13 @@ use mathlib.Core.List.{List}
 use Prim.Native.Nat.{ℕ}
 use lib.ListN.{getD}
 use Rattle.numbers.specs.Bits.{wordAt}
+use Rattle.numbers.specs.Refusal.{is-fault, _⨾_}
+use Rattle.numbers.specs.laws.Refusal.{stops, passes}
 use Rattle.oracles.specs.declared.lowpass_oracle.LowpassOracle.{LowpassOracle}
-use Rattle.drivers.specs.Record.{halfAt, fields-of, is-fault, _⨾_, record-fault, lengths-fault, row-count}
+use Rattle.drivers.specs.Record.{halfAt, fields-of, record-fault, lengths-fault, row-count}
 use Rattle.drivers.specs.Job.{partOf, job-oracle, dimension-fault, band-fault, cursor-fault, room-fault, job-fault}
-use Rattle.drivers.specs.laws.Fault.{stops, passes}
 use Rattle.drivers.specs.laws.Job.{dimension-small, rows-small}
-use Rattle.drivers.specs.declared.record.Fault.{Fault}
+use Rattle.numbers.specs.declared.refusal.Fault.{Fault}
 use borrow.Author.Needs.{needs}
 use Rattle.drivers.proofs.job.job_fault.Statement.{statement}
 use Rattle.drivers.proofs.job.job_fault.Tie as tie

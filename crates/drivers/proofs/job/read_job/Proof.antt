@@ -11,8 +11,8 @@ use Rattle.numbers.specs.declared.refusal.Refusal.{Refusal}
 use Rattle.drivers.specs.Record.{no-places}
 use Rattle.drivers.specs.Job.{job-fault, jobOf, read-job-answer}
 use Rattle.drivers.specs.laws.Job.{room-of}
-use Rattle.drivers.specs.declared.record.Fault.{Fault}
-use Rattle.drivers.specs.declared.record.Fault.the-variants.{Sound, At}
+use Rattle.numbers.specs.declared.refusal.Fault.{Fault}
+use Rattle.numbers.specs.declared.refusal.Fault.the-variants.{Sound, At}
 use Rattle.drivers.specs.declared.job.Job.{Job}
 use Rattle.drivers.specs.declared.job.JobAnswer.the-variants.{Read, Refused}
 use Rattle.drivers.proofs.record.Fault as B

@@ -11,7 +11,7 @@ use Rattle.numbers.specs.declared.refusal.Refusal.the-variants.{CutShort, Forei
 use Rattle.numbers.specs.laws.Pick.{hit, skip, or-parts}
 use Rattle.drivers.specs.Record.{ruleAt, indexOf, indexAt, lengthAt, field-fault}
 use Rattle.drivers.specs.declared.record.Rule.{Rule}
-use Rattle.drivers.specs.declared.record.Fault.the-variants.{Sound, At}
+use Rattle.numbers.specs.declared.refusal.Fault.the-variants.{Sound, At}
 use borrow.Author.Needs.{needs}
 use Rattle.drivers.proofs.record.field_fault.Statement.{statement}
 use Rattle.drivers.proofs.record.field_fault.Tie as tie

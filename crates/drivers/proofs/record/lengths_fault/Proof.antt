@@ -9,8 +9,8 @@ use Rattle.numbers.specs.declared.refusal.Refusal.the-variants.{Length}
 use Rattle.numbers.specs.laws.Pick.{is-hit, is-skip}
 use Rattle.drivers.specs.Record.{indexOf, indexAt, lengthAt, ruleLength, after, fields-of, lengths-fault}
 use Rattle.drivers.specs.laws.Record.{fields-after, fields-start, fields-turn, fields-end, left-less}
-use Rattle.drivers.specs.declared.record.Fault.{Fault}
-use Rattle.drivers.specs.declared.record.Fault.the-variants.{Sound, At}
+use Rattle.numbers.specs.declared.refusal.Fault.{Fault}
+use Rattle.numbers.specs.declared.refusal.Fault.the-variants.{Sound, At}
 use borrow.Author.Needs.{needs}
 use Rattle.drivers.proofs.record.lengths_fault.Statement.{statement}
 use Rattle.drivers.proofs.record.lengths_fault.Tie as tie

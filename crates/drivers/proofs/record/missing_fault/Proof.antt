@@ -12,7 +12,7 @@ use Rattle.numbers.specs.declared.refusal.Refusal.the-variants.{MissingTag}
 use Rattle.numbers.specs.laws.Pick.{hit, skip, some-holds, none-some}
 use Rattle.drivers.specs.Record.{ruleAt, is-missing, missing-fault}
 use Rattle.drivers.specs.declared.record.Rule.{Rule}
-use Rattle.drivers.specs.declared.record.Fault.the-variants.{Sound, At}
+use Rattle.numbers.specs.declared.refusal.Fault.the-variants.{Sound, At}
 use borrow.Author.Needs.{needs}
 use Rattle.drivers.proofs.record.missing_fault.Statement.{statement}
 use Rattle.drivers.proofs.record.missing_fault.Tie as tie

@@ -4,12 +4,13 @@ use mathlib.Core.Bool.{true, false}
 use mathlib.Core.List.{List}
 use Prim.Native.Nat.{ℕ}
 use lib.ListN.{length}
-use Rattle.drivers.specs.Record.{is-fault, fields-of, walk-of, missing-fault, record-fault}
-use Rattle.drivers.specs.declared.record.Fault.{Fault}
+use Rattle.drivers.specs.Record.{fields-of, walk-of, missing-fault, record-fault}
+use Rattle.numbers.specs.declared.refusal.Fault.{Fault}
 use borrow.Author.Needs.{needs}
 use Rattle.drivers.proofs.record.record_fault.Statement.{statement}
 use Rattle.drivers.proofs.record.record_fault.Tie as tie
 use Rattle.numbers.specs.laws.Pick.{hit, skip}
+use Rattle.numbers.specs.Refusal.{is-fault}
 
 module _ (bytes : List ℕ) (first past : ℕ) (places₀ places : List ℕ) (f : Fault) (e : (f, places) ≡ walk-of bytes first past (fields-of bytes) places₀) where
   stops : is-fault f ≡ true → (f, places) ≡ record-fault bytes first past places₀

@@ -9,10 +9,11 @@ use lib.Dec.{leb, ltb}
 use lib.ListN.{length, set}
 use Rattle.numbers.specs.Pick.{pick}
 use Rattle.numbers.specs.laws.Pick.{is-hit, is-skip, or-parts}
-use Rattle.drivers.specs.Record.{indexOf, indexAt, contentOf, after, is-fault, field-fault, fields-of, walk-of}
+use Rattle.numbers.specs.Refusal.{is-fault}
+use Rattle.drivers.specs.Record.{indexOf, indexAt, contentOf, after, field-fault, fields-of, walk-of}
 use Rattle.drivers.specs.laws.Record.{fields-after, fields-start, fields-turn, fields-end, left-less}
-use Rattle.drivers.specs.declared.record.Fault.{Fault}
-use Rattle.drivers.specs.declared.record.Fault.the-variants.{Sound}
+use Rattle.numbers.specs.declared.refusal.Fault.{Fault}
+use Rattle.numbers.specs.declared.refusal.Fault.the-variants.{Sound}
 use borrow.Author.Needs.{needs}
 use Rattle.drivers.proofs.record.walk.Statement.{statement}
 use Rattle.drivers.proofs.record.walk.Tie as tie
