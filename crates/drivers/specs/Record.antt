@@ -13,6 +13,7 @@ use Rattle.numbers.specs.declared.refusal.Refusal.the-variants.{Length, CutShor
 use Rattle.drivers.specs.declared.record.Rule.{Rule}
 use Rattle.numbers.specs.declared.refusal.Fault.{Fault}
 use Rattle.numbers.specs.declared.refusal.Fault.the-variants.{Sound, At}
+use Rattle.numbers.specs.Refusal.{is-fault, _⨾_}
 
 -- ---- the table
 
