@@ -15,7 +15,7 @@ use Rattle.numbers.specs.declared.refusal.Fault.{Fault}
 use Rattle.numbers.specs.declared.refusal.Fault.the-variants.{Sound, At}
 use Rattle.drivers.specs.declared.job.Job.{Job}
 use Rattle.drivers.specs.declared.job.JobAnswer.the-variants.{Read, Refused}
-use Rattle.drivers.proofs.record.Fault as B
+use Rattle.numbers.proofs.refusal.Fault as B
 use borrow.Author.Needs.{needs}
 use Rattle.drivers.proofs.job.read_job.Statement.{statement}
 use Rattle.drivers.proofs.job.read_job.Tie as tie
