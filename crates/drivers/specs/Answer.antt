@@ -11,7 +11,7 @@ use Rattle.numbers.specs.Arr.{isDimension}
 use Rattle.numbers.specs.declared.refusal.Refusal.the-variants.{Dimension, Length, Room, Outcome}
 use Rattle.numbers.specs.Refusal.{_⨾_, unless}
 use Rattle.drivers.specs.Text.{over}
-use Rattle.drivers.specs.Record.{tagAt, startOf, halfAt, numbersAt, fields-of, no-places, record-fault, lengths-fault, fronted}
+use Rattle.drivers.specs.Record.{tagAt, startOf, halfAt, numbersAt, fields-of, no-places, outcome-tag, steps-tag, found-tag, place, is-met, answer-form, record-fault, lengths-fault, fronted}
 use Rattle.numbers.specs.declared.refusal.Fault.{Fault}
 use Rattle.numbers.specs.declared.refusal.Fault.the-variants.{Sound, At}
 use Rattle.drivers.specs.declared.answer.Answer.{Answer}
@@ -24,7 +24,7 @@ use Rattle.drivers.specs.declared.answer.AnswerWritten.the-variants.{Byt
 
 -- tag 22 is there
 abbrev pub has-point : List ℕ → Bool
-has-point places = not (eqb (getD places 11 0) 0)
+has-point places = is-met places found-tag
 
 -- 12, at tag 20: the outcome, one byte, is 1 where tag 22 is there, else 0
 unfoldable pub outcome-fault : List ℕ → ℕ → ℕ → Fault
@@ -37,16 +37,16 @@ answer-room-fault n places room = pick (has-point places && ltb room n) (At Room
 -- the first fault, in document 01's order: the caller's n, the walk and 10, the lengths, 12, 11
 unfoldable pub answer-fault : ℕ → List ℕ → List ℕ → ℕ → Fault × List ℕ
 answer-fault n bytes places₀ room =
-    let w = record-fault bytes 9 12 places₀ in
+    let w = record-fault bytes answer-form places₀ in
     let places = w .1 in
     pick (not (isDimension n)) (At Dimension 0, places₀)
-    (w .0 ⨾ lengths-fault n bytes (fields-of bytes) ⨾ outcome-fault bytes (getD places 9 0) (getD places 11 0) ⨾ answer-room-fault n places room, places)
+    (w .0 ⨾ lengths-fault n bytes (fields-of bytes) ⨾ outcome-fault bytes (place places outcome-tag) (place places found-tag) ⨾ answer-room-fault n places room, places)
 
 -- what a sound record says, and `point` with the point at its front, if there is one
 unfoldable pub answerOf : ℕ → List ℕ → List ℕ → List Float → Answer × List Float
 answerOf n bytes places point = (
-  record { found = has-point places; steps = halfAt bytes (getD places 10 0) },
-  pick (has-point places) (fronted (numbersAt bytes (getD places 11 0) n) point) point,
+  record { found = has-point places; steps = halfAt bytes (place places steps-tag) },
+  pick (has-point places) (fronted (numbersAt bytes (place places found-tag) n) point) point,
 )
 
 -- `read_answer`

@@ -15,7 +15,7 @@ use Rattle.oracles.specs.Scan.{−∞, none, isRows}
 use Rattle.oracles.specs.LowpassOracle.{cursors-fit}
 use Rattle.oracles.specs.declared.round_robin.RoundRobin.{RoundRobin}
 use Rattle.oracles.specs.declared.lowpass_oracle.LowpassOracle.{LowpassOracle}
-use Rattle.drivers.specs.Record.{ruleLength, lengthAt, startOf, halfAt, numberAt, numbersAt, fields-of, no-places, record-fault, lengths-fault, row-count, rows-of, fronted}
+use Rattle.drivers.specs.Record.{ruleLength, lengthAt, startOf, halfAt, numberAt, numbersAt, fields-of, no-places, job-form, record-fault, lengths-fault, row-count, rows-of, fronted}
 use Rattle.numbers.specs.declared.refusal.Fault.{Fault}
 use Rattle.numbers.specs.declared.refusal.Fault.the-variants.{Sound, At}
 use Rattle.drivers.specs.declared.cutting_plane.Options.{Options}
@@ -86,7 +86,7 @@ room-fault n rows table xc mq = pick (not (leb (rows * n) table && leb n xc && l
 -- the first fault, in document 01's order, with the places that the walk notes: the walk and 10, tag 01, the lengths, 3, 4, 11
 unfoldable pub job-fault : List ℕ → List ℕ → ℕ → ℕ → ℕ → Fault × List ℕ
 job-fault bytes places₀ table xc mq =
-    let w = record-fault bytes 0 9 places₀ in
+    let w = record-fault bytes job-form places₀ in
     let places = w .1 in
     let n = halfAt bytes (getD places 0 0) in
     let rows = row-count bytes (fields-of bytes) in

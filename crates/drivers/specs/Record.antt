@@ -1,6 +1,6 @@
 -- Records (document 01, "Job and answer records" and "When a call says no"): the table of tags, the fields, and the order of the tests. Definitions only.
 use Prim.Native.Nat.{ℕ, zero, suc, _+_, _-_, _*_, _/_, _%_, _^_}
-use mathlib.Core.Bool.{Bool, true, false, not, _&&_, _||_}
+use mathlib.Core.Bool.{Bool, not, _&&_}
 use mathlib.Core.List.{List, [], _∷_, _++_}
 use lib.Dec.{leb, ltb, eqb}
 use lib.ListN.{length, take, drop, getD, set, replicate}
@@ -8,40 +8,119 @@ use lib.Ieee.{Float}
 use Rattle.numbers.specs.Pick.{pick, some}
 use Rattle.numbers.specs.Bits.{floatOf, wordAt}
 use Rattle.numbers.specs.Arr.{tab}
-use Rattle.numbers.specs.declared.refusal.Refusal.{Refusal}
+use Rattle.numbers.specs.Refusal.{is-fault, _⨾_, ask-at}
 use Rattle.numbers.specs.declared.refusal.Refusal.the-variants.{Length, CutShort, ForeignTag, RepeatedTag, MissingTag}
-use Rattle.drivers.specs.declared.record.Rule.{Rule}
 use Rattle.numbers.specs.declared.refusal.Fault.{Fault}
-use Rattle.numbers.specs.declared.refusal.Fault.the-variants.{Sound, At}
-use Rattle.numbers.specs.Refusal.{is-fault, _⨾_}
+use Rattle.numbers.specs.declared.refusal.Fault.the-variants.{Sound}
+use Rattle.drivers.specs.declared.record.Rule.{Rule}
+use Rattle.drivers.specs.declared.record.Form.{Form}
 
 -- ---- the table
 
--- a tag that occurs once, one that repeats, and one that may be missing: tag, base, factor and power of n
-abbrev pub once : ℕ → ℕ → ℕ → ℕ → Rule
-once tag base factor power = record { tag = tag; base = base; factor = factor; power = power; repeats = false; optional = false }
+-- the forms of record that have a tag, a bit for each
+abbrev pub in-job : ℕ
+in-job = 1
 
-abbrev pub repeated : ℕ → ℕ → ℕ → ℕ → Rule
-repeated tag base factor power = record { tag = tag; base = base; factor = factor; power = power; repeats = true; optional = false }
+abbrev pub in-answer : ℕ
+in-answer = 2
 
-abbrev pub at-most-once : ℕ → ℕ → ℕ → ℕ → Rule
-at-most-once tag base factor power = record { tag = tag; base = base; factor = factor; power = power; repeats = false; optional = true }
+-- how often a tag stands in a record: exactly once, at least once, at most once
+abbrev pub once : ℕ
+once = 0
 
--- document 01's table: a job's nine tags, then an answer's three
+abbrev pub many : ℕ
+many = 1
+
+abbrev pub maybe : ℕ
+maybe = 2
+
+-- document 01's table: tag, forms, base, factor and power of n, how often
 unfoldable pub rules : List Rule
 rules =
-    once 0x01 2 0 0 ∷ once 0x02 4 0 0 ∷ once 0x03 24 0 0 ∷ repeated 0x04 0 8 1 ∷ once 0x05 0 8 1 ∷ once 0x06 6 0 0 ∷ once 0x07 8 0 0 ∷ once 0x08 0 8 2 ∷ once 0x09 10 0 0
-    ∷ once 0x20 1 0 0 ∷ once 0x21 2 0 0 ∷ at-most-once 0x22 0 8 1 ∷ []
+    (0x01, in-job, 2, 0, 0, once)
+    ∷ (0x02, in-job, 4, 0, 0, once)
+    ∷ (0x03, in-job, 24, 0, 0, once)
+    ∷ (0x04, in-job, 0, 8, 1, many)
+    ∷ (0x05, in-job, 0, 8, 1, once)
+    ∷ (0x06, in-job, 6, 0, 0, once)
+    ∷ (0x07, in-job, 8, 0, 0, once)
+    ∷ (0x08, in-job, 0, 8, 2, once)
+    ∷ (0x09, in-job, 10, 0, 0, once)
+    ∷ (0x20, in-answer, 1, 0, 0, once)
+    ∷ (0x21, in-answer, 2, 0, 0, once)
+    ∷ (0x22, in-answer, 0, 8, 1, maybe)
+    ∷ []
+
+-- its rows by name, and how many there are
+abbrev pub n-tag : ℕ
+n-tag = 0
+
+abbrev pub bands-tag : ℕ
+bands-tag = 1
+
+abbrev pub limits-tag : ℕ
+limits-tag = 2
+
+abbrev pub row-tag : ℕ
+row-tag = 3
+
+abbrev pub point-tag : ℕ
+point-tag = 4
+
+abbrev pub cursors-tag : ℕ
+cursors-tag = 5
+
+abbrev pub kappa-tag : ℕ
+kappa-tag = 6
+
+abbrev pub matrix-tag : ℕ
+matrix-tag = 7
+
+abbrev pub settings-tag : ℕ
+settings-tag = 8
+
+abbrev pub outcome-tag : ℕ
+outcome-tag = 9
+
+abbrev pub steps-tag : ℕ
+steps-tag = 10
+
+abbrev pub found-tag : ℕ
+found-tag = 11
+
+abbrev pub tags : ℕ
+tags = 12
+
+-- what no tag of the table has: no form
+abbrev pub no-rule : Rule
+no-rule = (0, 0, 0, 0, 0, once)
 
 -- rule i; past the table that of no tag
 unfoldable pub ruleAt : ℕ → Rule
 unfolding rules
-ruleAt i = getD rules i (once 256 0 0 0)
+ruleAt i = getD rules i no-rule
+
+-- a form of record, by its bit
+abbrev pub job-form : Form
+job-form = record { bit = in-job }
+
+abbrev pub answer-form : Form
+answer-form = record { bit = in-answer }
+
+-- rule i's tag is one of the form's; how often it may stand
+abbrev pub is-of : Form → ℕ → Bool
+is-of form i = eqb (ruleAt i .1 / form .bit % 2) 1
+
+abbrev pub repeats : ℕ → Bool
+repeats i = eqb (ruleAt i .5) many
+
+abbrev pub optional : ℕ → Bool
+optional i = eqb (ruleAt i .5) maybe
 
 -- a tag's place in the table, 12 where it is not there
 unfoldable pub indexIn : List Rule → ℕ → ℕ
 indexIn [] tag = 0
-indexIn (r ∷ rs) tag = pick (eqb (r .tag) tag) 0 (suc (indexIn rs tag))
+indexIn (r ∷ rs) tag = pick (eqb (r .0) tag) 0 (suc (indexIn rs tag))
 
 unfoldable pub indexOf : ℕ → ℕ
 unfolding rules indexIn
@@ -50,7 +129,7 @@ indexOf tag = indexIn rules tag
 -- the bytes that a field's content must have: base + factor × n ^ power
 unfoldable pub ruleLength : ℕ → ℕ → ℕ
 unfolding ruleAt
-ruleLength i n = ruleAt i .base + ruleAt i .factor * n ^ ruleAt i .power
+ruleLength i n = ruleAt i .2 + ruleAt i .3 * n ^ ruleAt i .4
 
 -- ---- a field: tag, two bytes of length, content; bytes past the end count as 0
 
@@ -98,48 +177,63 @@ unfoldable pub fields-of : List ℕ → List ℕ
 unfolding fields-from
 fields-of bytes = fields-from (length bytes) bytes 0
 
--- where the contents of the table's tags begin, as far as they have been met; 0 for a tag that has not
-abbrev pub no-places : List ℕ
-no-places = replicate 12 0
+-- ---- the walk
 
--- one field of a record whose tags are the table's from `first` to `past` − 1: 7 (header), 8, 9, 7 (content)
-unfoldable pub field-fault : List ℕ → ℕ → ℕ → List ℕ → ℕ → Fault
-field-fault bytes first past places at =
-    pick (ltb (length bytes - at) 3) (At CutShort at)
-    (pick (ltb (indexAt bytes at) first || leb past (indexAt bytes at)) (At ForeignTag at)
-    (pick (not (eqb (getD places (indexAt bytes at) 0) 0) && not (ruleAt (indexAt bytes at) .repeats)) (At RepeatedTag at)
-    (pick (overruns bytes at) (At CutShort at)
-    Sound)))
+-- where the content of each tag's first field begins, as far as it has been met; 0 for a tag that has not
+abbrev pub no-places : List ℕ
+no-places = replicate tags 0
+
+abbrev pub place : List ℕ → ℕ → ℕ
+place places i = getD places i 0
+
+abbrev pub is-met : List ℕ → ℕ → Bool
+is-met places i = not (eqb (place places i) 0)
+
+-- with one more field, whose content begins at p: the first of its tag stays
+abbrev pub first-place : ℕ → ℕ → ℕ
+first-place old p = pick (eqb old 0) p old
+
+abbrev pub noted : List ℕ → ℕ → ℕ → List ℕ
+noted places i p = set places i (first-place (place places i) p)
+
+-- one field: 7 (header), 8, 9, 7 (content)
+unfoldable pub field-fault : List ℕ → Form → List ℕ → ℕ → Fault
+field-fault bytes form places at =
+    let i = indexAt bytes at in
+    ask-at at (leb 3 (length bytes - at)) CutShort
+    ⨾ ask-at at (is-of form i) ForeignTag
+    ⨾ ask-at at (not (is-met places i && not (repeats i))) RepeatedTag
+    ⨾ ask-at at (not (overruns bytes at)) CutShort
 
 -- the walk over the fields, with the places that it notes
-unfoldable pub walk-of : List ℕ → ℕ → ℕ → List ℕ → List ℕ → Fault × List ℕ
-walk-of bytes first past [] places = (Sound, places)
-walk-of bytes first past (at ∷ rest) places =
-    let f = field-fault bytes first past places at in
-    pick (is-fault f) (f, places) (walk-of bytes first past rest (set places (indexAt bytes at) (contentOf bytes at)))
+unfoldable pub walk-of : List ℕ → Form → List ℕ → List ℕ → Fault × List ℕ
+walk-of bytes form [] places = (Sound, places)
+walk-of bytes form (at ∷ rest) places =
+    let f = field-fault bytes form places at in
+    pick (is-fault f) (f, places) (walk-of bytes form rest (noted places (indexAt bytes at) (contentOf bytes at)))
 
--- 10: a tag of the record has not been met, at the record's length
-abbrev pub is-missing : List ℕ → ℕ → Bool
-is-missing places i = eqb (getD places i 0) 0 && not (ruleAt i .optional)
+-- 10, at the record's length: a tag of the form that must be there has not been met
+abbrev pub is-missing : Form → List ℕ → ℕ → Bool
+is-missing form places i = is-of form i && not (optional i) && not (is-met places i)
 
-unfoldable pub missing-fault : ℕ → ℕ → ℕ → List ℕ → Fault
-missing-fault end first past places = pick (some (is-missing places) first (past - first)) (At MissingTag end) Sound
+unfoldable pub missing-fault : ℕ → Form → List ℕ → Fault
+missing-fault end form places = ask-at end (not (some (is-missing form places) 0 tags)) MissingTag
 
 -- the walk, then 10
-unfoldable pub record-fault : List ℕ → ℕ → ℕ → List ℕ → Fault × List ℕ
-record-fault bytes first past places =
-    let w = walk-of bytes first past (fields-of bytes) places in
-    (w .0 ⨾ missing-fault (length bytes) first past (w .1), w .1)
+unfoldable pub record-fault : List ℕ → Form → List ℕ → Fault × List ℕ
+record-fault bytes form places =
+    let w = walk-of bytes form (fields-of bytes) places in
+    (w .0 ⨾ missing-fault (length bytes) form (w .1), w .1)
 
 -- 2: the first field, in record order, whose length is not what n says
 unfoldable pub lengths-fault : ℕ → List ℕ → List ℕ → Fault
 lengths-fault n bytes [] = Sound
-lengths-fault n bytes (at ∷ rest) = pick (not (eqb (lengthAt bytes at) (ruleLength (indexAt bytes at) n))) (At Length at) (lengths-fault n bytes rest)
+lengths-fault n bytes (at ∷ rest) = ask-at at (eqb (lengthAt bytes at) (ruleLength (indexAt bytes at) n)) Length ⨾ lengths-fault n bytes rest
 
--- ---- rows: the fields of the tag that repeats, in the order of arrival
+-- ---- rows, in the order of arrival
 
 abbrev pub is-row : List ℕ → ℕ → Bool
-is-row bytes at = ruleAt (indexAt bytes at) .repeats
+is-row bytes at = eqb (indexAt bytes at) row-tag
 
 abbrev pub rows-in : List ℕ → ℕ → ℕ
 rows-in bytes at = pick (is-row bytes at) 1 0

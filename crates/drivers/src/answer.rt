@@ -1,4 +1,8 @@
 // The answer record: tag 20, 21 and, if a point was found, 22. Its reader takes the tags in any order, its writer puts them in rising order.
+use crate::record::ANSWER;
+use crate::record::FOUND;
+use crate::record::OUTCOME;
+use crate::record::STEPS;
 use crate::record::half_at;
 use crate::record::lengths_fault;
 use crate::record::numbers_into;
@@ -65,7 +69,7 @@ fn answer_fault(n: usize, bytes: &[u8], places: &mut [usize; 12], room: usize) -
     if !is_dimension(n) {
         return Fault::At(Refusal::Dimension, 0);
     }
-    let fault = record_fault(bytes, 9, 12, places);
+    let fault = record_fault(bytes, ANSWER, places);
     if is_fault(fault) {
         return fault;
     }
@@ -73,11 +77,11 @@ fn answer_fault(n: usize, bytes: &[u8], places: &mut [usize; 12], room: usize) -
     if is_fault(fault) {
         return fault;
     }
-    let fault = outcome_fault(bytes, places[9], places[11]);
+    let fault = outcome_fault(bytes, places[OUTCOME], places[FOUND]);
     if is_fault(fault) {
         return fault;
     }
-    if (places[11] != 0) & (room < n) {
+    if (places[FOUND] != 0) & (room < n) {
         return Fault::At(Refusal::Room, 0);
     }
     Fault::Sound
@@ -88,14 +92,14 @@ fn fill_answer(n: usize, bytes: &[u8], places: &[usize; 12], point: &mut [f64]) 
     requires { ⌜ (n ≤ 32) × (has-point (now places) ≡ true → n ≤ length (now point)) ⌝ }
     ensures { λ r. ⌜ (r, now (point .exit)) ≡ answerOf n (now (bytes .entry)) (now (places .entry)) (now (point .entry)) ⌝ }
 {
-    let steps = half_at(bytes, places[10]) as u16;
-    if places[11] == 0 {
+    let steps = half_at(bytes, places[STEPS]) as u16;
+    if places[FOUND] == 0 {
         return Answer {
             found: false,
             steps: steps,
         };
     }
-    numbers_into(bytes, places[11], &mut point[..n]);
+    numbers_into(bytes, places[FOUND], &mut point[..n]);
     Answer {
         found: true,
         steps: steps,

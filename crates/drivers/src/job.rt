@@ -1,5 +1,6 @@
 // The job record: tags 01 to 09, in any order.
 use crate::cutting_plane::Options;
+use crate::record::JOB;
 use crate::record::content_at;
 use crate::record::count_rows;
 use crate::record::half_at;
@@ -170,7 +171,7 @@ fn job_options(bytes: &[u8], p: usize) -> Options
 fn job_fault(bytes: &[u8], places: &mut [usize; 12], table: usize, xc: usize, mq: usize) -> Fault
     ensures { λ r. ⌜ (r, now (places .exit)) ≡ job-fault (now (bytes .entry)) (now (places .entry)) table xc mq ⌝ }
 {
-    let fault = record_fault(bytes, 0, 9, places);
+    let fault = record_fault(bytes, JOB, places);
     if is_fault(fault) {
         return fault;
     }

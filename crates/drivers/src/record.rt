@@ -5,139 +5,88 @@ use numbers::refusal::Fault;
 use numbers::refusal::Refusal;
 use numbers::refusal::is_fault;
 ghost use mathlib.Core.Path.{_≡_};
-ghost use Prim.Native.Nat.{_^_, _≤_, _<_};
+ghost use Prim.Native.Nat.{_^_, _/_, _%_, _≤_, _<_};
+ghost use lib.Dec.{eqb};
 ghost use lib.ListN.{length};
-ghost use Rattle.drivers.specs.Record.{ruleAt, indexOf, ruleLength, tagAt, lengthAt, halfAt, numberAt, numbersAt, startOf, contentOf, is-row, rows-in, after, field-fault, fields-of, walk-of, missing-fault, record-fault, lengths-fault, row-count};
+ghost use Rattle.drivers.specs.Record.{ruleAt, indexOf, ruleLength, tagAt, lengthAt, halfAt, numberAt, numbersAt, startOf, contentOf, is-row, rows-in, after, field-fault, first-place, fields-of, walk-of, missing-fault, record-fault, lengths-fault, row-count};
 ghost use Rattle.numbers.specs.Refusal.{is-fault};
 
-// A tag's rule: its field has base + factor × n ^ power bytes. A tag that repeats has a field for each row of the table; an optional one may be missing.
-// The fields are narrow since the table, a constant, is made anew at each use: it has 96 bytes.
-pub(crate) struct Rule {
-    pub(crate) tag: u16,
-    pub(crate) base: u8,
-    pub(crate) factor: u8,
-    pub(crate) power: u8,
-    pub(crate) repeats: bool,
-    pub(crate) optional: bool,
+// A tag's rule: the tag, the forms of record that have it, base, factor and power of n, and how often it stands. Its field has base + factor × n ^ power bytes.
+// The numbers are narrow since the table, a constant, is made anew at each use: it has 72 bytes.
+pub(crate) struct Rule(
+    pub(crate) u8,
+    pub(crate) u8,
+    pub(crate) u8,
+    pub(crate) u8,
+    pub(crate) u8,
+    pub(crate) u8,
+);
+
+// A form of record: its bit among the rules' forms.
+pub(crate) struct Form {
+    pub(crate) bit: u8,
 }
 
-// A job's tags are the first nine, an answer's the last three.
+const IN_JOB: u8 = 1;
+const IN_ANSWER: u8 = 2;
+
+pub(crate) const JOB: Form = Form { bit: IN_JOB };
+pub(crate) const ANSWER: Form = Form { bit: IN_ANSWER };
+
+// How often a tag stands in a record: exactly once, at least once, at most once.
+const ONCE: u8 = 0;
+const MANY: u8 = 1;
+const MAYBE: u8 = 2;
+
+// Document 01's table.
 const RULES: [Rule; 12] = [
-    Rule {
-        tag: 0x01,
-        base: 2,
-        factor: 0,
-        power: 0,
-        repeats: false,
-        optional: false,
-    },
-    Rule {
-        tag: 0x02,
-        base: 4,
-        factor: 0,
-        power: 0,
-        repeats: false,
-        optional: false,
-    },
-    Rule {
-        tag: 0x03,
-        base: 24,
-        factor: 0,
-        power: 0,
-        repeats: false,
-        optional: false,
-    },
-    Rule {
-        tag: 0x04,
-        base: 0,
-        factor: 8,
-        power: 1,
-        repeats: true,
-        optional: false,
-    },
-    Rule {
-        tag: 0x05,
-        base: 0,
-        factor: 8,
-        power: 1,
-        repeats: false,
-        optional: false,
-    },
-    Rule {
-        tag: 0x06,
-        base: 6,
-        factor: 0,
-        power: 0,
-        repeats: false,
-        optional: false,
-    },
-    Rule {
-        tag: 0x07,
-        base: 8,
-        factor: 0,
-        power: 0,
-        repeats: false,
-        optional: false,
-    },
-    Rule {
-        tag: 0x08,
-        base: 0,
-        factor: 8,
-        power: 2,
-        repeats: false,
-        optional: false,
-    },
-    Rule {
-        tag: 0x09,
-        base: 10,
-        factor: 0,
-        power: 0,
-        repeats: false,
-        optional: false,
-    },
-    Rule {
-        tag: 0x20,
-        base: 1,
-        factor: 0,
-        power: 0,
-        repeats: false,
-        optional: false,
-    },
-    Rule {
-        tag: 0x21,
-        base: 2,
-        factor: 0,
-        power: 0,
-        repeats: false,
-        optional: false,
-    },
-    Rule {
-        tag: 0x22,
-        base: 0,
-        factor: 8,
-        power: 1,
-        repeats: false,
-        optional: true,
-    },
+    Rule(0x01, IN_JOB, 2, 0, 0, ONCE),
+    Rule(0x02, IN_JOB, 4, 0, 0, ONCE),
+    Rule(0x03, IN_JOB, 24, 0, 0, ONCE),
+    Rule(0x04, IN_JOB, 0, 8, 1, MANY),
+    Rule(0x05, IN_JOB, 0, 8, 1, ONCE),
+    Rule(0x06, IN_JOB, 6, 0, 0, ONCE),
+    Rule(0x07, IN_JOB, 8, 0, 0, ONCE),
+    Rule(0x08, IN_JOB, 0, 8, 2, ONCE),
+    Rule(0x09, IN_JOB, 10, 0, 0, ONCE),
+    Rule(0x20, IN_ANSWER, 1, 0, 0, ONCE),
+    Rule(0x21, IN_ANSWER, 2, 0, 0, ONCE),
+    Rule(0x22, IN_ANSWER, 0, 8, 1, MAYBE),
 ];
 
-// Of what is no tag of the table.
-const NO_RULE: Rule = Rule {
-    tag: 256,
-    base: 0,
-    factor: 0,
-    power: 0,
-    repeats: false,
-    optional: false,
-};
+// Its rows by name, which are also the places of their tags, and how many there are.
+pub(crate) const N: usize = 0;
+pub(crate) const BANDS: usize = 1;
+pub(crate) const LIMITS: usize = 2;
+pub(crate) const ROW: usize = 3;
+pub(crate) const POINT: usize = 4;
+pub(crate) const CURSORS: usize = 5;
+pub(crate) const KAPPA: usize = 6;
+pub(crate) const MATRIX: usize = 7;
+pub(crate) const SETTINGS: usize = 8;
+pub(crate) const OUTCOME: usize = 9;
+pub(crate) const STEPS: usize = 10;
+pub(crate) const FOUND: usize = 11;
+pub(crate) const TAGS: usize = 12;
+
+// Of what is no tag of the table: no form has it.
+const NO_RULE: Rule = Rule(0, 0, 0, 0, 0, ONCE);
 
 fn rule_at(i: usize) -> Rule
     ensures { λ r. ⌜ r ≡ ruleAt i ⌝ }
 {
-    if i < 12 {
+    if i < TAGS {
         return RULES[i];
     }
     NO_RULE
+}
+
+// Whether the form has the rule's tag.
+fn is_of(form: Form, rule: Rule) -> bool
+    requires { ⌜ 0 < form .bit ⌝ }
+    ensures { λ r. ⌜ r ≡ eqb (rule .1 / form .bit % 2) 1 ⌝ }
+{
+    rule.1 / form.bit % 2 == 1
 }
 
 // A tag's place in the table, which is made once for all turns; 12 for a tag that is not there.
@@ -146,9 +95,9 @@ fn rule_index(tag: u64) -> usize
 {
     let rules = RULES;
     let mut i = 0;
-    while i < 12 {
+    while i < TAGS {
         let rule = rules[i];
-        if rule.tag as u64 == tag {
+        if rule.0 as u64 == tag {
             return i;
         }
         i += 1;
@@ -175,7 +124,7 @@ pub(crate) fn rule_length(i: usize, n: usize) -> usize
     ensures { λ r. ⌜ r ≡ ruleLength i n ⌝ }
 {
     let rule = rule_at(i);
-    rule.base as usize + rule.factor as usize * power(n, rule.power as usize)
+    rule.2 as usize + rule.3 as usize * power(n, rule.4 as usize)
 }
 
 // ---- a field's header, and numbers in its content; bytes past the end count as 0
@@ -200,7 +149,7 @@ pub(crate) fn half_at(bytes: &[u8], at: usize) -> usize
 
 // Number k of the content that begins at p.
 pub(crate) fn number_at(bytes: &[u8], p: usize, k: usize) -> f64
-    requires { ⌜ k ≤ 1024 ⌝ }
+    requires { ⌜ k ≤ 32768 ⌝ }
     ensures { λ r. ⌜ r ≡ numberAt (now (bytes .entry)) p k ⌝ }
 {
     if bytes.len() < p {
@@ -211,7 +160,7 @@ pub(crate) fn number_at(bytes: &[u8], p: usize, k: usize) -> f64
 
 // The numbers of the content that begins at p, as many as `out` takes.
 pub(crate) fn numbers_into(bytes: &[u8], p: usize, out: &mut [f64])
-    requires { ⌜ length (now out) ≤ 1024 ⌝ }
+    requires { ⌜ length (now out) ≤ 32768 ⌝ }
     ensures { λ _. ⌜ now (out .exit) ≡ numbersAt (now (bytes .entry)) p (length (now (out .entry))) ⌝ }
 {
     let mut i = 0;
@@ -246,8 +195,7 @@ pub(crate) fn content_at(bytes: &[u8], at: usize) -> usize
 pub(crate) fn is_row(bytes: &[u8], at: usize) -> bool
     ensures { λ r. ⌜ r ≡ is-row (now (bytes .entry)) at ⌝ }
 {
-    let rule = rule_at(rule_index(tag_at(bytes, at)));
-    rule.repeats
+    rule_index(tag_at(bytes, at)) == ROW
 }
 
 // ---- the walk, front to back
@@ -265,19 +213,19 @@ pub(crate) fn next_field(bytes: &[u8], at: usize) -> usize
 }
 
 // The tests of one field, in document 01's order.
-fn field_fault(bytes: &[u8], at: usize, first: usize, past: usize, places: &[usize; 12]) -> Fault
-    requires { ⌜ (at < length (now bytes)) × (past ≤ 12) ⌝ }
-    ensures { λ r. ⌜ r ≡ field-fault (now (bytes .entry)) first past (now (places .entry)) at ⌝ }
+fn field_fault(bytes: &[u8], form: Form, places: &[usize; 12], at: usize) -> Fault
+    requires { ⌜ (at < length (now bytes)) × (0 < form .bit) ⌝ }
+    ensures { λ r. ⌜ r ≡ field-fault (now (bytes .entry)) form (now (places .entry)) at ⌝ }
 {
     if bytes.len() - at < 3 {
         return Fault::At(Refusal::CutShort, at);
     }
     let i = rule_index(tag_at(bytes, at));
-    if (i < first) | (past <= i) {
+    let rule = rule_at(i);
+    if !is_of(form, rule) {
         return Fault::At(Refusal::ForeignTag, at);
     }
-    let rule = rule_at(i);
-    if (places[i] != 0) & !rule.repeats {
+    if (places[i] != 0) & (rule.5 != MANY) {
         return Fault::At(Refusal::RepeatedTag, at);
     }
     if bytes.len() - at - 3 < length_at(bytes, at) {
@@ -286,33 +234,43 @@ fn field_fault(bytes: &[u8], at: usize, first: usize, past: usize, places: &[usi
     Fault::Sound
 }
 
-// Tests every field and notes, for each tag of the table, where the content of its last field begins.
-fn walk(bytes: &[u8], first: usize, past: usize, places: &mut [usize; 12]) -> Fault
-    requires { ⌜ past ≤ 12 ⌝ }
-    ensures { λ r. ⌜ (r, now (places .exit)) ≡ walk-of (now (bytes .entry)) first past (fields-of (now (bytes .entry))) (now (places .entry)) ⌝ }
+// A tag's place when one more field of it is met.
+fn first_place(old: usize, p: usize) -> usize
+    ensures { λ r. ⌜ r ≡ first-place old p ⌝ }
+{
+    if old == 0 {
+        return p;
+    }
+    old
+}
+
+// Tests every field and notes, for each tag of the table, where the content of its first field begins.
+fn walk(bytes: &[u8], form: Form, places: &mut [usize; 12]) -> Fault
+    requires { ⌜ 0 < form .bit ⌝ }
+    ensures { λ r. ⌜ (r, now (places .exit)) ≡ walk-of (now (bytes .entry)) form (fields-of (now (bytes .entry))) (now (places .entry)) ⌝ }
 {
     let mut at = 0;
     while at < bytes.len() {
-        let fault = field_fault(bytes, at, first, past, places);
+        let fault = field_fault(bytes, form, places, at);
         if is_fault(fault) {
             return fault;
         }
         let i = rule_index(tag_at(bytes, at));
-        places[i] = content_at(bytes, at);
+        places[i] = first_place(places[i], content_at(bytes, at));
         at = next_field(bytes, at);
     }
     Fault::Sound
 }
 
 // Refusal 10, at the record's end.
-fn missing_fault(end: usize, first: usize, past: usize, places: &[usize; 12]) -> Fault
-    requires { ⌜ (first ≤ past) × (past ≤ 12) ⌝ }
-    ensures { λ r. ⌜ r ≡ missing-fault end first past (now (places .entry)) ⌝ }
+fn missing_fault(end: usize, form: Form, places: &[usize; 12]) -> Fault
+    requires { ⌜ 0 < form .bit ⌝ }
+    ensures { λ r. ⌜ r ≡ missing-fault end form (now (places .entry)) ⌝ }
 {
-    let mut i = first;
-    while i < past {
+    let mut i = 0;
+    while i < TAGS {
         let rule = rule_at(i);
-        if (places[i] == 0) & !rule.optional {
+        if is_of(form, rule) & (rule.5 != MAYBE) & (places[i] == 0) {
             return Fault::At(Refusal::MissingTag, end);
         }
         i += 1;
@@ -321,20 +279,15 @@ fn missing_fault(end: usize, first: usize, past: usize, places: &[usize; 12]) ->
 }
 
 // The walk, and refusal 10 after it.
-pub(crate) fn record_fault(
-    bytes: &[u8],
-    first: usize,
-    past: usize,
-    places: &mut [usize; 12],
-) -> Fault
-    requires { ⌜ (first ≤ past) × (past ≤ 12) ⌝ }
-    ensures { λ r. ⌜ (r, now (places .exit)) ≡ record-fault (now (bytes .entry)) first past (now (places .entry)) ⌝ }
+pub(crate) fn record_fault(bytes: &[u8], form: Form, places: &mut [usize; 12]) -> Fault
+    requires { ⌜ 0 < form .bit ⌝ }
+    ensures { λ r. ⌜ (r, now (places .exit)) ≡ record-fault (now (bytes .entry)) form (now (places .entry)) ⌝ }
 {
-    let fault = walk(bytes, first, past, places);
+    let fault = walk(bytes, form, places);
     if is_fault(fault) {
         return fault;
     }
-    missing_fault(bytes.len(), first, past, places)
+    missing_fault(bytes.len(), form, places)
 }
 
 // Refusal 2: the first field, in record order, whose length is not its rule's. Every tag is in the table.
