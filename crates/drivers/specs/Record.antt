@@ -214,7 +214,7 @@ walk-of bytes form (at ∷ rest) places =
 
 -- 10, at the record's length: a tag of the form that must be there has not been met
 abbrev pub is-missing : Form → List ℕ → ℕ → Bool
-is-missing form places i = is-of form i && not (optional i) && not (is-met places i)
+is-missing form places i = is-of form i && not (optional i) && eqb (place places i) 0
 
 unfoldable pub missing-fault : ℕ → Form → List ℕ → Fault
 missing-fault end form places = ask-at end (not (some (is-missing form places) 0 tags)) MissingTag

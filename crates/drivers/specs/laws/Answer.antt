@@ -13,7 +13,7 @@ use Rattle.numbers.specs.declared.refusal.Refusal.the-variants.{Dimension, Room
 use Rattle.numbers.specs.laws.Pick.{by-test}
 use Rattle.numbers.specs.Refusal.{is-fault, _⨾_}
 use Rattle.numbers.specs.laws.Refusal.{both-sound}
-use Rattle.drivers.specs.Record.{fields-of, record-fault, lengths-fault}
+use Rattle.drivers.specs.Record.{fields-of, record-fault, lengths-fault, answer-form}
 use Rattle.drivers.specs.Answer.{has-point, outcome-fault, answer-room-fault, answer-fault}
 use Rattle.numbers.specs.declared.refusal.Fault.{Fault}
 use Rattle.numbers.specs.declared.refusal.Fault.the-variants.{Sound, At}
@@ -36,7 +36,7 @@ answer-sound n bytes places₀ room =
     by-test (λ (f : Fault × List ℕ). f .0 ≡ Sound → AnswerSound n (f .1) room) (not (isDimension n)) _ _
     (λ t e. absurd (true≢false (ap is-fault e)))
     (λ t e.
-    let w = record-fault bytes 9 12 places₀ in
+    let w = record-fault bytes answer-form places₀ in
     let p = both-sound (w .0) _ e .1 in
     let q = both-sound (lengths-fault n bytes (fields-of bytes)) _ p .1 in
     let r = both-sound (outcome-fault bytes (getD (w .1) 9 0) (getD (w .1) 11 0)) _ q .1 in

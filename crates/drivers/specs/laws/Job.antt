@@ -16,7 +16,7 @@ use Rattle.numbers.specs.laws.Pick.{hit, skip, is-hit, is-skip, and-parts}
 use Rattle.numbers.specs.Refusal.{is-fault, _⨾_}
 use Rattle.numbers.specs.laws.Refusal.{no-fault, both-sound, test-sound}
 use Rattle.oracles.specs.Scan.{isRows}
-use Rattle.drivers.specs.Record.{ruleLength, lengthAt, startOf, halfAt, fields-of, record-fault, lengths-fault, row-count}
+use Rattle.drivers.specs.Record.{ruleLength, lengthAt, startOf, halfAt, fields-of, record-fault, lengths-fault, row-count, job-form}
 use Rattle.drivers.specs.Job.{partOf, job-oracle, dimension-fault, band-fault, cursor-fault, room-fault, job-fault, has-room}
 use Rattle.numbers.specs.declared.refusal.Fault.{Fault}
 use Rattle.numbers.specs.declared.refusal.Fault.the-variants.{Sound, At}
@@ -51,7 +51,7 @@ module _ (bytes places : List ℕ) (table xc mq : ℕ) where
   pub room-of : (places₀ : List ℕ) (f : Fault) → (f, places) ≡ job-fault bytes places₀ table xc mq → f ≡ Sound → has-room bytes places table xc mq ≡ true
   unfolding job-fault
   room-of places₀ f e s =
-      let w = record-fault bytes 0 9 places₀ in
+      let w = record-fault bytes job-form places₀ in
       let n = halfAt bytes (getD (w .1) 0 0) in
       let rows = row-count bytes (fields-of bytes) in
       let bands = wordAt bytes (getD (w .1) 1 0) in

@@ -23,7 +23,7 @@ use Rattle.oracles.specs.Scan.{isRows}
 use Rattle.oracles.specs.LowpassOracle.{bands-fit, cursors-fit}
 use Rattle.oracles.specs.Ell.{EllBuffers}
 use Rattle.oracles.specs.laws.EllCalls.{EllLong, ell-makes}
-use Rattle.drivers.specs.Record.{halfAt, numberAt, numbersAt, fields-of, no-places, record-fault, lengths-fault, row-count, rows-of, is-row, rows-in, contentOf, fronted}
+use Rattle.drivers.specs.Record.{halfAt, numberAt, numbersAt, fields-of, no-places, record-fault, lengths-fault, row-count, rows-of, is-row, rows-in, contentOf, fronted, job-form}
 use Rattle.drivers.specs.CuttingPlane.{Space, check-space, feas-run}
 use Rattle.drivers.specs.Job.{partOf, job-oracle, dimension-fault, band-fault, cursor-fault, room-fault, job-fault, jobOf, read-job-answer}
 use Rattle.drivers.specs.laws.Job.{dimension-sound, band-sound, room-of, room-parts}
@@ -89,7 +89,7 @@ module _ (bytes : List ℕ) (table xc mq : List Float) where
       f .0 ≡ Sound → JobSound (j .0) × JobHeld (j .0) (j .1) (j .2) (j .3)
   unfolding job-fault cursor-fault jobOf
   sound-held e =
-      let w = record-fault bytes 0 9 no-places in
+      let w = record-fault bytes job-form no-places in
       let n = halfAt bytes (getD (w .1) 0 0) in
       let rows = row-count bytes (fields-of bytes) in
       let bands = wordAt bytes (getD (w .1) 1 0) in

@@ -13,7 +13,7 @@ use Rattle.numbers.specs.declared.refusal.Refusal.the-variants.{Dimension, Room
 use Rattle.numbers.specs.laws.Pick.{hit, skip, says-no, says-yes}
 use Rattle.numbers.specs.Refusal.{is-fault, _⨾_}
 use Rattle.numbers.specs.laws.Refusal.{stops, passes}
-use Rattle.drivers.specs.Record.{fields-of, record-fault, lengths-fault}
+use Rattle.drivers.specs.Record.{fields-of, record-fault, lengths-fault, answer-form}
 use Rattle.drivers.specs.Answer.{has-point, outcome-fault, answer-room-fault, answer-fault}
 use Rattle.numbers.specs.declared.refusal.Fault.{Fault}
 use Rattle.numbers.specs.declared.refusal.Fault.the-variants.{Sound, At}
@@ -25,7 +25,7 @@ unfolding answer-fault
 no-dimension n bytes places₀ room d = hit _ _ _ _ (ap not d) refl
 
 -- the walk found f₁ and noted the places
-module _ (n : ℕ) (bytes places₀ : List ℕ) (room : ℕ) (d : isDimension n ≡ true) (f₁ : Fault) (places : List ℕ) (e₁ : (f₁, places) ≡ record-fault bytes 9 12 places₀) where
+module _ (n : ℕ) (bytes places₀ : List ℕ) (room : ℕ) (d : isDimension n ≡ true) (f₁ : Fault) (places : List ℕ) (e₁ : (f₁, places) ≡ record-fault bytes answer-form places₀) where
   -- the chain of what the code has found so far
   answer : (f₂ f₃ f₄ : Fault) → f₂ ≡ lengths-fault n bytes (fields-of bytes) → f₃ ≡ outcome-fault bytes (getD places 9 0) (getD places 11 0) → f₄ ≡ answer-room-fault n places room
       → (r : Fault) → r ≡ (f₁ ⨾ f₂ ⨾ f₃ ⨾ f₄) → (r, places) ≡ answer-fault n bytes places₀ room

@@ -108,7 +108,7 @@ numbers-into-requires-2 c κs =
     let ha = c .before .before .before .before .before .before .before .before .before .before .before .before in
     let s = ha .before .before .before .before .before .before in
     let r = room (s .args .bytes .now) (s .args .places .now) _ (ha .half-at .ensures) (s .args .table .now) (s .args .xc .now) (s .args .mq .now) (s .pre) in
-    rw (length-take-le _ _ (r .4)) (r .5)
+    rw (length-take-le _ _ (r .4)) (omega (arith, r .5))
 
 job-oracle-requires : tie.Need-job-oracle-requires
 job-oracle-requires c κs =

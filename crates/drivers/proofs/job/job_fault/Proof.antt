@@ -8,7 +8,7 @@ use Rattle.numbers.specs.Bits.{wordAt}
 use Rattle.numbers.specs.Refusal.{is-fault, _⨾_}
 use Rattle.numbers.specs.laws.Refusal.{stops, passes}
 use Rattle.oracles.specs.declared.lowpass_oracle.LowpassOracle.{LowpassOracle}
-use Rattle.drivers.specs.Record.{halfAt, fields-of, record-fault, lengths-fault, row-count}
+use Rattle.drivers.specs.Record.{halfAt, fields-of, record-fault, lengths-fault, row-count, job-form}
 use Rattle.drivers.specs.Job.{partOf, job-oracle, dimension-fault, band-fault, cursor-fault, room-fault, job-fault}
 use Rattle.drivers.specs.laws.Job.{dimension-small, rows-small}
 use Rattle.numbers.specs.declared.refusal.Fault.{Fault}
@@ -16,7 +16,7 @@ use borrow.Author.Needs.{needs}
 use Rattle.drivers.proofs.job.job_fault.Statement.{statement}
 use Rattle.drivers.proofs.job.job_fault.Tie as tie
 
-module _ (bytes places₀ places : List ℕ) (table xc mq : ℕ) (f₁ : Fault) (e₁ : (f₁, places) ≡ record-fault bytes 0 9 places₀) where
+module _ (bytes places₀ places : List ℕ) (table xc mq : ℕ) (f₁ : Fault) (e₁ : (f₁, places) ≡ record-fault bytes job-form places₀) where
   abbrev J : Fault × List ℕ
   J = job-fault bytes places₀ table xc mq
 

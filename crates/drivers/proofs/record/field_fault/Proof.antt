@@ -1,55 +1,70 @@
 -- `drivers::record::field_fault` meets its contract, a test at a time. Assumes nothing.
-use mathlib.Core.Path.{_≡_, refl, ap, _∙_}
-use mathlib.Core.Bool.{true, false, not, _&&_, _||_}
+use mathlib.Core.Path.{_≡_, refl, sym, ap, _∙_}
+use mathlib.Core.Bool.{Bool, true, false, not, _&&_}
 use mathlib.Core.List.{List}
-use Prim.Native.Nat.{ℕ, _<_, _≤_, _+_, _-_}
+use Prim.Native.Nat.{ℕ, _<_, _≤_, _+_, _-_, _/_, _%_}
 use native.Mathlib.Omega.{arith}
-use borrow.Author.Tests.{lt-ltb, le-ltb, leb-false}
-use lib.Dec.{leb, ltb, eqb}
-use lib.ListN.{length, getD}
+use borrow.Author.Tests.{lt-ltb, le-ltb, lt-leb, le-leb, not-true, not-false}
+use lib.Dec.{eqb}
+use lib.ListN.{length}
 use Rattle.numbers.specs.declared.refusal.Refusal.the-variants.{CutShort, ForeignTag, RepeatedTag}
-use Rattle.numbers.specs.laws.Pick.{hit, skip, or-parts}
-use Rattle.drivers.specs.Record.{ruleAt, indexOf, indexAt, lengthAt, field-fault}
-use Rattle.drivers.specs.declared.record.Rule.{Rule}
 use Rattle.numbers.specs.declared.refusal.Fault.the-variants.{Sound, At}
+use Rattle.drivers.specs.Record.{many, ruleAt, is-of, indexOf, indexAt, lengthAt, place, field-fault}
+use Rattle.drivers.specs.laws.Record.{is-of-listed, test-fails, test-holds, last-fails, last-holds}
+use Rattle.drivers.specs.declared.record.Rule.{Rule}
+use Rattle.drivers.specs.declared.record.Form.{Form}
 use borrow.Author.Needs.{needs}
 use Rattle.drivers.proofs.record.field_fault.Statement.{statement}
 use Rattle.drivers.proofs.record.field_fault.Tie as tie
 
-module _ (bytes : List ℕ) (first past : ℕ) (places : List ℕ) (at : ℕ) where
-  no-header : length bytes - at < 3 → At CutShort at ≡ field-fault bytes first past places at
+-- a tag by its rule: whether it is of the form, and that it is then in the table
+module _ (bytes : List ℕ) (form : Form) (at i : ℕ) (e : i ≡ indexAt bytes at) (r : Rule) (d : r ≡ ruleAt i) (t : Bool) (q : t ≡ eqb (r .1 / form .bit % 2) 1) where
+  of-form : t ≡ is-of form (indexAt bytes at)
+  of-form = q ∙ rw (d, e)
+
+  listed : not t ≡ false → i < 12
+  listed f = rw e (is-of-listed form (indexAt bytes at) (sym of-form ∙ not-false t f))
+
+module _ (bytes : List ℕ) (form : Form) (places : List ℕ) (at : ℕ) where
+  no-header : length bytes - at < 3 → At CutShort at ≡ field-fault bytes form places at
   unfolding field-fault
-  no-header h = hit _ _ _ _ (lt-ltb _ 3 h) refl
+  no-header h = test-fails _ _ _ _ _ (lt-leb 3 (length bytes - at) h) refl
 
-  module _ (h : 3 ≤ length bytes - at) (i : ℕ) (e : i ≡ indexAt bytes at) where
-    foreign : (ltb i first || leb past i) ≡ true → At ForeignTag at ≡ field-fault bytes first past places at
+  module _ (h : 3 ≤ length bytes - at) (i : ℕ) (e : i ≡ indexAt bytes at) (r : Rule) (d : r ≡ ruleAt i) (t : Bool) (q : t ≡ eqb (r .1 / form .bit % 2) 1) where
+    known : t ≡ is-of form (indexAt bytes at)
+    known = of-form bytes form at i e r d t q
+
+    foreign : not t ≡ true → At ForeignTag at ≡ field-fault bytes form places at
     unfolding field-fault
-    foreign t = skip _ _ _ _ (le-ltb _ 3 h) (hit _ _ _ _ (rw (← e) t) refl)
+    foreign f = test-holds _ _ _ _ _ (le-leb 3 (length bytes - at) h) (test-fails _ _ _ _ _ (sym known ∙ not-true t f) refl)
 
-    module _ (f : (ltb i first || leb past i) ≡ false) (r : Rule) (d : r ≡ ruleAt i) where
-      again : (not (eqb (getD places i 0) 0) && not (r .repeats)) ≡ true → At RepeatedTag at ≡ field-fault bytes first past places at
+    module _ (f : not t ≡ false) where
+      again : (not (eqb (place places i) 0) && not (eqb (r .5) many)) ≡ true → At RepeatedTag at ≡ field-fault bytes form places at
       unfolding field-fault
-      again t = skip _ _ _ _ (le-ltb _ 3 h) (skip _ _ _ _ (rw (← e) f) (hit _ _ _ _ (rw (← e, ← d) t) refl))
+      again g =
+          test-holds _ _ _ _ _ (le-leb 3 (length bytes - at) h)
+          (test-holds _ _ _ _ _ (sym known ∙ not-false t f) (test-fails _ _ _ _ _ (rw (← e, ← d) (ap not g)) refl))
 
-      module _ (g : (not (eqb (getD places i 0) 0) && not (r .repeats)) ≡ false) (l : ℕ) (k : l ≡ lengthAt bytes at) where
-        no-content : length bytes - at - 3 < l → At CutShort at ≡ field-fault bytes first past places at
+      module _ (g : (not (eqb (place places i) 0) && not (eqb (r .5) many)) ≡ false) (l : ℕ) (k : l ≡ lengthAt bytes at) where
+        no-content : length bytes - at - 3 < l → At CutShort at ≡ field-fault bytes form places at
         unfolding field-fault
-        no-content t =
-            skip _ _ _ _ (le-ltb _ 3 h) (skip _ _ _ _ (rw (← e) f) (skip _ _ _ _ (rw (← e, ← d) g) (hit _ _ _ _ (lt-ltb (length bytes - at) (3 + lengthAt bytes at) (omega arith)) refl)))
+        no-content x =
+            test-holds _ _ _ _ _ (le-leb 3 (length bytes - at) h)
+            (test-holds _ _ _ _ _ (sym known ∙ not-false t f)
+            (test-holds _ _ _ _ _ (rw (← e, ← d) (ap not g)) (last-fails _ _ _ (ap not (lt-ltb (length bytes - at) (3 + lengthAt bytes at) (omega arith))))))
 
-        sound : l ≤ length bytes - at - 3 → Sound ≡ field-fault bytes first past places at
+        sound : l ≤ length bytes - at - 3 → Sound ≡ field-fault bytes form places at
         unfolding field-fault
-        sound t = skip _ _ _ _ (le-ltb _ 3 h) (skip _ _ _ _ (rw (← e) f) (skip _ _ _ _ (rw (← e, ← d) g) (skip _ _ _ _ (le-ltb (length bytes - at) (3 + lengthAt bytes at) (omega arith)) refl)))
-
--- a tag of the record is in the table
-listed : (i first past : ℕ) → (ltb i first || leb past i) ≡ false → past ≤ 12 → i < 12
-listed i first past h l = omega (arith, leb-false past i (or-parts (ltb i first) (leb past i) h .1))
+        sound x =
+            test-holds _ _ _ _ _ (le-leb 3 (length bytes - at) h)
+            (test-holds _ _ _ _ _ (sym known ∙ not-false t f)
+            (test-holds _ _ _ _ _ (rw (← e, ← d) (ap not g)) (last-holds _ _ _ (ap not (le-ltb (length bytes - at) (3 + lengthAt bytes at) (omega arith))))))
 
 sub-if1 : tie.Need-sub-if1
 sub-if1 c = search needs
 
 returns : tie.Need-returns
-returns c = no-header _ _ _ _ _ (c .if1 .taken)
+returns c = no-header _ _ _ _ (c .if1 .taken)
 
 tag-at-requires : tie.Need-tag-at-requires
 tag-at-requires c κs = search needs
@@ -57,33 +72,39 @@ tag-at-requires c κs = search needs
 rule-index-requires : tie.Need-rule-index-requires
 rule-index-requires c κs = search needs
 
-returns-2 : tie.Need-returns-2
-returns-2 c =
-    let ri = c .before in
-    let ta = ri .before in
-    let test1 = ta .before in
-    foreign _ _ _ _ _ (test1 .if1 .left) _ (ri .rule-index .ensures ∙ ap indexOf (ta .tag-at .ensures)) (c .if2 .taken)
-
 rule-at-requires : tie.Need-rule-at-requires
 rule-at-requires c κs = search needs
 
+is-of-requires : tie.Need-is-of-requires
+is-of-requires c κs = search needs
+
+returns-2 : tie.Need-returns-2
+returns-2 c =
+    let io = c .before in
+    let ra = io .before in
+    let ri = ra .before in
+    let ta = ri .before in
+    foreign _ _ _ _ (ta .before .if1 .left) _ (ri .rule-index .ensures ∙ ap indexOf (ta .tag-at .ensures)) _ (ra .rule-at .ensures) _ (io .is-of .ensures) (c .if2 .taken)
+
 element-copy-out-if3 : tie.Need-element-copy-out-if3
 element-copy-out-if3 c =
-    let test2 = c .before in
-    let s = test2 .before .before .before .before .before in
-    listed _ _ _ (test2 .if2 .left) (s .pre .1)
+    let io = c .before in
+    let ra = io .before in
+    let ri = ra .before in
+    let ta = ri .before in
+    listed _ _ _ _ (ri .rule-index .ensures ∙ ap indexOf (ta .tag-at .ensures)) _ (ra .rule-at .ensures) _ (io .is-of .ensures) (c .if2 .left)
 
 mul-if3 : tie.Need-mul-if3
 mul-if3 c = record { fits = omega (arith, element-copy-out-if3 c) }
 
 returns-3 : tie.Need-returns-3
 returns-3 c =
-    let ra = c .before .before .before in
-    let test2 = ra .before in
-    let ri = test2 .before in
+    let test2 = c .before .before .before in
+    let io = test2 .before in
+    let ra = io .before in
+    let ri = ra .before in
     let ta = ri .before in
-    let test1 = ta .before in
-    again _ _ _ _ _ (test1 .if1 .left) _ (ri .rule-index .ensures ∙ ap indexOf (ta .tag-at .ensures)) (test2 .if2 .left) _ (ra .rule-at .ensures) (c .if3 .taken)
+    again _ _ _ _ (ta .before .if1 .left) _ (ri .rule-index .ensures ∙ ap indexOf (ta .tag-at .ensures)) _ (ra .rule-at .ensures) _ (io .is-of .ensures) (test2 .if2 .left) (c .if3 .taken)
 
 sub-if4 : tie.Need-sub-if4
 sub-if4 c = search needs
@@ -98,28 +119,28 @@ returns-4 : tie.Need-returns-4
 returns-4 c =
     let la = c .before in
     let test3 = la .before in
-    let ra = test3 .before .before .before in
-    let test2 = ra .before in
-    let ri = test2 .before in
+    let test2 = test3 .before .before .before in
+    let io = test2 .before in
+    let ra = io .before in
+    let ri = ra .before in
     let ta = ri .before in
-    let test1 = ta .before in
-    no-content _ _ _ _ _ (test1 .if1 .left) _ (ri .rule-index .ensures ∙ ap indexOf (ta .tag-at .ensures)) (test2 .if2 .left) _ (ra .rule-at .ensures) (test3 .if3 .left) _
-    (la .length-at .ensures) (c .if4 .taken)
+    no-content _ _ _ _ (ta .before .if1 .left) _ (ri .rule-index .ensures ∙ ap indexOf (ta .tag-at .ensures)) _ (ra .rule-at .ensures) _ (io .is-of .ensures) (test2 .if2 .left)
+    (test3 .if3 .left) _ (la .length-at .ensures) (c .if4 .taken)
 
 returns-5 : tie.Need-returns-5
 returns-5 c =
     let la = c .before in
     let test3 = la .before in
-    let ra = test3 .before .before .before in
-    let test2 = ra .before in
-    let ri = test2 .before in
+    let test2 = test3 .before .before .before in
+    let io = test2 .before in
+    let ra = io .before in
+    let ri = ra .before in
     let ta = ri .before in
-    let test1 = ta .before in
-    sound _ _ _ _ _ (test1 .if1 .left) _ (ri .rule-index .ensures ∙ ap indexOf (ta .tag-at .ensures)) (test2 .if2 .left) _ (ra .rule-at .ensures) (test3 .if3 .left) _
-    (la .length-at .ensures) (c .if4 .left)
+    sound _ _ _ _ (ta .before .if1 .left) _ (ri .rule-index .ensures ∙ ap indexOf (ta .tag-at .ensures)) _ (ra .rule-at .ensures) _ (io .is-of .ensures) (test2 .if2 .left)
+    (test3 .if3 .left) _ (la .length-at .ensures) (c .if4 .left)
 
 pub field-fault-spec : {M : Type 1} → statement M
 field-fault-spec =
     tie.close
-    (tie.spec sub-if1 returns tag-at-requires rule-index-requires returns-2 rule-at-requires mul-if3 element-copy-out-if3 returns-3 sub-if4
-    sub-if4-2 length-at-requires returns-4 returns-5)
+    (tie.spec sub-if1 returns tag-at-requires rule-index-requires rule-at-requires is-of-requires returns-2 mul-if3 element-copy-out-if3 returns-3
+    sub-if4 sub-if4-2 length-at-requires returns-4 returns-5)

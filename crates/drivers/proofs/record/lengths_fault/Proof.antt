@@ -1,14 +1,14 @@
 -- `drivers::record::lengths_fault` meets its contract: at each turn what is left computes the answer. Assumes nothing.
-use mathlib.Core.Path.{_≡_, sym, ap, _∙_}
-use mathlib.Core.Bool.{not}
+use mathlib.Core.Path.{_≡_, refl, sym, ap, _∙_}
 use mathlib.Core.List.{List}
 use Prim.Native.Nat.{ℕ, _<_, _≤_, _-_}
 use borrow.Author.Tests.{eq-eqb, ne-eqb}
+use lib.Dec.{eqb}
 use lib.ListN.{length}
 use Rattle.numbers.specs.declared.refusal.Refusal.the-variants.{Length}
-use Rattle.numbers.specs.laws.Pick.{is-hit, is-skip}
+use Rattle.numbers.specs.Refusal.{_⨾_, ask-at}
 use Rattle.drivers.specs.Record.{indexOf, indexAt, lengthAt, ruleLength, after, fields-of, lengths-fault}
-use Rattle.drivers.specs.laws.Record.{fields-after, fields-start, fields-turn, fields-end, left-less}
+use Rattle.drivers.specs.laws.Record.{test-fails, test-holds, fields-after, fields-start, fields-turn, fields-end, left-less}
 use Rattle.numbers.specs.declared.refusal.Fault.{Fault}
 use Rattle.numbers.specs.declared.refusal.Fault.the-variants.{Sound, At}
 use borrow.Author.Needs.{needs}
@@ -17,16 +17,16 @@ use Rattle.drivers.proofs.record.lengths_fault.Tie as tie
 
 module _ (bytes : List ℕ) (n at : ℕ) (w : Fault) (left : lengths-fault n bytes (fields-after bytes at) ≡ w) where
   module _ (h : at < length bytes) (l r : ℕ) (a : l ≡ lengthAt bytes at) (b : r ≡ ruleLength (indexAt bytes at) n) where
-    stops : (l ≡ r → ⊥) → At Length at ≡ w
+    -- the test of this field, then those of the rest
+    turn : (ask-at at (eqb l r) Length ⨾ lengths-fault n bytes (fields-after bytes (after bytes at))) ≡ w
     unfolding lengths-fault
-    stops t =
-        sym (is-hit _ _ _ (rw (← a, ← b) (ap not (ne-eqb l r t)))) ∙ sym (ap (λ (z : List ℕ). lengths-fault n bytes z) (fields-turn bytes at h)) ∙ left
+    turn = rw (a, b) (sym (ap (λ (z : List ℕ). lengths-fault n bytes z) (fields-turn bytes at h)) ∙ left)
+
+    stops : (l ≡ r → ⊥) → At Length at ≡ w
+    stops t = test-fails _ _ _ _ _ (ne-eqb l r t) refl ∙ turn
 
     goes-on : l ≡ r → (next : ℕ) → next ≡ after bytes at → lengths-fault n bytes (fields-after bytes next) ≡ w
-    unfolding lengths-fault
-    goes-on t next d =
-        rw d
-        (sym (is-skip _ _ _ (rw (← a, ← b) (ap not (eq-eqb l r t)))) ∙ sym (ap (λ (z : List ℕ). lengths-fault n bytes z) (fields-turn bytes at h)) ∙ left)
+    goes-on t next d = rw d (test-holds _ _ _ _ _ (eq-eqb l r t) refl ∙ turn)
 
   ends : length bytes ≤ at → Sound ≡ w
   unfolding lengths-fault

@@ -1,47 +1,54 @@
 -- `drivers::record::missing_fault` meets its contract. The invariant: no tag below i is missing. Assumes nothing.
-use mathlib.Core.Path.{_≡_, refl}
-use mathlib.Core.Bool.{true, false, not, _&&_}
+use mathlib.Core.Path.{_≡_, sym, ap, _∙_}
+use mathlib.Core.Bool.{Bool, true, false, not, _&&_}
 use mathlib.Core.List.{List}
 use mathlib.Core.Logic.{⊎-elim}
-use Prim.Native.Nat.{ℕ, _<_, _≤_, _+_, _-_}
+use Prim.Native.Nat.{ℕ, _<_, _≤_, _+_, _-_, _/_, _%_}
 use native.Mathlib.Nat.{eq-or-lt-of-le}
 use native.Mathlib.Omega.{arith}
 use lib.Dec.{eqb}
-use lib.ListN.{getD}
 use Rattle.numbers.specs.declared.refusal.Refusal.the-variants.{MissingTag}
-use Rattle.numbers.specs.laws.Pick.{hit, skip, some-holds, none-some}
-use Rattle.drivers.specs.Record.{ruleAt, is-missing, missing-fault}
+use Rattle.numbers.specs.laws.Pick.{some-holds, none-some}
+use Rattle.drivers.specs.Record.{tags, maybe, ruleAt, place, is-missing, missing-fault}
+use Rattle.drivers.specs.laws.Record.{last-fails, last-holds}
+use Rattle.drivers.specs.declared.record.Form.{Form}
 use Rattle.drivers.specs.declared.record.Rule.{Rule}
 use Rattle.numbers.specs.declared.refusal.Fault.the-variants.{Sound, At}
 use borrow.Author.Needs.{needs}
 use Rattle.drivers.proofs.record.missing_fault.Statement.{statement}
 use Rattle.drivers.proofs.record.missing_fault.Tie as tie
 
-module _ (end first past : ℕ) (places : List ℕ) (i : ℕ) (a : first ≤ i) where
-  found : (r : Rule) → r ≡ ruleAt i → i < past → (eqb (getD places i 0) 0 && not (r .optional)) ≡ true → At MissingTag end ≡ missing-fault end first past places
-  unfolding missing-fault
-  found r e b t = hit _ _ _ _ (some-holds (is-missing places) first (past - first) i a (omega arith) (rw (← e) t)) refl
+module _ (end : ℕ) (form : Form) (places : List ℕ) (i : ℕ) where
+  module _ (r : Rule) (e : r ≡ ruleAt i) (t : Bool) (d : t ≡ eqb (r .1 / form .bit % 2) 1) where
+    test-is : (t && not (eqb (r .5) maybe) && eqb (place places i) 0) ≡ is-missing form places i
+    test-is = rw (d, e)
 
-  module _ (h : (j : ℕ) → first ≤ j → j < i → is-missing places j ≡ false) where
-    one-more : (r : Rule) → r ≡ ruleAt i → (eqb (getD places i 0) 0 && not (r .optional)) ≡ false → (j : ℕ) → first ≤ j → j < i + 1 → is-missing places j ≡ false
-    one-more r e t j b l =
-        ⊎-elim (λ (q : j ≡ i). rw (q, ← e) t) (λ (m : j < i). h j b m) (eq-or-lt-of-le (omega arith))
-
-    none : past ≤ i → Sound ≡ missing-fault end first past places
+    found : i < tags → (t && not (eqb (r .5) maybe) && eqb (place places i) 0) ≡ true → At MissingTag end ≡ missing-fault end form places
     unfolding missing-fault
-    none l = skip _ _ _ _ (none-some (is-missing places) first (past - first) (λ j b m. h j b (omega arith))) refl
+    found b h = last-fails _ _ _ (ap not (some-holds (is-missing form places) 0 tags i (omega arith) (omega arith) (sym test-is ∙ h)))
+
+    one-more : ((j : ℕ) → j < i → is-missing form places j ≡ false) → (t && not (eqb (r .5) maybe) && eqb (place places i) 0) ≡ false
+        → (j : ℕ) → j < i + 1 → is-missing form places j ≡ false
+    one-more h k j l = ⊎-elim (λ (q : j ≡ i). rw q (sym test-is ∙ k)) (λ (m : j < i). h j m) (eq-or-lt-of-le (omega arith))
+
+  none : ((j : ℕ) → j < i → is-missing form places j ≡ false) → tags ≤ i → Sound ≡ missing-fault end form places
+  unfolding missing-fault
+  none h l = last-holds _ _ _ (ap not (none-some (is-missing form places) 0 tags (λ j b m. h j (omega arith))))
 
 abbrev Inv-loop : tie.InvT-loop
-Inv-loop end first past places i₀ i = (first ≤ i) × (i ≤ past) × ((j : ℕ) → first ≤ j → j < i → is-missing places j ≡ false)
+Inv-loop end form places i₀ i = (i ≤ tags) × ((j : ℕ) → j < i → is-missing form places j ≡ false)
 
 abbrev μ-loop : tie.MeasureT-loop
-μ-loop end first past places i₀ i = past - i
+μ-loop end form places i₀ i = tags - i
 
 loop-holds : tie.Need-loop-holds Inv-loop μ-loop
-loop-holds c = (search needs, search needs, λ j a b. absurd (omega arith))
+loop-holds c = (search needs, λ j b. absurd (omega arith))
 
 rule-at-requires : tie.Need-rule-at-requires Inv-loop μ-loop
 rule-at-requires c κs = search needs
+
+is-of-requires : tie.Need-is-of-requires Inv-loop μ-loop
+is-of-requires c κs = search needs
 
 mul-if1 : tie.Need-mul-if1 Inv-loop μ-loop
 mul-if1 c = search needs
@@ -51,10 +58,9 @@ element-copy-out-if1 c = search needs
 
 returns : tie.Need-returns Inv-loop μ-loop
 returns c =
-    let ra = c .before .before .before in
-    let in-loop = ra .before in
-    let l = in-loop .before in
-    found _ _ _ _ _ (l .loop .inv .0) _ (ra .rule-at .ensures) (in-loop .loop-test .taken) (c .if1 .taken)
+    let io = c .before .before .before in
+    let ra = io .before in
+    found _ _ _ _ _ (ra .rule-at .ensures) _ (io .is-of .ensures) (ra .before .loop-test .taken) (c .if1 .taken)
 
 add-i : tie.Need-add-i Inv-loop μ-loop
 add-i c = search needs
@@ -64,15 +70,16 @@ loop-less c = search needs
 
 loop-again : tie.Need-loop-again Inv-loop μ-loop
 loop-again c =
-    let ra = c .before .before .before in
+    let io = c .before .before .before in
+    let ra = io .before in
     let l = ra .before .before in
     let s = l .before in
-    (search needs, search needs, one-more (s .args .end) (s .args .first) (s .args .past) (s .args .places .now) (l .loop .i) (l .loop .inv .0) (l .loop .inv .2) _ (ra .rule-at .ensures) (c .if1 .left))
+    (search needs, one-more (s .args .end) (s .args .form) (s .args .places .now) (l .loop .i) _ (ra .rule-at .ensures) _ (io .is-of .ensures) (l .loop .inv .1) (c .if1 .left))
 
 returns-2 : tie.Need-returns-2 Inv-loop μ-loop
-returns-2 c = none _ _ _ _ _ (c .before .loop .inv .0) (c .before .loop .inv .2) (c .loop-test .left)
+returns-2 c = none _ _ _ _ (c .before .loop .inv .1) (c .loop-test .left)
 
 pub missing-fault-spec : {M : Type 1} → statement M
 missing-fault-spec =
     tie.close
-    (tie.spec Inv-loop μ-loop loop-holds rule-at-requires mul-if1 element-copy-out-if1 returns add-i loop-less loop-again returns-2)
+    (tie.spec Inv-loop μ-loop loop-holds rule-at-requires is-of-requires mul-if1 element-copy-out-if1 returns add-i loop-less loop-again returns-2)

@@ -6,18 +6,19 @@ use Prim.Native.Nat.{ℕ}
 use lib.ListN.{length}
 use Rattle.drivers.specs.Record.{fields-of, walk-of, missing-fault, record-fault}
 use Rattle.numbers.specs.declared.refusal.Fault.{Fault}
+use Rattle.drivers.specs.declared.record.Form.{Form}
 use borrow.Author.Needs.{needs}
 use Rattle.drivers.proofs.record.record_fault.Statement.{statement}
 use Rattle.drivers.proofs.record.record_fault.Tie as tie
 use Rattle.numbers.specs.laws.Pick.{hit, skip}
 use Rattle.numbers.specs.Refusal.{is-fault}
 
-module _ (bytes : List ℕ) (first past : ℕ) (places₀ places : List ℕ) (f : Fault) (e : (f, places) ≡ walk-of bytes first past (fields-of bytes) places₀) where
-  stops : is-fault f ≡ true → (f, places) ≡ record-fault bytes first past places₀
+module _ (bytes : List ℕ) (form : Form) (places₀ places : List ℕ) (f : Fault) (e : (f, places) ≡ walk-of bytes form (fields-of bytes) places₀) where
+  stops : is-fault f ≡ true → (f, places) ≡ record-fault bytes form places₀
   unfolding record-fault
   stops t = rw (← e) (ap (λ (z : Fault). (z, places)) (hit (is-fault f) f _ f t refl))
 
-  goes-on : is-fault f ≡ false → (m : Fault) → m ≡ missing-fault (length bytes) first past places → (m, places) ≡ record-fault bytes first past places₀
+  goes-on : is-fault f ≡ false → (m : Fault) → m ≡ missing-fault (length bytes) form places → (m, places) ≡ record-fault bytes form places₀
   unfolding record-fault
   goes-on t m d = rw (← e) (ap (λ (z : Fault). (z, places)) (skip (is-fault f) f _ m t d))
 
@@ -28,7 +29,7 @@ is-fault-requires : tie.Need-is-fault-requires
 is-fault-requires c κs = search needs
 
 returns : tie.Need-returns
-returns c = stops _ _ _ _ _ _ (c .before .before .walk .ensures) (sym (c .before .is-fault .ensures) ∙ c .if1 .taken)
+returns c = stops _ _ _ _ _ (c .before .before .walk .ensures) (sym (c .before .is-fault .ensures) ∙ c .if1 .taken)
 
 missing-fault-requires : tie.Need-missing-fault-requires
 missing-fault-requires c κs = search needs
@@ -38,7 +39,7 @@ returns-2 c =
     let test1 = c .before .before in
     let asked1 = test1 .before in
     let w = asked1 .before in
-    goes-on _ _ _ _ _ _ (w .walk .ensures) (sym (asked1 .is-fault .ensures) ∙ test1 .if1 .left) _ (c .missing-fault .ensures)
+    goes-on _ _ _ _ _ (w .walk .ensures) (sym (asked1 .is-fault .ensures) ∙ test1 .if1 .left) _ (c .missing-fault .ensures)
 
 pub record-fault-spec : {M : Type 1} → statement M
 record-fault-spec =

@@ -2,15 +2,15 @@
 use mathlib.Core.Path.{_≡_, sym}
 use Prim.Native.Nat.{ℕ, _≤_}
 use lib.ListN.{List·getD-eq-default}
-use Rattle.drivers.specs.Record.{once, rules, ruleAt}
+use Rattle.drivers.specs.Record.{no-rule, tags, rules, ruleAt}
 use Rattle.drivers.specs.laws.Record.{rule-within}
 use borrow.Author.Needs.{needs}
 use Rattle.drivers.proofs.record.rule_at.Statement.{statement}
 use Rattle.drivers.proofs.record.rule_at.Tie as tie
 
-outside : (i : ℕ) → 12 ≤ i → once 256 0 0 0 ≡ ruleAt i
+outside : (i : ℕ) → tags ≤ i → no-rule ≡ ruleAt i
 unfolding ruleAt rules
-outside i h = sym (List·getD-eq-default rules (once 256 0 0 0) h)
+outside i h = sym (List·getD-eq-default rules no-rule h)
 
 mul-result : tie.Need-mul-result
 mul-result c = search needs

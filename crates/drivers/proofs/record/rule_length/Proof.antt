@@ -10,7 +10,7 @@ use borrow.Author.Needs.{needs}
 use Rattle.drivers.proofs.record.rule_length.Statement.{statement}
 use Rattle.drivers.proofs.record.rule_length.Tie as tie
 
-small : (i : ℕ) (r : Rule) → r ≡ ruleAt i → (r .base ≤ 24) × (r .factor ≤ 8) × (r .power ≤ 2)
+small : (i : ℕ) (r : Rule) → r ≡ ruleAt i → (r .2 ≤ 24) × (r .3 ≤ 8) × (r .4 ≤ 2)
 small i r e = rw e (rule-small i)
 
 product : (f p n k : ℕ) → p ≡ n ^ k → f ≤ 8 → n ≤ 32 → k ≤ 2 → f * p ≤ 8192
@@ -21,7 +21,7 @@ product f p n k e a b d =
     let s : f * p ≤ 8 * 1024 = mul-le-mul a t in
     omega arith
 
-is : (i n p : ℕ) (r : Rule) → r ≡ ruleAt i → p ≡ n ^ (r .power) → r .base + r .factor * p ≡ ruleLength i n
+is : (i n p : ℕ) (r : Rule) → r ≡ ruleAt i → p ≡ n ^ (r .4) → r .2 + r .3 * p ≡ ruleLength i n
 unfolding ruleLength
 is i n p r e d = rw (d, e)
 
@@ -44,14 +44,14 @@ mul-result : tie.Need-mul-result
 mul-result c =
     let ra = c .before .before .before .before in
     let s = small _ _ (ra .rule-at .ensures) in
-    let p = product (ra .rule-at .result .factor) (c .power .result) (ra .before .args .n) (ra .rule-at .result .power) (c .power .ensures) (s .1) (ra .before .pre) (s .2) in
+    let p = product (ra .rule-at .result .3) (c .power .result) (ra .before .args .n) (ra .rule-at .result .4) (c .power .ensures) (s .1) (ra .before .pre) (s .2) in
     record { fits = omega arith }
 
 add-result : tie.Need-add-result
 add-result c =
     let ra = c .before .before .before .before in
     let s = small _ _ (ra .rule-at .ensures) in
-    let p = product (ra .rule-at .result .factor) (c .power .result) (ra .before .args .n) (ra .rule-at .result .power) (c .power .ensures) (s .1) (ra .before .pre) (s .2) in
+    let p = product (ra .rule-at .result .3) (c .power .result) (ra .before .args .n) (ra .rule-at .result .4) (c .power .ensures) (s .1) (ra .before .pre) (s .2) in
     record { fits = omega arith }
 
 returns : tie.Need-returns

@@ -1,59 +1,61 @@
 -- `drivers::record::walk` meets its contract: at each turn what is left computes the answer. Assumes nothing.
 use mathlib.Core.Path.{_≡_, refl, sym, ap, _∙_}
-use mathlib.Core.Bool.{Bool, true, false, _||_, true≢false}
+use mathlib.Core.Bool.{true, false, not, _&&_}
 use mathlib.Core.List.{List}
 use Prim.Native.Nat.{ℕ, _<_, _≤_, _-_}
 use native.Mathlib.Omega.{arith}
-use borrow.Author.Tests.{leb-false}
-use lib.Dec.{leb, ltb}
+use lib.Dec.{leb}
 use lib.ListN.{length, set}
 use Rattle.numbers.specs.Pick.{pick}
-use Rattle.numbers.specs.laws.Pick.{is-hit, is-skip, or-parts}
-use Rattle.numbers.specs.Refusal.{is-fault}
-use Rattle.drivers.specs.Record.{indexOf, indexAt, contentOf, after, field-fault, fields-of, walk-of}
-use Rattle.drivers.specs.laws.Record.{fields-after, fields-start, fields-turn, fields-end, left-less}
+use Rattle.numbers.specs.Refusal.{is-fault, _⨾_, ask-at}
+use Rattle.numbers.specs.laws.Pick.{is-hit, is-skip}
+use Rattle.numbers.specs.laws.Refusal.{no-fault, both-sound}
+use Rattle.numbers.specs.declared.refusal.Refusal.the-variants.{CutShort, ForeignTag, RepeatedTag}
 use Rattle.numbers.specs.declared.refusal.Fault.{Fault}
 use Rattle.numbers.specs.declared.refusal.Fault.the-variants.{Sound}
+use Rattle.drivers.specs.Record.{is-of, repeats, is-met, overruns, indexOf, indexAt, contentOf, after, place, first-place, noted, field-fault, fields-of, walk-of}
+use Rattle.drivers.specs.laws.Record.{is-of-listed, asked-holds, fields-after, fields-start, fields-turn, fields-end, left-less}
+use Rattle.drivers.specs.declared.record.Form.{Form}
 use borrow.Author.Needs.{needs}
 use Rattle.drivers.proofs.record.walk.Statement.{statement}
 use Rattle.drivers.proofs.record.walk.Tie as tie
 
-module _ (bytes : List ℕ) (first past : ℕ) where
-  -- a field without a fault has a tag of the record
-  known : (places : List ℕ) (at : ℕ) → is-fault (field-fault bytes first past places at) ≡ false → indexAt bytes at < past
+module _ (bytes : List ℕ) (form : Form) where
+  -- a field without a fault has a tag of the form
+  known : (places : List ℕ) (at : ℕ) → is-fault (field-fault bytes form places at) ≡ false → indexAt bytes at < 12
   unfolding field-fault
-  known places at h = go (ltb (length bytes - at) 3) refl (ltb (indexAt bytes at) first || leb past (indexAt bytes at)) refl
-    where
-      go : (s : Bool) → ltb (length bytes - at) 3 ≡ s → (t : Bool) → (ltb (indexAt bytes at) first || leb past (indexAt bytes at)) ≡ t → indexAt bytes at < past
-      go true e t d = absurd (true≢false (sym (ap is-fault (is-hit _ _ _ e)) ∙ h))
-      go false e true d = absurd (true≢false (sym (ap is-fault (is-skip _ _ _ e ∙ is-hit _ _ _ d)) ∙ h))
-      go false e false d = leb-false past (indexAt bytes at) (or-parts (ltb (indexAt bytes at) first) (leb past (indexAt bytes at)) d .1)
+  known places at h =
+      let i = indexAt bytes at in
+      let of-form = ask-at at (is-of form i) ForeignTag in
+      let rest = ask-at at (not (is-met places i && not (repeats i))) RepeatedTag ⨾ ask-at at (not (overruns bytes at)) CutShort in
+      let e = both-sound (ask-at at (leb 3 (length bytes - at)) CutShort) (of-form ⨾ rest) (no-fault (field-fault bytes form places at) h) .1 in
+      is-of-listed form i (asked-holds at (is-of form i) ForeignTag (both-sound of-form rest e .0))
 
-  module _ (places : List ℕ) (at : ℕ) (f : Fault) (h : at < length bytes) (e : f ≡ field-fault bytes first past places at) (w : Fault × List ℕ) (left : walk-of bytes first past (fields-after bytes at) places ≡ w) where
-    turn : walk-of bytes first past (fields-after bytes at) places
-        ≡ pick (is-fault f) (f, places) (walk-of bytes first past (fields-after bytes (after bytes at)) (set places (indexAt bytes at) (contentOf bytes at)))
+  module _ (places : List ℕ) (at : ℕ) (f : Fault) (h : at < length bytes) (e : f ≡ field-fault bytes form places at) (w : Fault × List ℕ) (left : walk-of bytes form (fields-after bytes at) places ≡ w) where
+    turn : walk-of bytes form (fields-after bytes at) places
+        ≡ pick (is-fault f) (f, places) (walk-of bytes form (fields-after bytes (after bytes at)) (noted places (indexAt bytes at) (contentOf bytes at)))
     unfolding walk-of
-    turn = ap (λ (l : List ℕ). walk-of bytes first past l places) (fields-turn bytes at h) ∙ rw e
+    turn = ap (λ (l : List ℕ). walk-of bytes form l places) (fields-turn bytes at h) ∙ rw e
 
     stops : is-fault f ≡ true → (f, places) ≡ w
     stops t = sym (turn ∙ is-hit _ _ _ t) ∙ left
 
-    goes-on : is-fault f ≡ false → (i p next : ℕ) → i ≡ indexAt bytes at → p ≡ contentOf bytes at → next ≡ after bytes at
-        → walk-of bytes first past (fields-after bytes next) (set places i p) ≡ w
-    goes-on t i p next a b d = rw (a, b, d) (sym (turn ∙ is-skip _ _ _ t) ∙ left)
+    goes-on : is-fault f ≡ false → (i p q next : ℕ) → i ≡ indexAt bytes at → p ≡ contentOf bytes at → q ≡ first-place (place places i) p → next ≡ after bytes at
+        → walk-of bytes form (fields-after bytes next) (set places i q) ≡ w
+    goes-on t i p q next a b c d = rw (c, a, b, d) (sym (turn ∙ is-skip _ _ _ t) ∙ left)
 
-    noted : is-fault f ≡ false → past ≤ 12 → (i : ℕ) → i ≡ indexAt bytes at → i < 12
-    noted t l i a = omega (arith, known places at (rw (← e) t))
+    listed : is-fault f ≡ false → (i : ℕ) → i ≡ indexAt bytes at → i < 12
+    listed t i a = rw a (known places at (rw (← e) t))
 
-  ends : (places : List ℕ) (at : ℕ) (w : Fault × List ℕ) → walk-of bytes first past (fields-after bytes at) places ≡ w → length bytes ≤ at → (Sound, places) ≡ w
+  ends : (places : List ℕ) (at : ℕ) (w : Fault × List ℕ) → walk-of bytes form (fields-after bytes at) places ≡ w → length bytes ≤ at → (Sound, places) ≡ w
   unfolding walk-of
-  ends places at w left h = sym (ap (λ (l : List ℕ). walk-of bytes first past l places) (fields-end bytes at h)) ∙ left
+  ends places at w left h = sym (ap (λ (l : List ℕ). walk-of bytes form l places) (fields-end bytes at h)) ∙ left
 
 abbrev Inv-loop : tie.InvT-loop
-Inv-loop bytes first past places₀ at₀ places at = walk-of bytes first past (fields-after bytes at) places ≡ walk-of bytes first past (fields-of bytes) places₀
+Inv-loop bytes form places₀ at₀ places at = walk-of bytes form (fields-after bytes at) places ≡ walk-of bytes form (fields-of bytes) places₀
 
 abbrev μ-loop : tie.MeasureT-loop
-μ-loop bytes first past places₀ at₀ places at = length bytes - at
+μ-loop bytes form places₀ at₀ places at = length bytes - at
 
 loop-holds : tie.Need-loop-holds Inv-loop μ-loop
 loop-holds c = rw (fields-start _)
@@ -69,8 +71,7 @@ returns c =
     let asked1 = c .before in
     let ff = asked1 .before in
     let in-loop = ff .before .before in
-    let l = in-loop .before in
-    stops _ _ _ _ _ _ (in-loop .loop-test .taken) (ff .field-fault .ensures) _ (l .loop .inv) (sym (asked1 .is-fault .ensures) ∙ c .if1 .taken)
+    stops _ _ _ _ _ (in-loop .loop-test .taken) (ff .field-fault .ensures) _ (in-loop .before .loop .inv) (sym (asked1 .is-fault .ensures) ∙ c .if1 .taken)
 
 tag-at-requires : tie.Need-tag-at-requires Inv-loop μ-loop
 tag-at-requires c κs = search needs
@@ -78,20 +79,35 @@ tag-at-requires c κs = search needs
 rule-index-requires : tie.Need-rule-index-requires Inv-loop μ-loop
 rule-index-requires c κs = search needs
 
+element-copy-out-first-place : tie.Need-element-copy-out-first-place Inv-loop μ-loop
+element-copy-out-first-place c =
+    let ta = c .before in
+    let test1 = ta .before in
+    let asked1 = test1 .before in
+    let ff = asked1 .before in
+    let in-loop = ff .before .before in
+    listed _ _ _ _ _ (in-loop .loop-test .taken) (ff .field-fault .ensures) _ (in-loop .before .loop .inv) (sym (asked1 .is-fault .ensures) ∙ test1 .if1 .left) _
+    (c .rule-index .ensures ∙ ap indexOf (ta .tag-at .ensures))
+
+mul-first-place : tie.Need-mul-first-place Inv-loop μ-loop
+mul-first-place c = record { fits = omega (arith, element-copy-out-first-place c) }
+
 content-at-requires : tie.Need-content-at-requires Inv-loop μ-loop
 content-at-requires c κs = search needs
 
+first-place-requires : tie.Need-first-place-requires Inv-loop μ-loop
+first-place-requires c κs = search needs
+
 element-write-places : tie.Need-element-write-places Inv-loop μ-loop
 element-write-places c =
-    let ri = c .before in
+    let ri = c .before .before .before in
     let ta = ri .before in
     let test1 = ta .before in
     let asked1 = test1 .before in
     let ff = asked1 .before in
     let in-loop = ff .before .before in
-    let l = in-loop .before in
-    let s = l .before .before in
-    noted _ _ _ _ _ _ (in-loop .loop-test .taken) (ff .field-fault .ensures) _ (l .loop .inv) (sym (asked1 .is-fault .ensures) ∙ test1 .if1 .left) (s .pre) _ (ri .rule-index .ensures ∙ ap indexOf (ta .tag-at .ensures))
+    listed _ _ _ _ _ (in-loop .loop-test .taken) (ff .field-fault .ensures) _ (in-loop .before .loop .inv) (sym (asked1 .is-fault .ensures) ∙ test1 .if1 .left) _
+    (ri .rule-index .ensures ∙ ap indexOf (ta .tag-at .ensures))
 
 mul-places : tie.Need-mul-places Inv-loop μ-loop
 mul-places c = record { fits = omega (arith, element-write-places c) }
@@ -101,27 +117,28 @@ next-field-requires c κs = search needs
 
 loop-less : tie.Need-loop-less Inv-loop μ-loop
 loop-less c =
-    let in-loop = c .before .before .before .before .before .before .before .before in
+    let in-loop = c .before .before .before .before .before .before .before .before .before .before in
     left-less _ _ _ (c .next-field .ensures) (in-loop .loop-test .taken)
 
 loop-again : tie.Need-loop-again Inv-loop μ-loop
 loop-again c =
-    let ca = c .before in
-    let ri = ca .before in
+    let fp = c .before in
+    let ca = fp .before in
+    let ri = ca .before .before in
     let ta = ri .before in
     let test1 = ta .before in
     let asked1 = test1 .before in
     let ff = asked1 .before in
     let in-loop = ff .before .before in
-    let l = in-loop .before in
-    goes-on _ _ _ _ _ _ (in-loop .loop-test .taken) (ff .field-fault .ensures) _ (l .loop .inv) (sym (asked1 .is-fault .ensures) ∙ test1 .if1 .left) _ _ _
-    (ri .rule-index .ensures ∙ ap indexOf (ta .tag-at .ensures)) (ca .content-at .ensures) (c .next-field .ensures)
+    goes-on _ _ _ _ _ (in-loop .loop-test .taken) (ff .field-fault .ensures) _ (in-loop .before .loop .inv) (sym (asked1 .is-fault .ensures) ∙ test1 .if1 .left) _ _ _ _
+    (ri .rule-index .ensures ∙ ap indexOf (ta .tag-at .ensures)) (ca .content-at .ensures) (fp .first-place .ensures) (c .next-field .ensures)
 
 returns-2 : tie.Need-returns-2 Inv-loop μ-loop
-returns-2 c = ends _ _ _ _ _ _ (c .before .loop .inv) (c .loop-test .left)
+returns-2 c = ends _ _ _ _ _ (c .before .loop .inv) (c .loop-test .left)
 
 pub walk-spec : {M : Type 1} → statement M
 walk-spec =
     tie.close
-    (tie.spec Inv-loop μ-loop loop-holds field-fault-requires is-fault-requires returns tag-at-requires rule-index-requires content-at-requires
-    mul-places element-write-places next-field-requires loop-less loop-again returns-2)
+    (tie.spec Inv-loop μ-loop loop-holds field-fault-requires is-fault-requires returns tag-at-requires rule-index-requires mul-first-place
+    element-copy-out-first-place content-at-requires first-place-requires mul-places element-write-places next-field-requires loop-less loop-again
+    returns-2)
