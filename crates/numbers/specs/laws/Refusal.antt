@@ -5,7 +5,7 @@ use Prim.Native.Nat.{ℕ}
 use borrow.Author.Tests.{not-true}
 use Rattle.numbers.specs.Pick.{pick}
 use Rattle.numbers.specs.declared.refusal.Refusal.{Refusal}
-use Rattle.numbers.specs.laws.Pick.{hit, skip, is-hit, is-skip}
+use Rattle.numbers.specs.laws.Pick.{hit, skip, is-hit, is-skip, by-test}
 use Rattle.numbers.specs.Refusal.{is-fault, _⨾_, unless, ask-at}
 use Rattle.numbers.specs.declared.refusal.Fault.{Fault}
 use Rattle.numbers.specs.declared.refusal.Fault.the-variants.{Sound, At}
@@ -48,6 +48,13 @@ at-first g e = hit _ _ _ _ (ap is-fault (sym e)) e
 pub at-next : {f g r : Fault} → Sound ≡ f → r ≡ g → r ≡ (f ⨾ g)
 at-next e d = skip _ _ _ _ (ap is-fault (sym e)) d
 
+-- what holds of each test's fault, and of none, holds of what the chain finds
+pub of-test {ℓ} : (P : Fault → Type ℓ) (t : Bool) (why : Refusal) (place : ℕ) → P Sound → P (At why place) → P (ask-at place t why)
+of-test P t why place h k = by-test P t _ _ (λ e. h) (λ e. k)
+
+pub of-chain {ℓ} : (P : Fault → Type ℓ) (f g : Fault) → P f → P g → P (f ⨾ g)
+of-chain P f g h k = by-test P (is-fault f) f g (λ e. h) (λ e. k)
+
 -- a test that no fault comes from holds
 pub ask-sound : (t : Bool) (why : Refusal) (place : ℕ) → ask-at place t why ≡ Sound → t ≡ true
 ask-sound true why place e = refl
@@ -66,11 +73,11 @@ module _ {ℓ} {X : Type ℓ} (refused : Refusal → ℕ → X) (done : X) where
   pub accepts : (f : Fault) {r : X} → Sound ≡ f → r ≡ done → r ≡ unless f refused done
   accepts f e d = d ∙ ap (λ (g : Fault). unless g refused done) e
 
--- what holds of every refusal, and of the work where no test fails, holds of the answer
-pub by-tests {ℓ ℓ′} : {X : Type ℓ} (P : X → Type ℓ′) (f : Fault) (refused : Refusal → ℕ → X) (done : X) → ((why : Refusal) (place : ℕ) → P (refused why place)) → (f ≡ Sound → P done)
-    → P (unless f refused done)
+-- what holds of a refusal by the chain's fault, and of the work where there is none, holds of the answer
+pub by-tests {ℓ ℓ′} : {X : Type ℓ} (P : X → Type ℓ′) (f : Fault) (refused : Refusal → ℕ → X) (done : X)
+    → ((why : Refusal) (place : ℕ) → f ≡ At why place → P (refused why place)) → (f ≡ Sound → P done) → P (unless f refused done)
 by-tests P Sound refused done h k = k refl
-by-tests P (At why place) refused done h k = h why place
+by-tests P (At why place) refused done h k = h why place refl
 
 -- what a function makes of an answer
 pub unless-map {ℓ ℓ′} : {X : Type ℓ} {Y : Type ℓ′} (made : X → Y) (f : Fault) (refused : Refusal → ℕ → X) (done : X)
