@@ -5,10 +5,10 @@ use lib.Dec.{eqb}
 use lib.ListN.{length}
 use lib.Ieee.{Float}
 use Rattle.numbers.specs.Pick.{pick}
-use Rattle.numbers.specs.Arr.{tested}
-use Rattle.numbers.specs.declared.refusal.Refusal.the-variants.{Dimension, Length, Band, Cursor}
+use Rattle.numbers.specs.Refusal.{unless}
+use Rattle.numbers.specs.declared.refusal.Fault.{Fault}
 use Rattle.oracles.specs.Scan.{table-fits}
-use Rattle.oracles.specs.LowpassOracle.{bands-fit, cursors-fit, assess-feas-answer}
+use Rattle.oracles.specs.LowpassOracle.{oracle-tests, assess-feas-answer}
 use Rattle.oracles.specs.Verdict.{asked, judge, is-feasible}
 use Rattle.oracles.specs.declared.lowpass_oracle.Verdict.{Verdict}
 use Rattle.oracles.specs.declared.lowpass_oracle.Verdict.the-variants.{Feasible, Cut, Refused as NotAssessed}
@@ -39,9 +39,11 @@ abbrev pub is-of : Job → List Float → List Float → Answer → List Float �
 is-of j table x a point = pick (a .found) (feasible-for j table point) (not (feasible-for j table x))
 
 -- `belongs`: refusals 1 to 4; grad is left as the assessment of the point that is asked about leaves it
+abbrev pub belongs-tests : Job → List Float → List Float → List Float → List Float → Fault
+belongs-tests j table x point grad =
+    oracle-tests (j .oracle) (j .n) (j .rows) (table-fits (j .n) (j .rows) table x && eqb (length point) (j .n) && eqb (length grad) (j .n))
+
 unfoldable pub belongs-answer : Job → List Float → List Float → Answer → List Float → List Float → Belonging × List Float
 belongs-answer j table x a point grad =
-    tested (j .n) (table-fits (j .n) (j .rows) table x && eqb (length point) (j .n) && eqb (length grad) (j .n)) (Refused Dimension, grad) (Refused Length, grad)
-    (pick (not (bands-fit (j .oracle) (j .rows))) (Refused Band, grad)
-    (pick (not (cursors-fit (j .oracle))) (Refused Cursor, grad)
-    (yes-if (is-of j table x a point), assess-feas-answer (j .oracle) (j .n) (j .rows) table (asked-point a x point) grad .1)))
+    unless (belongs-tests j table x point grad) (λ why place. (Refused why, grad))
+    (yes-if (is-of j table x a point), assess-feas-answer (j .oracle) (j .n) (j .rows) table (asked-point a x point) grad .1)

@@ -2,15 +2,16 @@
 use Prim.Native.Nat.{ℕ, zero, suc, _*_}
 use mathlib.Core.Bool.{Bool, true, false, not, _&&_}
 use mathlib.Core.List.{List}
-use lib.Dec.{leb, eqb, ltb}
+use lib.Dec.{leb, eqb}
 use lib.ListN.{length}
 use lib.Ieee.{Float, lt, binary64, ofBits}
 use Rattle.numbers.specs.Pick.{pick}
-use Rattle.numbers.specs.Arr.{tested}
-use Rattle.numbers.specs.declared.refusal.Refusal.the-variants.{Dimension, Length, Band, Cursor, Room}
+use Rattle.numbers.specs.Refusal.{_⨾_, unless, ask}
+use Rattle.numbers.specs.declared.refusal.Refusal.the-variants.{Room}
+use Rattle.numbers.specs.declared.refusal.Fault.{Fault}
 use Rattle.numbers.specs.declared.cut.CutChoice.{CutChoice}
 use Rattle.numbers.specs.declared.cut.CutStatus.{CutStatus}
-use Rattle.oracles.specs.LowpassOracle.{bands-fit, cursors-fit, assess-feas-answer, assess-optim-answer}
+use Rattle.oracles.specs.LowpassOracle.{oracle-tests, assess-feas-answer, assess-optim-answer}
 use Rattle.oracles.specs.EllCommon.{is-success}
 use Rattle.oracles.specs.Ell.{EllBuffers, ell-update-answer}
 use Rattle.oracles.specs.declared.ell.Ell.{Ell}
@@ -26,8 +27,6 @@ use Rattle.oracles.specs.declared.lowpass_oracle.OptimVerdict.{OptimVerdict}
 use Rattle.oracles.specs.declared.lowpass_oracle.OptimVerdict.the-variants.{Improved, Cut as CutOptim, Refused as NotOptim}
 use Rattle.drivers.specs.Record.{fronted}
 use Rattle.drivers.specs.declared.cutting_plane.Options.{Options}
-use Rattle.drivers.specs.declared.cutting_plane.Checked.{Checked}
-use Rattle.drivers.specs.declared.cutting_plane.Checked.the-variants.{Right, Wrong}
 use Rattle.drivers.specs.declared.cutting_plane.Said.{Said}
 use Rattle.drivers.specs.declared.cutting_plane.Said.the-variants.{Feasible, Cut, Refused}
 use Rattle.drivers.specs.declared.cutting_plane.FeasAnswer.{FeasAnswer}
@@ -46,18 +45,22 @@ pub record Space : Type 0 where
   pub buffers : EllBuffers
   pub grad : List Float
 
+-- the lengths that n and the row count say: of the table, the matrix, the centre and the scratch
+abbrev pub run-fits : ℕ → ℕ → ℕ → ℕ → ℕ → ℕ → ℕ → Bool
+run-fits n rows table mq xc grad grad-t = eqb table (rows * n) && eqb xc n && eqb mq (n * n) && eqb grad n && eqb grad-t n
+
 -- refusals 1 to 4, from the slices' lengths
-unfoldable pub checkOf : LowpassOracle → ℕ → ℕ → ℕ → ℕ → ℕ → ℕ → ℕ → Checked
-checkOf o n rows table mq xc grad grad-t =
-    tested n (eqb table (rows * n) && eqb xc n && eqb mq (n * n) && eqb grad n && eqb grad-t n) (Wrong Dimension) (Wrong Length)
-    (pick (not (bands-fit o rows)) (Wrong Band)
-    (pick (not (cursors-fit o)) (Wrong Cursor)
-    Right))
+unfoldable pub checkOf : LowpassOracle → ℕ → ℕ → ℕ → ℕ → ℕ → ℕ → ℕ → Fault
+checkOf o n rows table mq xc grad grad-t = oracle-tests o n rows (run-fits n rows table mq xc grad grad-t)
 
 -- of a space over a table of so many rows
-abbrev pub check-space : ℕ → List Float → Space → Checked
+abbrev pub check-space : ℕ → List Float → Space → Fault
 check-space rows table s =
     checkOf (s .oracle) (s .ell .ndim) rows (length table) (length (s .buffers .mq)) (length (s .buffers .xc)) (length (s .grad)) (length (s .buffers .grad-t))
+
+-- both drivers: then 11, where x_best has no room for a point
+abbrev pub run-tests : ℕ → List Float → Space → List Float → Fault
+run-tests rows table s best = check-space rows table s ⨾ ask (leb (s .ell .ndim) (length best)) Room
 
 -- the point at the front of x_best, where it is to be kept and there is room; the rest stays
 abbrev pub kept : Bool → List Float → List Float → List Float
@@ -111,15 +114,11 @@ abbrev pub is-found : FeasAnswer → Bool
 is-found (Ended a) = a .found
 is-found (NotRun why) = false
 
--- `cutting_plane_feas`: refusals 1 to 4, then 11; the answer, the space, and x_best, which has the point if one is found
-abbrev pub feas-checked : Options → ℕ → List Float → Space → List Float → Checked → FeasAnswer × Space × List Float
-feas-checked options rows table s best (Wrong why) = (NotRun why, s, best)
-feas-checked options rows table s best Right =
-    let r = feas-run rows table (options .tolerance) (options .«max_iters») 0 s in
-    pick (ltb (length best) (s .ell .ndim)) (NotRun Room, s, best) (r .0, r .1, kept (is-found (r .0)) (r .1 .buffers .xc) best)
-
+-- `cutting_plane_feas`: the answer, the space, and x_best, which has the point if one is found
 unfoldable pub feas-answer : Options → ℕ → List Float → Space → List Float → FeasAnswer × Space × List Float
-feas-answer options rows table s best = feas-checked options rows table s best (check-space rows table s)
+feas-answer options rows table s best =
+    let r = feas-run rows table (options .tolerance) (options .«max_iters») 0 s in
+    unless (run-tests rows table s best) (λ why place. (NotRun why, s, best)) (r .0, r .1, kept (is-found (r .0)) (r .1 .buffers .xc) best)
 
 -- ---- cutting_plane_optim
 
@@ -184,11 +183,7 @@ optim-run rows table tolerance (suc left) k s =
     let r = optim-step rows table s in
     pick (optim-goes-on (r .0) (r .1 .ell .tsq) tolerance) (optim-run rows table tolerance left (suc k) (r .1)) (leaves (optim-ended (r .0) (r .1 .found) k) (r .1))
 
--- `cutting_plane_optim`: refusals 1 to 4, then 11
-abbrev pub optim-checked : Options → ℕ → List Float → OptimSpace → Checked → OptimLeft
-optim-checked options rows table s (Wrong why) = leaves (NotRunOptim why) s
-optim-checked options rows table s Right =
-    pick (ltb (length (s .best)) (s .ell .ndim)) (leaves (NotRunOptim Room) s) (optim-run rows table (options .tolerance) (options .«max_iters») 0 s)
-
+-- `cutting_plane_optim`
 unfoldable pub optim-answer : Options → ℕ → List Float → OptimSpace → OptimLeft
-optim-answer options rows table s = optim-checked options rows table s (check-space rows table (plain s))
+optim-answer options rows table s =
+    unless (run-tests rows table (plain s) (s .best)) (λ why place. leaves (NotRunOptim why) s) (optim-run rows table (options .tolerance) (options .«max_iters») 0 s)

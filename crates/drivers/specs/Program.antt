@@ -1,20 +1,17 @@
 -- The program `filterrun` (document 01): all that it prints, as one function of its input. Definitions only.
 use Prim.Native.Nat.{ℕ, _*_, _≤_}
 use mathlib.Core.List.{List}
-use lib.Dec.{ltb}
-use lib.ListN.{length, take, getD, replicate}
+use lib.ListN.{take, getD, replicate}
 use lib.Ieee.{Float}
 use Rattle.numbers.specs.F64.{0ᶠ}
-use Rattle.numbers.specs.Pick.{pick}
 use Rattle.numbers.specs.EllCalc.{made}
 use Rattle.numbers.specs.declared.refusal.Refusal.{Refusal}
-use Rattle.numbers.specs.declared.refusal.Refusal.the-variants.{Room}
-use Rattle.numbers.specs.Refusal.{unless}
+use Rattle.numbers.specs.Refusal.{_⨾_, unless}
 use Rattle.drivers.specs.Text.{joined}
 use Rattle.drivers.specs.Record.{numbersAt, halfAt, numberAt, fields-of, row-count, rows-of, no-places}
 use Rattle.drivers.specs.CuttingPlane.{Space}
 use Rattle.drivers.specs.Job.{job-oracle, optionsOf, job-fault}
-use Rattle.drivers.specs.Trace.{refused-pieces, run-text, text-in, printed-by}
+use Rattle.drivers.specs.Trace.{refused-pieces, input-tests, run-text, text-in, printed-by}
 use Rattle.drivers.specs.declared.trace.Run.{Run}
 use Rattle.drivers.specs.declared.trace.Opened.{Opened}
 use Rattle.drivers.specs.declared.trace.Opened.the-variants.{Going, Over}
@@ -45,8 +42,7 @@ job-text bytes places =
 unfoldable pub program-text : List ℕ → List ℕ
 program-text bytes =
     let f = job-fault bytes no-places 32768 32 1024 in
-    pick (ltb 65536 (length bytes)) (refused-text Room 65536)
-    (unless (f .0) refused-text (job-text bytes (f .1)))
+    unless (input-tests bytes ⨾ f .0) refused-text (job-text bytes (f .1))
 
 -- ---- the calls that print it: `open`, then, if a run goes, `Run::next` while there is more, over the fronts of the slices and scratch of zeros
 

@@ -2,14 +2,15 @@
 use Prim.Native.Nat.{ℕ, zero, suc, _-_}
 use mathlib.Core.Bool.{Bool, true, false}
 use mathlib.Core.List.{List, [], _∷_, _++_}
-use lib.Dec.{ltb}
+use lib.Dec.{leb, ltb}
 use lib.ListN.{length, take}
 use lib.Ieee.{Float}
 use Rattle.numbers.specs.Pick.{pick}
 use Rattle.numbers.specs.Bits.{bitsOf}
-use Rattle.numbers.specs.Refusal.{refusalNumber}
+use Rattle.numbers.specs.Refusal.{refusalNumber, _⨾_, unless, ask, ask-at}
 use Rattle.numbers.specs.declared.refusal.Refusal.{Refusal}
 use Rattle.numbers.specs.declared.refusal.Refusal.the-variants.{Room}
+use Rattle.numbers.specs.declared.refusal.Fault.{Fault}
 use Rattle.numbers.specs.declared.cut.CutChoice.{CutChoice}
 use Rattle.numbers.specs.declared.cut.CutChoice.the-variants.{Single, Parallel}
 use Rattle.numbers.specs.declared.cut.CutStatus.{CutStatus}
@@ -28,8 +29,6 @@ use Rattle.drivers.specs.declared.cutting_plane.Said.{Said}
 use Rattle.drivers.specs.declared.cutting_plane.Said.the-variants.{Feasible, Cut, Refused as NotStepped}
 use Rattle.drivers.specs.declared.cutting_plane.FeasAnswer.{FeasAnswer}
 use Rattle.drivers.specs.declared.cutting_plane.FeasAnswer.the-variants.{Ended, Refused as NotRun}
-use Rattle.drivers.specs.declared.cutting_plane.Checked.{Checked}
-use Rattle.drivers.specs.declared.cutting_plane.Checked.the-variants.{Right, Wrong}
 use Rattle.drivers.specs.declared.job.Job.{Job}
 use Rattle.drivers.specs.declared.job.JobAnswer.{JobAnswer}
 use Rattle.drivers.specs.declared.job.JobAnswer.the-variants.{Read, Refused as NotRead}
@@ -99,9 +98,13 @@ refused-pieces why place =
     (114 ∷ 101 ∷ 102 ∷ 117 ∷ 115 ∷ 101 ∷ 100 ∷ 32 ∷ [])  -- "refused "
     ∷ decimal (refusalNumber why) ∷ (32 ∷ []) ∷ decimal place ∷ (10 ∷ []) ∷ []
 
--- a text at the front of `out`, and its length; 11 where `out` has fewer than 128 bytes
+-- 11 where `out` has fewer than 128 bytes
+abbrev pub text-room : List ℕ → Fault
+text-room out = ask (leb 128 (length out)) Room
+
+-- a text at the front of `out`, and its length
 unfoldable pub printed : List ℕ → List ℕ → Text × List ℕ
-printed text out = pick (ltb (length out) 128) (Refused Room, out) (Bytes (length text), over out 0 text)
+printed text out = unless (text-room out) (λ why place. (Refused why, out)) (Bytes (length text), over out 0 text)
 
 abbrev pub refused-line-answer : Refusal → ℕ → List ℕ → Text × List ℕ
 refused-line-answer why place out = printed (joined (refused-pieces why place)) out
@@ -151,16 +154,14 @@ limit-printed run b grad out =
 abbrev pub not-printed : Run → EllBuffers → List Float → List ℕ → Refusal → Printed × EllBuffers × List Float × List ℕ
 not-printed run b grad out why = (record { run = run; more = false; text = Refused why }, b, grad, out)
 
--- `Run::next`: refusals 1 to 4, then 11, then a step, or the end where the limit has run out
-abbrev pub next-checked : Run → List Float → EllBuffers → List Float → List ℕ → Checked → Printed × EllBuffers × List Float × List ℕ
-next-checked run table b grad out (Wrong why) = not-printed run b grad out why
-next-checked run table b grad out Right =
-    pick (ltb (length out) 128) (not-printed run b grad out Room)
-    (pick (ltb (run .niter) (run .options .«max_iters»)) (step-printed run table b grad out)
-    (limit-printed run b grad out))
+-- `Run::next`: refusals 1 to 4, then 11; then a step, or the end where the limit has run out
+abbrev pub next-tests : Run → List Float → EllBuffers → List Float → List ℕ → Fault
+next-tests run table b grad out = check-space (run .rows) table (space-of run b grad) ⨾ text-room out
 
 unfoldable pub next-answer : Run → List Float → EllBuffers → List Float → List ℕ → Printed × EllBuffers × List Float × List ℕ
-next-answer run table b grad out = next-checked run table b grad out (check-space (run .rows) table (space-of run b grad))
+next-answer run table b grad out =
+    unless (next-tests run table b grad out) (λ why place. not-printed run b grad out why)
+    (pick (ltb (run .niter) (run .options .«max_iters»)) (step-printed run table b grad out) (limit-printed run b grad out))
 
 -- all that is printed by the steps k, k + 1, .. of which so many are left, and the lines of their cuts alone: the steps that feas-run takes
 unfoldable pub run-text : ℕ → List Float → Float → ℕ → ℕ → Space → List ℕ
@@ -208,12 +209,16 @@ abbrev pub opened-read : List ℕ → JobAnswer → Opened × List ℕ
 opened-read out (Read j) = opened-job j out
 opened-read out (NotRead why place) = opened-over (refused-line-answer why place out)
 
--- `open`: more than 65,536 bytes are refused before all else; then the job is read, and its run made
+-- more than 65,536 bytes are refused before all else
+abbrev pub input-tests : List ℕ → Fault
+input-tests bytes = ask-at 65536 (leb (length bytes) 65536) Room
+
+-- `open`: then the job is read, and its run made
 abbrev pub with-slices : List Float → List Float → List Float → Opened × List ℕ → Opened × List Float × List Float × List Float × List ℕ
 with-slices table xc mq r = (r .0, table, xc, mq, r .1)
 
 unfoldable pub open-answer : List ℕ → List Float → List Float → List Float → List ℕ → Opened × List Float × List Float × List Float × List ℕ
 open-answer bytes table xc mq out =
     let j = read-job-answer bytes table xc mq in
-    pick (ltb 65536 (length bytes)) (with-slices table xc mq (opened-over (refused-line-answer Room 65536 out)))
+    unless (input-tests bytes) (λ why place. with-slices table xc mq (opened-over (refused-line-answer why place out)))
     (with-slices (j .1) (j .2) (j .3) (opened-read out (j .0)))

@@ -3,6 +3,7 @@ use crate::answer::Answer;
 use numbers::arr::is_dimension;
 use numbers::cut::CutChoice;
 use numbers::cut::CutStatus;
+use numbers::refusal::Fault;
 use numbers::refusal::Refusal;
 use oracles::ell::Ell;
 use oracles::ell::Moved;
@@ -99,11 +100,6 @@ pub struct OptimRun {
     pub answer: OptimAnswer,
 }
 
-pub(crate) enum Checked {
-    Right,
-    Wrong(Refusal),
-}
-
 // Refusals 1 to 4 of a run, by the lengths of the slices.
 pub(crate) fn check(
     oracle: LowpassOracle,
@@ -114,22 +110,22 @@ pub(crate) fn check(
     xc: usize,
     grad: usize,
     grad_t: usize,
-) -> Checked
+) -> Fault
     ensures { λ r. ⌜ r ≡ checkOf oracle n rows table mq xc grad «grad_t» ⌝ }
 {
     if !is_dimension(n) {
-        return Checked::Wrong(Refusal::Dimension);
+        return Fault::At(Refusal::Dimension, 0);
     }
     if !(table_fits(n, rows, table, xc) & (mq == n * n) & (grad == n) & (grad_t == n)) {
-        return Checked::Wrong(Refusal::Length);
+        return Fault::At(Refusal::Length, 0);
     }
     if !oracle.bands_fit(rows) {
-        return Checked::Wrong(Refusal::Band);
+        return Fault::At(Refusal::Band, 0);
     }
     if !oracle.cursors_fit() {
-        return Checked::Wrong(Refusal::Cursor);
+        return Fault::At(Refusal::Cursor, 0);
     }
-    Checked::Right
+    Fault::Sound
 }
 
 // Copies the centre to the front of x_best, if it is to be kept and there is room.
@@ -303,7 +299,7 @@ pub fn cutting_plane_feas(
     ensures { λ r. ⌜ ((why : Refusal) → r .answer ≡ NotRun why → _≡_ {A = Space × List Float} (record { oracle = r .oracle; ell = r .ell; buffers = record { mq = now (mq .exit); xc = now (xc .exit); grad-t = now («grad_t» .exit) }; grad = now (grad .exit) }, now («x_best» .exit)) (record { oracle = oracle; ell = ell; buffers = record { mq = now (mq .entry); xc = now (xc .entry); grad-t = now («grad_t» .entry) }; grad = now (grad .entry) }, now («x_best» .entry))) ⌝ }
 {
     let n = ell.ndim;
-    let checked = check(
+    let fault = check(
         oracle,
         n,
         rows,
@@ -313,13 +309,13 @@ pub fn cutting_plane_feas(
         grad.len(),
         grad_t.len(),
     );
-    match checked {
-        Checked::Wrong(why) => FeasRun {
+    match fault {
+        Fault::At(why, _) => FeasRun {
             oracle: oracle,
             ell: ell,
             answer: FeasAnswer::Refused(why),
         },
-        Checked::Right => {
+        Fault::Sound => {
             if x_best.len() < n {
                 return FeasRun {
                     oracle: oracle,
@@ -501,7 +497,7 @@ pub fn cutting_plane_optim(
     ensures { λ r. ⌜ ((why : Refusal) → r .answer ≡ NotRunOptim why → optim-left (r .answer) (r .oracle) (r .ell) (r .gamma) (record { mq = now (mq .exit); xc = now (xc .exit); grad-t = now («grad_t» .exit) }) (now (grad .exit)) (now («x_best» .exit)) ≡ optim-left (r .answer) oracle ell gamma (record { mq = now (mq .entry); xc = now (xc .entry); grad-t = now («grad_t» .entry) }) (now (grad .entry)) (now («x_best» .entry))) ⌝ }
 {
     let n = ell.ndim;
-    let checked = check(
+    let fault = check(
         oracle,
         n,
         rows,
@@ -511,14 +507,14 @@ pub fn cutting_plane_optim(
         grad.len(),
         grad_t.len(),
     );
-    match checked {
-        Checked::Wrong(why) => OptimRun {
+    match fault {
+        Fault::At(why, _) => OptimRun {
             oracle: oracle,
             ell: ell,
             gamma: gamma,
             answer: OptimAnswer::Refused(why),
         },
-        Checked::Right => {
+        Fault::Sound => {
             if x_best.len() < n {
                 return OptimRun {
                     oracle: oracle,

@@ -1,6 +1,5 @@
 // The text of a run, as `filterrun` prints it: a line for each cut, then the answer; or one line that says why a job is refused.
 use crate::answer::Answer;
-use crate::cutting_plane::Checked;
 use crate::cutting_plane::FeasAnswer;
 use crate::cutting_plane::Options;
 use crate::cutting_plane::Said;
@@ -17,6 +16,7 @@ use crate::text::put_text;
 use numbers::bits::to_bits;
 use numbers::cut::CutChoice;
 use numbers::cut::CutStatus;
+use numbers::refusal::Fault;
 use numbers::refusal::Refusal;
 use oracles::ell::Ell;
 use oracles::ell::NewEll;
@@ -314,7 +314,7 @@ impl Run {
         let options = self.options;
         let n = ell.ndim;
         let rows = self.rows;
-        let checked = check(
+        let fault = check(
             oracle,
             n,
             rows,
@@ -324,9 +324,9 @@ impl Run {
             grad.len(),
             grad_t.len(),
         );
-        match checked {
-            Checked::Wrong(why) => self.refused(why),
-            Checked::Right => {
+        match fault {
+            Fault::At(why, _) => self.refused(why),
+            Fault::Sound => {
                 if out.len() < ROOM {
                     return self.refused(Refusal::Room);
                 }

@@ -1,13 +1,14 @@
 -- Vectors and matrices over flat lists (arr.rs), and what the public calls answer. Definitions only.
 use Prim.Native.Nat.{ℕ, zero, suc, _+_, _*_}
-use mathlib.Core.Bool.{Bool, not, _&&_}
+use mathlib.Core.Bool.{Bool, _&&_}
 use mathlib.Core.List.{List, [], _∷_, _++_}
 use lib.Dec.{leb, eqb}
 use lib.ListN.{length, take, drop, getD, set, replicate}
 use lib.Ieee.{Float, nan}
 use Rattle.numbers.specs.F64.{_⊕_, _⊗_, 0ᶠ, −0ᶠ, 1ᶠ}
-use Rattle.numbers.specs.Pick.{pick}
+use Rattle.numbers.specs.Refusal.{_⨾_, unless, ask}
 use Rattle.numbers.specs.declared.refusal.Refusal.the-variants.{Dimension, Length}
+use Rattle.numbers.specs.declared.refusal.Fault.{Fault}
 use Rattle.numbers.specs.declared.arr.Four.{Four}
 use Rattle.numbers.specs.declared.arr.Number.{Number}
 use Rattle.numbers.specs.declared.arr.Number.the-variants.{Value, Refused}
@@ -60,30 +61,45 @@ diagOf n v = setDiag n v n (replicate (n * n) 0ᶠ)
 
 -- ---- the public calls: refusal 1, then 2, and nothing written
 
--- What a call answers that tests the dimension n, and then its lengths, which are right where `fit` is true.
-unfoldable pub tested {ℓ} : {X : Type ℓ} → ℕ → Bool → X → X → X → X
-tested n fit one two done = pick (not (isDimension n)) one (pick (not fit) two done)
+-- refusal 1 by the dimension n, then 2 by the lengths, which are right where `fit` is true
+abbrev pub sized : ℕ → Bool → Fault
+sized n fit = ask (isDimension n) Dimension ⨾ ask fit Length
 
 -- `dot`: two vectors of n
+abbrev pub dot-tests : ℕ → List Float → List Float → Fault
+dot-tests n a b = sized n (eqb (length a) n && eqb (length b) n)
+
 abbrev pub dot-answer : ℕ → List Float → List Float → Number
-dot-answer n a b = tested n (eqb (length a) n && eqb (length b) n) (Refused Dimension) (Refused Length) (Value (dotOf a b))
+dot-answer n a b = unless (dot-tests n a b) (λ why place. Refused why) (Value (dotOf a b))
 
 -- A call that fills `out`: its answer, and `out` as it leaves it.
-abbrev pub fills : ℕ → Bool → List Float → List Float → Written × List Float
-fills n fit filled out = tested n fit (NotWritten Dimension, out) (NotWritten Length, out) (Done, filled)
+abbrev pub fills : Fault → List Float → List Float → Written × List Float
+fills tests filled out = unless tests (λ why place. (NotWritten why, out)) (Done, filled)
 
 -- `dot_mv_into`: an n by n matrix, a vector of n, and n numbers to fill
+abbrev pub dot-mv-into-tests : ℕ → List Float → List Float → List Float → Fault
+dot-mv-into-tests n mat x out = sized n (eqb (length mat) (n * n) && eqb (length x) n && eqb (length out) n)
+
 abbrev pub dot-mv-into-answer : ℕ → List Float → List Float → List Float → Written × List Float
-dot-mv-into-answer n mat x out = fills n (eqb (length mat) (n * n) && eqb (length x) n && eqb (length out) n) (mvOf n mat x) out
+dot-mv-into-answer n mat x out = fills (dot-mv-into-tests n mat x out) (mvOf n mat x) out
 
 -- `copy_from`: two vectors of n
+abbrev pub copy-from-tests : ℕ → List Float → List Float → Fault
+copy-from-tests n dst src = sized n (eqb (length dst) n && eqb (length src) n)
+
 abbrev pub copy-from-answer : ℕ → List Float → List Float → Written × List Float
-copy-from-answer n dst src = fills n (eqb (length dst) n && eqb (length src) n) src dst
+copy-from-answer n dst src = fills (copy-from-tests n dst src) src dst
 
 -- `eye`: an n by n matrix to fill, with ones on its diagonal
+abbrev pub eye-tests : ℕ → List Float → Fault
+eye-tests n out = sized n (eqb (length out) (n * n))
+
 abbrev pub eye-answer : ℕ → List Float → Written × List Float
-eye-answer n out = fills n (eqb (length out) (n * n)) (diagOf n (replicate n 1ᶠ)) out
+eye-answer n out = fills (eye-tests n out) (diagOf n (replicate n 1ᶠ)) out
 
 -- `from_diag`: a vector of n, and an n by n matrix to fill
+abbrev pub from-diag-tests : ℕ → List Float → List Float → Fault
+from-diag-tests n v out = sized n (eqb (length v) n && eqb (length out) (n * n))
+
 abbrev pub from-diag-answer : ℕ → List Float → List Float → Written × List Float
-from-diag-answer n v out = fills n (eqb (length v) n && eqb (length out) (n * n)) (diagOf n v) out
+from-diag-answer n v out = fills (from-diag-tests n v out) (diagOf n v) out

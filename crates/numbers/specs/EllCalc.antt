@@ -5,6 +5,7 @@ use lib.IntN.{pos}
 use lib.Ieee.{Float, binary64, lt, le, ofInt}
 use Rattle.numbers.specs.F64.{_⊕_, _⊗_, 0ᶠ}
 use Rattle.numbers.specs.Pick.{pick}
+use Rattle.numbers.specs.Refusal.{unless, ask}
 use Rattle.numbers.specs.Arr.{isDimension}
 use Rattle.numbers.specs.Sqrt.{sqrtOf}
 use Rattle.numbers.specs.Cut.{success, no-soln, no-effect, chosen}
@@ -12,6 +13,7 @@ use Rattle.numbers.specs.EllCalcCore.{core-new, core-parallel-bias-cut-f
 use Rattle.numbers.specs.declared.cut.Answer.{Answer}
 use Rattle.numbers.specs.declared.cut.CutChoice.{CutChoice}
 use Rattle.numbers.specs.declared.refusal.Refusal.the-variants.{Dimension}
+use Rattle.numbers.specs.declared.refusal.Fault.{Fault}
 use Rattle.numbers.specs.declared.ell_calc.EllCalc.{EllCalc}
 use Rattle.numbers.specs.declared.ell_calc.NewEllCalc.{NewEllCalc}
 use Rattle.numbers.specs.declared.ell_calc.NewEllCalc.the-variants.{Made, Refused}
@@ -21,8 +23,11 @@ unfoldable pub made : ℕ → EllCalc
 made n = record { «n_f» = ofInt binary64 (pos n); helper = core-new (ofInt binary64 (pos n)); «use_parallel_cut» = true }
 
 -- `EllCalc::new`: refusal 1 outside 2 to 32
+abbrev pub new-tests : ℕ → Fault
+new-tests n = ask (isDimension n) Dimension
+
 unfoldable pub new-answer : ℕ → NewEllCalc
-new-answer n = pick (not (isDimension n)) (Refused Dimension) (Made (made n))
+new-answer n = unless (new-tests n) (λ why place. Refused why) (Made (made n))
 
 -- one bound: nothing is left where tsq lies below its square
 unfoldable pub calc-bias-cut : EllCalc → Float → Float → Answer

@@ -7,9 +7,10 @@ use lib.ListN.{length}
 use lib.Ieee.{Float}
 use Rattle.numbers.specs.F64.{_⊖_, _⊗_, _⊘_, 0ᶠ}
 use Rattle.numbers.specs.Pick.{pick}
-use Rattle.numbers.specs.Arr.{isDimension, dotOf, mvOf, tested}
-use Rattle.numbers.specs.EllCalc.{made}
-use Rattle.numbers.specs.declared.refusal.Refusal.the-variants.{Dimension, Length}
+use Rattle.numbers.specs.Refusal.{unless}
+use Rattle.numbers.specs.Arr.{dotOf, mvOf, sized}
+use Rattle.numbers.specs.EllCalc.{made, new-tests}
+use Rattle.numbers.specs.declared.refusal.Fault.{Fault}
 use Rattle.numbers.specs.declared.cut.CutChoice.{CutChoice}
 use Rattle.numbers.specs.declared.cut.CutStatus.{CutStatus}
 use Rattle.numbers.specs.declared.cut.CutStatus.the-variants.{NoEffect}
@@ -27,7 +28,7 @@ use Rattle.oracles.specs.declared.ell.Moved.{Moved}
 
 -- `new_with_matrix`: the state beside the matrix and the centre; refusal 1
 unfoldable pub new-ell-answer : ℕ → Float → NewEll
-new-ell-answer n kappa = pick (not (isDimension n)) (NotMade Dimension) (Made (record { ndim = n; kappa = kappa; helper = made n; tsq = 0ᶠ }))
+new-ell-answer n kappa = unless (new-tests n) (λ why place. NotMade why) (Made (record { ndim = n; kappa = kappa; helper = made n; tsq = 0ᶠ }))
 
 -- the slices that an update is lent to write
 pub record EllBuffers : Type 0 where
@@ -74,7 +75,9 @@ abbrev pub ell-fits : ℕ → List Float → EllBuffers → Bool
 ell-fits n grad b = eqb (length grad) n && eqb (length (b .mq)) (n * n) && eqb (length (b .xc)) n && eqb (length (b .grad-t)) n
 
 -- `update_core`: refusals 1 and 2
+abbrev pub ell-tests : ℕ → List Float → EllBuffers → Fault
+ell-tests n grad b = sized n (ell-fits n grad b)
+
 abbrev pub ell-update-answer : Ell → CutStrategy → List Float → CutChoice → EllBuffers → EllUpdate × EllBuffers
 ell-update-answer e strategy grad beta b =
-    tested (e .ndim) (ell-fits (e .ndim) grad b) (record { ell = e; answer = Refused Dimension }, b) (record { ell = e; answer = Refused Length }, b)
-    (ell-updateOf e strategy grad beta b)
+    unless (ell-tests (e .ndim) grad b) (λ why place. (record { ell = e; answer = Refused why }, b)) (ell-updateOf e strategy grad beta b)

@@ -8,9 +8,10 @@ use lib.ListN.{length}
 use lib.Ieee.{Float}
 use Rattle.numbers.specs.F64.{_⊕_, _⊖_, _⊗_, _⊘_, 0ᶠ, 1ᶠ}
 use Rattle.numbers.specs.Pick.{pick}
-use Rattle.numbers.specs.Arr.{isDimension, tab, tested}
-use Rattle.numbers.specs.EllCalc.{made}
-use Rattle.numbers.specs.declared.refusal.Refusal.the-variants.{Dimension, Length}
+use Rattle.numbers.specs.Refusal.{unless}
+use Rattle.numbers.specs.Arr.{tab, sized}
+use Rattle.numbers.specs.EllCalc.{made, new-tests}
+use Rattle.numbers.specs.declared.refusal.Fault.{Fault}
 use Rattle.numbers.specs.declared.cut.CutChoice.{CutChoice}
 use Rattle.numbers.specs.declared.cut.CutStatus.{CutStatus}
 use Rattle.numbers.specs.declared.cut.CutStatus.the-variants.{NoEffect}
@@ -27,7 +28,7 @@ use Rattle.oracles.specs.declared.ell_stable.EllStableUpdate.{EllStableU
 
 -- `new_with_matrix`: the state beside the matrix and the centre; refusal 1
 unfoldable pub new-ell-stable-answer : ℕ → Float → NewEllStable
-new-ell-stable-answer n kappa = pick (not (isDimension n)) (NotMade Dimension) (Made (record { ndim = n; kappa = kappa; helper = made n; tsq = 0ᶠ }))
+new-ell-stable-answer n kappa = unless (new-tests n) (λ why place. NotMade why) (Made (record { ndim = n; kappa = kappa; helper = made n; tsq = 0ᶠ }))
 
 -- the slices that an update is lent to write
 pub record StableBuffers : Type 0 where
@@ -147,7 +148,9 @@ stable-fits n grad b =
     && eqb (length (b .inv-ml-g)) n && eqb (length (b .inv-md-inv-ml-g)) n && eqb (length (b .gg-t)) n && eqb (length (b .g-t)) n
 
 -- `update_core`: refusals 1 and 2
+abbrev pub stable-tests : ℕ → List Float → StableBuffers → Fault
+stable-tests n grad b = sized n (stable-fits n grad b)
+
 abbrev pub stable-update-answer : EllStable → CutStrategy → List Float → CutChoice → StableBuffers → EllStableUpdate × StableBuffers
 stable-update-answer e strategy grad beta b =
-    tested (e .ndim) (stable-fits (e .ndim) grad b) (record { ell = e; answer = Refused Dimension }, b) (record { ell = e; answer = Refused Length }, b)
-    (stable-updateOf e strategy grad beta b)
+    unless (stable-tests (e .ndim) grad b) (λ why place. (record { ell = e; answer = Refused why }, b)) (stable-updateOf e strategy grad beta b)

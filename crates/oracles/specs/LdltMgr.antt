@@ -1,14 +1,15 @@
 -- The factorization A = L D Lᵀ with its witness (ldlt_mgr.rs), in the Rust's order of operations. Definitions only.
 use Prim.Native.Nat.{ℕ, zero, suc, _+_, _-_, _*_}
-use mathlib.Core.Bool.{Bool, not, _&&_}
+use mathlib.Core.Bool.{Bool, _&&_}
 use mathlib.Core.List.{List, [], _∷_, _++_}
 use lib.Dec.{leb, ltb, eqb}
 use lib.ListN.{length, take, drop}
 use lib.Ieee.{Float, le, neg}
 use Rattle.numbers.specs.F64.{_⊕_, _⊖_, _⊗_, _⊘_, 0ᶠ, 1ᶠ, 2ᶠ}
 use Rattle.numbers.specs.Pick.{pick}
-use Rattle.numbers.specs.declared.refusal.Refusal.{Refusal}
+use Rattle.numbers.specs.Refusal.{_⨾_, unless, ask}
 use Rattle.numbers.specs.declared.refusal.Refusal.the-variants.{Dimension, Length, Position}
+use Rattle.numbers.specs.declared.refusal.Fault.{Fault}
 use Rattle.numbers.specs.declared.arr.Number.{Number}
 use Rattle.numbers.specs.declared.arr.Number.the-variants.{Value, Refused as NoNumber}
 use Rattle.oracles.specs.Matrix.{entry, at, grid, total}
@@ -76,14 +77,15 @@ unfoldable pub factorOf : (ℕ → ℕ → Float) → ℕ → List Float → Fac
 factorOf A m storage = let w = rowsOf A m storage in (pick (eqb (w .0) 0) Definite (Stopped (posOf (w .0))), w .1)
 
 -- refusals 1 and 2 of a call with matrices of order m, whose lengths are right where `fit` is true
-unfoldable pub order-tested {ℓ} : {X : Type ℓ} → ℕ → Bool → X → X → X → X
-order-tested m fit one two done = pick (not (isOrder m)) one (pick (not fit) two done)
+abbrev pub ordered : ℕ → Bool → Fault
+ordered m fit = ask (isOrder m) Dimension ⨾ ask fit Length
 
 -- `factor`
+abbrev pub factor-tests : ℕ → List Float → List Float → Fault
+factor-tests m mat storage = ordered m (eqb (length mat) (m * m) && eqb (length storage) (m * m))
+
 abbrev pub factor-answer : ℕ → List Float → List Float → Factored × List Float
-factor-answer m mat storage =
-    order-tested m (eqb (length mat) (m * m) && eqb (length storage) (m * m)) (Refused Dimension, storage) (Refused Length, storage)
-    (factorOf (get-elem m mat [] []) m storage)
+factor-answer m mat storage = unless (factor-tests m mat storage) (λ why place. (Refused why, storage)) (factorOf (get-elem m mat [] []) m storage)
 
 -- ---- the witness
 
@@ -101,11 +103,13 @@ unfoldable pub witnessOf : ℕ → Pos → List Float → List Float → List Fl
 witnessOf m pos storage wit = take (pos .start) wit ++ witness-tail m storage (pos .end) (pos .end - pos .start) ++ drop (pos .end) wit
 
 -- `witness`: refusal 5 unless start < end ≤ m; the negated last pivot, and the witness
+abbrev pub witness-tests : ℕ → Pos → List Float → List Float → Fault
+witness-tests m pos storage wit = ordered m (eqb (length storage) (m * m) && eqb (length wit) m) ⨾ ask (ltb (pos .start) (pos .end) && leb (pos .end) m) Position
+
 abbrev pub witness-answer : ℕ → Pos → List Float → List Float → Number × List Float
 witness-answer m pos storage wit =
-    order-tested m (eqb (length storage) (m * m) && eqb (length wit) m) (NoNumber Dimension, wit) (NoNumber Length, wit)
-    (pick (not (ltb (pos .start) (pos .end) && leb (pos .end) m)) (NoNumber Position, wit)
-    (Value (neg (at m storage (pos .end - 1) (pos .end - 1))), witnessOf m pos storage wit))
+    unless (witness-tests m pos storage wit) (λ why place. (NoNumber why, wit))
+    (Value (neg (at m storage (pos .end - 1) (pos .end - 1))), witnessOf m pos storage wit)
 
 -- ---- the quadratic form
 
@@ -120,8 +124,8 @@ unfoldable pub quadOf : ℕ → Pos → List Float → List Float → Float
 quadOf m pos wit mat = total _⊕_ 0ᶠ (λ k. quad-term m wit mat (pos .end) (pos .start + k)) (pos .end - pos .start)
 
 -- `sym_quad`: refusal 5 unless start ≤ end ≤ m
+abbrev pub sym-quad-tests : ℕ → Pos → List Float → List Float → Fault
+sym-quad-tests m pos wit mat = ordered m (eqb (length wit) m && eqb (length mat) (m * m)) ⨾ ask (leb (pos .start) (pos .end) && leb (pos .end) m) Position
+
 abbrev pub sym-quad-answer : ℕ → Pos → List Float → List Float → Number
-sym-quad-answer m pos wit mat =
-    order-tested m (eqb (length wit) m && eqb (length mat) (m * m)) (NoNumber Dimension) (NoNumber Length)
-    (pick (not (leb (pos .start) (pos .end) && leb (pos .end) m)) (NoNumber Position)
-    (Value (quadOf m pos wit mat)))
+sym-quad-answer m pos wit mat = unless (sym-quad-tests m pos wit mat) (λ why place. NoNumber why) (Value (quadOf m pos wit mat))

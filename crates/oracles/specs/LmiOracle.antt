@@ -1,14 +1,16 @@
 -- The LMI assessment: is mat_b − Σ xc[k] mat_f[k] positive definite (lmi_oracle.rs, lmi_oracle_base.rs)? Definitions only.
 use Prim.Native.Nat.{ℕ, _-_, _*_}
-use mathlib.Core.Bool.{Bool, not, _&&_}
+use mathlib.Core.Bool.{Bool, _&&_}
 use mathlib.Core.List.{List}
 use lib.Dec.{eqb}
 use lib.ListN.{length, take, drop}
 use lib.Ieee.{Float, neg}
 use Rattle.numbers.specs.F64.{_⊗_, 1ᶠ}
 use Rattle.numbers.specs.Pick.{pick}
-use Rattle.numbers.specs.Arr.{isDimension, tab}
-use Rattle.numbers.specs.declared.refusal.Refusal.the-variants.{Dimension, Length}
+use Rattle.numbers.specs.Refusal.{_⨾_, unless, ask}
+use Rattle.numbers.specs.Arr.{sized, tab}
+use Rattle.numbers.specs.declared.refusal.Refusal.the-variants.{Dimension}
+use Rattle.numbers.specs.declared.refusal.Fault.{Fault}
 use Rattle.numbers.specs.declared.cut.CutChoice.the-variants.{Single}
 use Rattle.oracles.specs.Matrix.{at}
 use Rattle.oracles.specs.LdltMgr.{isOrder, get-elem, rowsOf, posOf, witnessOf, quadOf}
@@ -46,9 +48,9 @@ lmi-fits m n mat-b mat-f xc b =
     eqb (length mat-b) (m * m) && eqb (length mat-f) (n * (m * m)) && eqb (length xc) n
     && eqb (length (b .storage)) (m * m) && eqb (length (b .wit)) m && eqb (length (b .grad)) n
 
--- `assess_feas`: refusals 1 (m or n) and 2
+-- `assess_feas`: refusals 1 (m, then n) and 2
+abbrev pub lmi-tests : ℕ → ℕ → List Float → List Float → List Float → LmiBuffers → Fault
+lmi-tests m n mat-b mat-f xc b = ask (isOrder m) Dimension ⨾ sized n (lmi-fits m n mat-b mat-f xc b)
+
 unfoldable pub lmi-answer : ℕ → ℕ → List Float → List Float → List Float → LmiBuffers → LmiVerdict × LmiBuffers
-lmi-answer m n mat-b mat-f xc b =
-    pick (not (isOrder m && isDimension n)) (Refused Dimension, b)
-    (pick (not (lmi-fits m n mat-b mat-f xc b)) (Refused Length, b)
-    (lmi-assessOf m n mat-b mat-f xc b))
+lmi-answer m n mat-b mat-f xc b = unless (lmi-tests m n mat-b mat-f xc b) (λ why place. (Refused why, b)) (lmi-assessOf m n mat-b mat-f xc b)

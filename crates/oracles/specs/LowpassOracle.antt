@@ -1,7 +1,7 @@
 -- The lowpass oracle (lowpass_oracle.rs): the assessment of a point, in the Rust's order. Definitions only.
 use Prim.Native.Nat.{ℕ, _≤_}
 use mathlib.Core.Path.{_≡_}
-use mathlib.Core.Bool.{Bool, true, false, not, _&&_}
+use mathlib.Core.Bool.{Bool, true, false, _&&_}
 use mathlib.Core.List.{List}
 use lib.Dec.{eqb}
 use lib.ListN.{length, getD, set, replicate}
@@ -10,9 +10,11 @@ use lib.Signed.{leZ, ltZ}
 use lib.Ieee.{Float, nan, lt, neg, binary64, ofBits}
 use Rattle.numbers.specs.F64.{0ᶠ}
 use Rattle.numbers.specs.Pick.{pick}
-use Rattle.numbers.specs.Arr.{rowOf, tested}
+use Rattle.numbers.specs.Refusal.{_⨾_, unless, ask}
+use Rattle.numbers.specs.Arr.{rowOf, sized}
 use Rattle.numbers.specs.declared.refusal.Refusal.{Refusal}
-use Rattle.numbers.specs.declared.refusal.Refusal.the-variants.{Dimension, Length, Band, Cursor, NoStopValue}
+use Rattle.numbers.specs.declared.refusal.Refusal.the-variants.{Band, Cursor, NoStopValue}
+use Rattle.numbers.specs.declared.refusal.Fault.{Fault}
 use Rattle.numbers.specs.declared.cut.CutChoice.the-variants.{Single, Parallel}
 use Rattle.oracles.specs.RoundRobin.{isAt, eqZ, moved}
 use Rattle.oracles.specs.Scan.{−∞, none, isRows, table-fits, scanOf, violated, band-beta, band-gradient}
@@ -156,13 +158,16 @@ cursors-fit o = isAt (o .rr1) && isAt (o .rr2) && isAt (o .rr3)
 abbrev pub refusedOf : LowpassOracle → Refusal → Assessed
 refusedOf o why = record { oracle = o; verdict = Refused why }
 
--- `assess_feas`: refusals 1 to 4
+-- refusals 1 to 4 of a call with an oracle, whose lengths are right where `fit` is true
+abbrev pub oracle-tests : LowpassOracle → ℕ → ℕ → Bool → Fault
+oracle-tests o n rows fit = sized n fit ⨾ ask (bands-fit o rows) Band ⨾ ask (cursors-fit o) Cursor
+
+-- `assess_feas`
+abbrev pub assess-tests : LowpassOracle → ℕ → ℕ → List Float → List Float → List Float → Fault
+assess-tests o n rows table x grad = oracle-tests o n rows (table-fits n rows table x && eqb (length grad) n)
+
 unfoldable pub assess-feas-answer : LowpassOracle → ℕ → ℕ → List Float → List Float → List Float → Assessed × List Float
-assess-feas-answer o n rows table x grad =
-    tested n (table-fits n rows table x && eqb (length grad) n) (refusedOf o Dimension, grad) (refusedOf o Length, grad)
-    (pick (not (bands-fit o rows)) (refusedOf o Band, grad)
-    (pick (not (cursors-fit o)) (refusedOf o Cursor, grad)
-    (assessOf o n table x grad)))
+assess-feas-answer o n rows table x grad = unless (assess-tests o n rows table x grad) (λ why place. (refusedOf o why, grad)) (assessOf o n table x grad)
 
 -- the oracle with the offered sp_sq
 abbrev pub offered : LowpassOracle → Float → LowpassOracle

@@ -1,12 +1,14 @@
 -- The cursor (round_robin.rs) and document 01's legal cursors. Definitions only.
 use Prim.Native.Nat.{ℕ, _≤_}
 use mathlib.Core.Path.{_≡_}
-use mathlib.Core.Bool.{Bool, true, false, not, _&&_}
+use mathlib.Core.Bool.{Bool, true, false, _&&_}
 use lib.Dec.{eqb}
 use lib.IntN.{ℤ, pos, negsuc, predℤ, _+ℤ_, _-ℤ_}
 use lib.Signed.{leZ, ltZ}
 use Rattle.numbers.specs.Pick.{pick}
+use Rattle.numbers.specs.Refusal.{_⨾_, unless, ask}
 use Rattle.numbers.specs.declared.refusal.Refusal.the-variants.{Band, Cursor}
+use Rattle.numbers.specs.declared.refusal.Fault.{Fault}
 use Rattle.oracles.specs.declared.round_robin.RoundRobin.{RoundRobin}
 use Rattle.oracles.specs.declared.round_robin.CursorAnswer.{CursorAnswer}
 use Rattle.oracles.specs.declared.round_robin.CursorAnswer.the-variants.{At, Refused}
@@ -39,12 +41,15 @@ abbrev pub fresh : ℤ → ℤ → RoundRobin
 fresh lo hi = record { cur = lo -ℤ pos 1; lo = lo; hi = hi }
 
 -- `new_range`: refusal 3 unless lo and hi are a band
+abbrev pub new-range-tests : ℤ → ℤ → Fault
+new-range-tests lo hi = ask (isBand lo hi) Band
+
 unfoldable pub new-range-answer : ℤ → ℤ → CursorAnswer
-new-range-answer lo hi = pick (not (isBand lo hi)) (Refused Band) (At (fresh lo hi))
+new-range-answer lo hi = unless (new-range-tests lo hi) (λ why place. Refused why) (At (fresh lo hi))
 
 -- `advance`: refusal 3 also for an empty band, then 4
+abbrev pub advance-tests : RoundRobin → Fault
+advance-tests c = ask (isBand (c .lo) (c .hi) && ltZ (c .lo) (c .hi)) Band ⨾ ask (isAt c) Cursor
+
 unfoldable pub advance-answer : RoundRobin → CursorAnswer
-advance-answer c =
-    pick (not (isBand (c .lo) (c .hi) && ltZ (c .lo) (c .hi))) (Refused Band)
-    (pick (not (isAt c)) (Refused Cursor)
-    (At (advanced c)))
+advance-answer c = unless (advance-tests c) (λ why place. Refused why) (At (advanced c))

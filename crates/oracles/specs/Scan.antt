@@ -1,7 +1,7 @@
 -- A scan of a band of rows (`scan_band` of lowpass_oracle.rs), in the Rust's order. Definitions only.
 use Prim.Native.Nat.{ℕ, zero, suc, _≤_, _<_, _*_}
 use mathlib.Core.Path.{_≡_}
-use mathlib.Core.Bool.{Bool, true, false, not, _&&_}
+use mathlib.Core.Bool.{Bool, true, false, _&&_}
 use mathlib.Core.List.{List, map}
 use lib.Dec.{leb, eqb}
 use lib.ListN.{length}
@@ -10,8 +10,10 @@ use lib.Signed.{leZ}
 use lib.Ieee.{Float, inf, lt, neg}
 use Rattle.numbers.specs.F64.{_⊖_}
 use Rattle.numbers.specs.Pick.{pick}
-use Rattle.numbers.specs.Arr.{isDimension, dotOf, rowOf, tested}
-use Rattle.numbers.specs.declared.refusal.Refusal.the-variants.{Dimension, Length, Band, Cursor}
+use Rattle.numbers.specs.Refusal.{_⨾_, unless, ask}
+use Rattle.numbers.specs.Arr.{sized, dotOf, rowOf}
+use Rattle.numbers.specs.declared.refusal.Refusal.the-variants.{Band, Cursor}
+use Rattle.numbers.specs.declared.refusal.Fault.{Fault}
 use Rattle.numbers.specs.declared.cut.CutChoice.{CutChoice}
 use Rattle.numbers.specs.declared.cut.CutChoice.the-variants.{Single, Parallel}
 use Rattle.oracles.specs.RoundRobin.{isBand, isAt, moved, advanced}
@@ -71,13 +73,13 @@ abbrev pub band-fits : ℕ → ℤ → ℤ → Bool
 band-fits rows lo hi = isRows rows && (isBand lo hi && leZ hi (pos rows))
 
 -- `scan_band`: refusals 1, 2, 3 (row count, band, band within the rows) and 4; the answer, and the cursor as it is left
+abbrev pub scan-band-tests : ℕ → ℕ → List Float → List Float → RoundRobin → Fault
+scan-band-tests n rows table x c = sized n (table-fits n rows table x) ⨾ ask (band-fits rows (c .lo) (c .hi)) Band ⨾ ask (isAt c) Cursor
+
 unfoldable pub scan-band-answer : ℕ → ℕ → List Float → List Float → RoundRobin → Float → Upper → ScanAnswer × RoundRobin
 scan-band-answer n rows table x c lower upper =
     let s = scanOf n table x c lower upper in
-    tested n (table-fits n rows table x) (NotScanned Dimension, c) (NotScanned Length, c)
-    (pick (not (band-fits rows (c .lo) (c .hi))) (NotScanned Band, c)
-    (pick (not (isAt c)) (NotScanned Cursor, c)
-    (Scanned s, moved c (s .last))))
+    unless (scan-band-tests n rows table x c) (λ why place. (NotScanned why, c)) (Scanned s, moved c (s .last))
 
 -- ---- what a violation becomes
 

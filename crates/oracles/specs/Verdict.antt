@@ -5,16 +5,15 @@ use mathlib.Core.Bool.{Bool, true, false, not, _&&_, _||_}
 use mathlib.Core.List.{List}
 use mathlib.Core.Logic.{_⊎_}
 use lib.Dec.{leb, ltb, eqb}
-use lib.ListN.{length, getD}
+use lib.ListN.{getD}
 use lib.IntN.{ℤ, pos, natAbs}
 use lib.Ieee.{Float, nan, lt, isNan}
 use Rattle.numbers.specs.F64.{0ᶠ}
 use Rattle.numbers.specs.Pick.{pick, some}
-use Rattle.numbers.specs.Arr.{isDimension}
-use Rattle.numbers.specs.Refusal.{refusalNumber}
+use Rattle.numbers.specs.Refusal.{refusalNumber, is-fault}
 use Rattle.oracles.specs.RoundRobin.{eqZ}
-use Rattle.oracles.specs.Scan.{−∞, none, valueOf, table-fits}
-use Rattle.oracles.specs.LowpassOracle.{bands-fit, cursors-fit, offered}
+use Rattle.oracles.specs.Scan.{−∞, none, valueOf}
+use Rattle.oracles.specs.LowpassOracle.{assess-tests, offered}
 use Rattle.oracles.specs.declared.lowpass_oracle.LowpassOracle.{LowpassOracle}
 use Rattle.oracles.specs.declared.lowpass_oracle.Group.the-variants.{Pass, Stop, Middle, Sign}
 use Rattle.oracles.specs.declared.lowpass_oracle.Verdict.{Verdict}
@@ -107,7 +106,7 @@ asked o sp n rows table x = record { n = n; rows = rows; limits = limits (offere
 
 -- nothing is refused by 1 to 4
 abbrev pub is-accepted : LowpassOracle → ℕ → ℕ → List Float → List Float → List Float → Bool
-is-accepted o n rows table x grad = isDimension n && (table-fits n rows table x && eqb (length grad) n) && bands-fit o rows && cursors-fit o
+is-accepted o n rows table x grad = not (is-fault (assess-tests o n rows table x grad))
 
 -- the verdict of an answer, without row and betas
 abbrev pub judgement : Verdict → Judgement

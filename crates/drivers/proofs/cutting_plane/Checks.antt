@@ -1,37 +1,36 @@
 -- The tests of a run, one after the other, against checkOf. Assumes nothing.
-use mathlib.Core.Path.{_≡_, refl, ap, _∙_}
-use mathlib.Core.Bool.{Bool, true, false, not, _&&_}
-use Prim.Native.Nat.{ℕ, _*_}
-use lib.Dec.{eqb}
+use mathlib.Core.Path.{_≡_}
+use mathlib.Core.Bool.{Bool, true, false}
+use Prim.Native.Nat.{ℕ}
 use Rattle.numbers.specs.Arr.{isDimension}
-use Rattle.numbers.specs.laws.Arr.{wrong-dimension, wrong-length, accepted}
+use Rattle.numbers.specs.laws.Refusal.{failed, held, at-first, at-next}
 use Rattle.numbers.specs.declared.refusal.Refusal.the-variants.{Dimension, Length, Band, Cursor}
-use Rattle.numbers.specs.laws.Pick.{hit, skip}
+use Rattle.numbers.specs.declared.refusal.Fault.the-variants.{Sound, At}
+use Rattle.oracles.specs.laws.Assess.{fits-oracle}
 use Rattle.oracles.specs.LowpassOracle.{bands-fit, cursors-fit}
 use Rattle.oracles.specs.declared.lowpass_oracle.LowpassOracle.{LowpassOracle}
-use Rattle.drivers.specs.CuttingPlane.{checkOf}
-use Rattle.drivers.specs.declared.cutting_plane.Checked.the-variants.{Right, Wrong}
+use Rattle.drivers.specs.CuttingPlane.{run-fits, checkOf}
 
 module _ (o : LowpassOracle) (n rows table mq xc grad grad-t : ℕ) where
-  abbrev pub fits : Bool
-  fits = eqb table (rows * n) && eqb xc n && eqb mq (n * n) && eqb grad n && eqb grad-t n
+  abbrev fits : Bool
+  fits = run-fits n rows table mq xc grad grad-t
 
-  pub no-dimension : isDimension n ≡ false → Wrong Dimension ≡ checkOf o n rows table mq xc grad grad-t
+  pub no-dimension : isDimension n ≡ false → At Dimension 0 ≡ checkOf o n rows table mq xc grad grad-t
   unfolding checkOf
-  no-dimension d = wrong-dimension n fits _ _ _ d
+  no-dimension d = at-first _ (at-first _ (failed d))
 
-  pub no-length : isDimension n ≡ true → fits ≡ false → Wrong Length ≡ checkOf o n rows table mq xc grad grad-t
+  pub no-length : isDimension n ≡ true → fits ≡ false → At Length 0 ≡ checkOf o n rows table mq xc grad grad-t
   unfolding checkOf
-  no-length d f = wrong-length n fits _ _ _ d f
+  no-length d f = at-first _ (at-next (held _ _ d) (failed f))
 
-  pub no-band : isDimension n ≡ true → fits ≡ true → bands-fit o rows ≡ false → Wrong Band ≡ checkOf o n rows table mq xc grad grad-t
+  pub no-band : isDimension n ≡ true → fits ≡ true → bands-fit o rows ≡ false → At Band 0 ≡ checkOf o n rows table mq xc grad grad-t
   unfolding checkOf
-  no-band d f b = hit _ _ _ _ (ap not b) refl ∙ accepted n fits _ _ _ d f
+  no-band d f b = at-next (at-next (held _ _ d) (held _ _ f)) (at-first _ (failed b))
 
-  pub no-cursor : isDimension n ≡ true → fits ≡ true → bands-fit o rows ≡ true → cursors-fit o ≡ false → Wrong Cursor ≡ checkOf o n rows table mq xc grad grad-t
+  pub no-cursor : isDimension n ≡ true → fits ≡ true → bands-fit o rows ≡ true → cursors-fit o ≡ false → At Cursor 0 ≡ checkOf o n rows table mq xc grad grad-t
   unfolding checkOf
-  no-cursor d f b k = skip _ _ _ _ (ap not b) (hit _ _ _ _ (ap not k) refl) ∙ accepted n fits _ _ _ d f
+  no-cursor d f b k = at-next (at-next (held _ _ d) (held _ _ f)) (at-next (held _ _ b) (failed k))
 
-  pub all-right : isDimension n ≡ true → fits ≡ true → bands-fit o rows ≡ true → cursors-fit o ≡ true → Right ≡ checkOf o n rows table mq xc grad grad-t
+  pub all-right : isDimension n ≡ true → fits ≡ true → bands-fit o rows ≡ true → cursors-fit o ≡ true → Sound ≡ checkOf o n rows table mq xc grad grad-t
   unfolding checkOf
-  all-right d f b k = skip _ _ _ _ (ap not b) (skip _ _ _ _ (ap not k) refl) ∙ accepted n fits _ _ _ d f
+  all-right d f b k = fits-oracle o n rows fits (record { dimension = d; long = f; bands = b; cursors = k })

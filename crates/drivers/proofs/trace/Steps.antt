@@ -4,24 +4,24 @@ use mathlib.Core.Path.{_≡_, ap, _∙_}
 use mathlib.Core.Bool.{Bool, false}
 use mathlib.Core.List.{List, [], _++_}
 use native.Mathlib.Omega.{arith}
-use borrow.Author.Tests.{lt-ltb, le-ltb}
+use borrow.Author.Tests.{lt-ltb, le-ltb, le-leb, lt-leb}
 use lib.Dec.{ltb}
 use lib.ListN.{length}
 use lib.Ieee.{Float}
 use Rattle.numbers.specs.Pick.{pick}
 use Rattle.numbers.specs.declared.refusal.Refusal.{Refusal}
 use Rattle.numbers.specs.declared.refusal.Refusal.the-variants.{Room}
+use Rattle.numbers.specs.declared.refusal.Fault.the-variants.{Sound, At}
+use Rattle.numbers.specs.laws.Refusal.{failed, held, at-first, at-next, refuses, accepts}
 use Rattle.numbers.specs.laws.Pick.{hit, skip}
 use Rattle.oracles.specs.Ell.{EllBuffers}
 use Rattle.drivers.specs.Text.{put-all}
 use Rattle.drivers.specs.laws.Text.{put-front}
 use Rattle.drivers.specs.CuttingPlane.{Space, check-space, feas-step, goes-on, feas-ended}
-use Rattle.drivers.specs.Trace.{said-pieces, last-pieces, ended-pieces, space-of, run-at, step-printed, limit-printed, not-printed, next-checked, next-answer}
+use Rattle.drivers.specs.Trace.{said-pieces, last-pieces, ended-pieces, space-of, run-at, step-printed, limit-printed, not-printed, next-tests, next-answer}
 use Rattle.drivers.specs.laws.Trace.{last-most, step-pieces}
 use Rattle.drivers.specs.declared.answer.Answer.{Answer}
 use Rattle.drivers.specs.declared.cutting_plane.Said.{Said}
-use Rattle.drivers.specs.declared.cutting_plane.Checked.{Checked}
-use Rattle.drivers.specs.declared.cutting_plane.Checked.the-variants.{Right, Wrong}
 use Rattle.drivers.specs.declared.trace.Run.{Run}
 use Rattle.drivers.specs.declared.trace.Text.the-variants.{Bytes, Refused}
 use Rattle.drivers.specs.declared.trace.Printed.{Printed}
@@ -39,27 +39,25 @@ module _ (run : Run) (table : List Float) (b : EllBuffers) (grad : List Float) (
       let p = g ∙ ap (run-at run s) n in
       rw (← e, ← m) (λ i. (record { run = p i; more = more; text = Bytes (w i .0) }, s .buffers, s .grad, w i .1))
 
-  -- `next`, by what the check says
-  module _ (checked : Checked) (e : checked ≡ check-space (run .rows) table (space-of run b grad)) where
-    by-check : (p : Printed × EllBuffers × List Float × List ℕ) → p ≡ next-checked run table b grad out checked → p ≡ next-answer run table b grad out
-    unfolding next-answer
-    by-check p f = f ∙ ap (next-checked run table b grad out) e
-
   shown-refused : (why : Refusal) (q : Printed) → q ≡ record { run = run; more = false; text = Refused why } → (q, b, grad, out) ≡ not-printed run b grad out why
   shown-refused why q e = ap (λ (p : Printed). (p, b, grad, out)) e
 
-  pub next-wrong : (why : Refusal) (q : Printed) → Wrong why ≡ check-space (run .rows) table (space-of run b grad)
+  -- `next`, by what the check says
+  pub next-wrong : (why : Refusal) (place : ℕ) (q : Printed) → At why place ≡ check-space (run .rows) table (space-of run b grad)
       → q ≡ record { run = run; more = false; text = Refused why } → (q, b, grad, out) ≡ next-answer run table b grad out
-  next-wrong why q e f = by-check (Wrong why) e _ (shown-refused why q f)
+  unfolding next-answer
+  next-wrong why place q e f = refuses _ _ (next-tests run table b grad out) (at-first _ e) (shown-refused why q f)
 
-  module _ (e : Right ≡ check-space (run .rows) table (space-of run b grad)) where
+  module _ (e : Sound ≡ check-space (run .rows) table (space-of run b grad)) where
     pub next-room : (q : Printed) → length out < 128 → q ≡ record { run = run; more = false; text = Refused Room } → (q, b, grad, out) ≡ next-answer run table b grad out
-    next-room q h f = by-check Right e _ (hit _ _ _ _ (lt-ltb (length out) 128 h) (shown-refused Room q f))
+    unfolding next-answer
+    next-room q h f = refuses _ _ (next-tests run table b grad out) (at-next e (failed (lt-leb 128 (length out) h))) (shown-refused Room q f)
 
     module _ (h : 128 ≤ length out) where
       roomy : (p : Printed × EllBuffers × List Float × List ℕ)
           → p ≡ pick (ltb (run .niter) (run .options .«max_iters»)) (step-printed run table b grad out) (limit-printed run b grad out) → p ≡ next-answer run table b grad out
-      roomy p f = by-check Right e _ (skip _ _ _ _ (le-ltb (length out) 128 h) f)
+      unfolding next-answer
+      roomy p f = accepts _ _ (next-tests run table b grad out) (at-next e (held _ _ (le-leb 128 (length out) h))) f
 
       pub next-step : (p : Printed × EllBuffers × List Float × List ℕ) → run .niter < run .options .«max_iters» → p ≡ step-printed run table b grad out
           → p ≡ next-answer run table b grad out

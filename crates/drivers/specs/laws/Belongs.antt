@@ -9,18 +9,20 @@ use lib.ListN.{length}
 use lib.Ieee.{Float}
 use Rattle.numbers.specs.Pick.{pick}
 use Rattle.numbers.specs.Arr.{isDimension}
-use Rattle.numbers.specs.laws.Arr.{wrong-dimension, wrong-length, accepted}
-use Rattle.numbers.specs.declared.refusal.Refusal.the-variants.{Dimension, Length, Band, Cursor}
-use Rattle.numbers.specs.laws.Pick.{hit, skip, is-hit, is-skip, by-test, pick-cong, and-parts}
+use Rattle.numbers.specs.Refusal.{is-fault}
+use Rattle.numbers.specs.laws.Refusal.{failed, held, at-first, at-next, refuses, by-tests}
+use Rattle.numbers.specs.declared.refusal.Refusal.the-variants.{Dimension, Length}
+use Rattle.numbers.specs.declared.refusal.Fault.{Fault}
+use Rattle.numbers.specs.laws.Pick.{is-hit, is-skip, by-test, pick-cong, and-parts}
 use Rattle.oracles.specs.Scan.{table-fits}
-use Rattle.oracles.specs.LowpassOracle.{bands-fit, cursors-fit, refusedOf, assessOf, assess-feas-answer}
+use Rattle.oracles.specs.LowpassOracle.{oracle-tests, assess-tests, assess-feas-answer}
 use Rattle.oracles.specs.Verdict.{Judgement, feasible, pass, stop, middle, sign, refused, Question, judge, judgement, is-feasible, asked, is-accepted, FeasRule}
 use Rattle.oracles.specs.laws.CursorRule.{feas-rule}
 use Rattle.oracles.specs.declared.lowpass_oracle.Assessed.{Assessed}
 use Rattle.oracles.specs.declared.lowpass_oracle.Group.the-variants.{Pass, Stop, Middle, Sign}
 use Rattle.oracles.specs.declared.lowpass_oracle.Verdict.{Verdict}
 use Rattle.oracles.specs.declared.lowpass_oracle.Verdict.the-variants.{Feasible, Cut, Refused as NotAssessed}
-use Rattle.drivers.specs.Belongs.{yes-if, said-by, feasible-for, is-of, asked-point, belongs-answer}
+use Rattle.drivers.specs.Belongs.{yes-if, said-by, feasible-for, is-of, asked-point, belongs-tests, belongs-answer}
 use Rattle.drivers.specs.declared.answer.Answer.{Answer}
 use Rattle.drivers.specs.declared.job.Job.{Job}
 use Rattle.drivers.specs.declared.belongs.Belonging.{Belonging}
@@ -92,34 +94,24 @@ module _ (j : Job) (table x : List Float) (a : Answer) (point grad : List Float)
       ∙ ap (λ (w : Judgement). yes-if (pick (a .found) (is-feasible w) (not (is-feasible w)))) v
       ∙ sym (ap yes-if one-point)
 
-  pub belongs-is : isDimension (j .n) ≡ true → length x ≡ j .n → length point ≡ j .n → says assessed ≡ belongs-answer j table x a point grad
+  belongs-is : length x ≡ j .n → length point ≡ j .n → says assessed ≡ belongs-answer j table x a point grad
   unfolding belongs-answer assess-feas-answer
-  belongs-is d hx hp = go _ _ _ (fits hx hp) refl refl refl
-    where
-      go : (f b k : Bool) → (table-fits (j .n) (j .rows) table (asked-point a x point) && eqb (length grad) (j .n)) ≡ f
-          → (table-fits (j .n) (j .rows) table x && eqb (length point) (j .n) && eqb (length grad) (j .n)) ≡ f → bands-fit (j .oracle) (j .rows) ≡ b → cursors-fit (j .oracle) ≡ k
-          → says assessed ≡ belongs-answer j table x a point grad
-      go false b k ea eb hb hk = ap says (sym (wrong-length (j .n) _ _ _ _ d ea)) ∙ wrong-length (j .n) _ _ _ _ d eb
-      go true false k ea eb hb hk =
-          ap says (sym (hit _ _ _ _ (ap not hb) refl ∙ accepted (j .n) _ _ _ _ d ea)) ∙ hit _ _ _ _ (ap not hb) refl ∙ accepted (j .n) _ _ _ _ d eb
-      go true true false ea eb hb hk =
-          ap says (sym (skip _ _ _ _ (ap not hb) (hit _ _ _ _ (ap not hk) refl) ∙ accepted (j .n) _ _ _ _ d ea))
-          ∙ skip _ _ _ _ (ap not hb) (hit _ _ _ _ (ap not hk) refl)
-          ∙ accepted (j .n) _ _ _ _ d eb
-      go true true true ea eb hb hk =
-          ap (λ (w : Belonging). (w, assessed .1)) (accepted-says (rw (d, ea, hb, hk)))
-          ∙ skip _ _ _ _ (ap not hb) (skip _ _ _ _ (ap not hk) refl)
-          ∙ accepted (j .n) _ _ _ _ d eb
+  belongs-is hx hp =
+      let same : assess-tests (j .oracle) (j .n) (j .rows) table (asked-point a x point) grad ≡ belongs-tests j table x point grad = ap (oracle-tests (j .oracle) (j .n) (j .rows)) (fits hx hp) in
+      by-tests (λ (r : Belonging × List Float). says assessed ≡ r) (belongs-tests j table x point grad) _ _
+      (λ why place e. ap says (sym (refuses _ _ (assess-tests (j .oracle) (j .n) (j .rows) table (asked-point a x point) grad) (sym (same ∙ e)) refl)))
+      (λ e. ap (λ (w : Belonging). (w, assessed .1)) (accepted-says (ap (λ (f : Fault). not (is-fault f)) (same ∙ e))))
 
   -- ---- the answer, from what the code's tests and its assessment r of the point p said, which left the gradient g
 
   pub no-dimension : isDimension (j .n) ≡ false → (Refused Dimension, grad) ≡ belongs-answer j table x a point grad
   unfolding belongs-answer
-  no-dimension d = wrong-dimension (j .n) _ _ _ _ d
+  no-dimension d = refuses _ _ _ (at-first _ (at-first _ (failed d))) refl
 
   pub no-length : isDimension (j .n) ≡ true → (eqb (length x) (j .n) && eqb (length point) (j .n)) ≡ false → (Refused Length, grad) ≡ belongs-answer j table x a point grad
   unfolding belongs-answer
-  no-length d h = wrong-length (j .n) _ _ _ _ d (neither (eqb (length table) (j .rows * j .n)) (eqb (length x) (j .n)) (eqb (length point) (j .n)) (eqb (length grad) (j .n)) h)
+  no-length d h =
+      refuses _ _ _ (at-first _ (at-next (held _ _ d) (failed (neither (eqb (length table) (j .rows * j .n)) (eqb (length x) (j .n)) (eqb (length point) (j .n)) (eqb (length grad) (j .n)) h)))) refl
     where
       neither : (t u v w : Bool) → (u && v) ≡ false → (t && u && v && w) ≡ false
       neither true true true w e = absurd (true≢false e)
@@ -127,10 +119,10 @@ module _ (j : Job) (table x : List Float) (a : Answer) (point grad : List Float)
       neither true false v w e = refl
       neither false u v w e = refl
 
-  pub belongs-said : isDimension (j .n) ≡ true → (eqb (length x) (j .n) && eqb (length point) (j .n)) ≡ true → (p : List Float) → p ≡ asked-point a x point → (r : Assessed) (g : List Float)
+  pub belongs-said : (eqb (length x) (j .n) && eqb (length point) (j .n)) ≡ true → (p : List Float) → p ≡ asked-point a x point → (r : Assessed) (g : List Float)
       → (r, g) ≡ assess-feas-answer (j .oracle) (j .n) (j .rows) table p grad → (b : Belonging) → b ≡ said-by (r .verdict) (a .found) → (b, g) ≡ belongs-answer j table x a point grad
-  belongs-said d h p ep r g e b eb =
+  belongs-said h p ep r g e b eb =
       let w = and-parts (eqb (length x) (j .n)) (eqb (length point) (j .n)) h in
       ap (λ (z : Belonging). (z, g)) eb
       ∙ ap says (e ∙ ap (λ (l : List Float). assess-feas-answer (j .oracle) (j .n) (j .rows) table l grad) ep)
-      ∙ belongs-is d (eqb-true (length x) (j .n) (w .0)) (eqb-true (length point) (j .n) (w .1))
+      ∙ belongs-is (eqb-true (length x) (j .n) (w .0)) (eqb-true (length point) (j .n) (w .1))

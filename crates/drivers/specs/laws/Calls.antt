@@ -6,15 +6,12 @@ use mathlib.Core.List.{List, [], _++_}
 use native.Mathlib.Omega.{arith}
 use borrow.Author.Tests.{ltb-true}
 use lib.Dec.{ltb}
-use lib.ListN.{length}
 use lib.Ieee.{Float}
 use Rattle.numbers.specs.Pick.{pick}
 use Rattle.numbers.specs.laws.Pick.{is-hit, is-skip, by-test, pick-cong}
+use Rattle.numbers.specs.laws.Refusal.{by-tests}
 use Rattle.oracles.specs.Ell.{EllBuffers}
-use Rattle.drivers.specs.CuttingPlane.{check-space}
-use Rattle.drivers.specs.Trace.{space-of, step-printed, limit-printed, next-checked, next-answer, printed-by}
-use Rattle.drivers.specs.declared.cutting_plane.Checked.{Checked}
-use Rattle.drivers.specs.declared.cutting_plane.Checked.the-variants.{Right, Wrong}
+use Rattle.drivers.specs.Trace.{step-printed, limit-printed, next-tests, next-answer, printed-by}
 use Rattle.drivers.specs.declared.trace.Run.{Run}
 use Rattle.drivers.specs.declared.trace.Printed.{Printed}
 use Rattle.drivers.specs.Calls.{Left, calls-left, next-of, last-of, run-all-answer, text-of, texts-after, run-all-text}
@@ -36,15 +33,11 @@ module _ (run : Run) (table : List Float) (b : EllBuffers) (grad : List Float) (
   unfolding limit-printed
   limit-moves h = no-more false refl h
 
-  checked-moves : (c : Checked) → Moves run (next-checked run table b grad out c)
-  checked-moves (Wrong why) = no-more false refl
-  checked-moves Right =
-      by-test (Moves run) (ltb (length out) 128) _ _ (λ _. no-more false refl)
-      (λ _. by-test (Moves run) (ltb (run .niter) (run .options .«max_iters»)) _ _ (λ t. step-moves (ltb-true _ _ t)) (λ _. limit-moves))
-
   next-moves : Moves run (next-answer run table b grad out)
   unfolding next-answer
-  next-moves = checked-moves (check-space (run .rows) table (space-of run b grad))
+  next-moves =
+      by-tests (Moves run) (next-tests run table b grad out) _ _ (λ why place e. no-more false refl)
+      (λ e. by-test (Moves run) (ltb (run .niter) (run .options .«max_iters»)) _ _ (λ t. step-moves (ltb-true _ _ t)) (λ _. limit-moves))
 
 going : (p : Printed) → p .more ≡ true → calls-left p ≡ suc (p .run .options .«max_iters» - p .run .niter)
 unfolding calls-left

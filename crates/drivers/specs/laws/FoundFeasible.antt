@@ -1,10 +1,10 @@
 -- What `cutting_plane_feas` answers to a job belongs to that job, if its step limit is above 0. Assumes nothing.
 use Prim.Native.Nat.{ℕ, _*_, _≤_}
-use mathlib.Core.Path.{_≡_, sym, ap, subst, _∙_}
+use mathlib.Core.Path.{_≡_, sym, ap, subst, _∙_, refl}
 use mathlib.Core.Bool.{true, not, _&&_}
 use mathlib.Core.List.{List}
 use native.Mathlib.Omega.{arith}
-use borrow.Author.Tests.{le-leb, le-ltb}
+use borrow.Author.Tests.{le-leb}
 use lib.Dec.{leb}
 use lib.ListN.{length, take, drop}
 use lib.Seq.{take-at}
@@ -12,7 +12,7 @@ use lib.Ieee.{Float}
 use Rattle.oracles.specs.Verdict.{judge, is-feasible}
 use Rattle.oracles.specs.Ell.{EllBuffers}
 use Rattle.drivers.specs.Record.{fronted}
-use Rattle.drivers.specs.CuttingPlane.{Space, feas-run, kept, is-found, feas-checked, feas-answer}
+use Rattle.drivers.specs.CuttingPlane.{Space, feas-run, kept, is-found, run-tests, feas-answer}
 use Rattle.drivers.specs.Job.{read-job-answer}
 use Rattle.drivers.specs.Belongs.{feasible-for, is-of}
 use Rattle.drivers.specs.laws.StepRight.{right-fits}
@@ -23,7 +23,8 @@ use Rattle.drivers.specs.declared.cutting_plane.FeasAnswer.{FeasAnswer}
 use Rattle.drivers.specs.declared.cutting_plane.FeasAnswer.the-variants.{Ended}
 use Rattle.drivers.specs.declared.job.Job.{Job}
 use Rattle.drivers.specs.declared.job.JobAnswer.the-variants.{Read}
-use Rattle.numbers.specs.laws.Pick.{is-hit, is-skip, both-ways}
+use Rattle.numbers.specs.laws.Pick.{is-hit, both-ways}
+use Rattle.numbers.specs.laws.Refusal.{held, at-next, accepts}
 
 -- An answer, r, to a job whose point is x. Its steps are within the job's limit. A point that is found is feasible for the job.
 -- Where the limit allows a step, an answer without a point belongs to the job too: its own point is not feasible.
@@ -56,7 +57,7 @@ module _ (j : Job) (h : JobSound j) (table : List Float) (b : EllBuffers) (grad 
       e = job-ends j h table b grad l
 
       is : feas-answer (j .options) (j .rows) table s best ≡ (r .0, r .1, kept (is-found (r .0)) (r .1 .buffers .xc) best)
-      is = ap (λ z. feas-checked (j .options) (j .rows) table s best z) (job-right j h table b grad l) ∙ is-skip _ _ _ (le-ltb (length best) (j .n) room)
+      is = sym (accepts _ _ (run-tests (j .rows) table s best) (at-next (sym (job-right j h table b grad l)) (held _ _ (le-leb (j .n) (length best) room))) refl)
 
       xc-long : length (r .1 .buffers .xc) ≡ j .n
       xc-long = right-fits (j .rows) table (r .1) (e .right) .long .xc-long ∙ e .ndim-stays

@@ -32,7 +32,6 @@ use Rattle.drivers.specs.laws.StepRight.{fits-right}
 use Rattle.drivers.specs.laws.RunEnds.{RunEnded, run-ends}
 use Rattle.numbers.specs.declared.refusal.Fault.{Fault}
 use Rattle.numbers.specs.declared.refusal.Fault.the-variants.{Sound, At}
-use Rattle.drivers.specs.declared.cutting_plane.Checked.the-variants.{Right}
 use Rattle.drivers.specs.declared.job.Job.{Job}
 use Rattle.drivers.specs.declared.job.JobAnswer.{JobAnswer}
 use Rattle.drivers.specs.declared.job.JobAnswer.the-variants.{Read, Refused}
@@ -171,7 +170,7 @@ held-slices j table xc mq grad grad-t h g t = record {
 
 module _ (j : Job) (h : JobSound j) (table : List Float) (b : EllBuffers) (grad : List Float) (l : JobSlices j table b grad) where
   -- so its run is not refused
-  pub job-right : check-space (j .rows) table (job-space j b grad) ≡ Right
+  pub job-right : check-space (j .rows) table (job-space j b grad) ≡ Sound
   job-right = fits-right (j .rows) table (job-space j b grad) (j .n) (record {
     ndim-is = refl;
     dimension = h .dimension;

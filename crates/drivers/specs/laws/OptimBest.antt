@@ -18,7 +18,7 @@ use Rattle.drivers.specs.Record.{fronted}
 use Rattle.drivers.specs.CuttingPlane.{OptimSpace, check-space, kept, plain, optim-step}
 use Rattle.drivers.specs.laws.StepRight.{right-fits}
 use Rattle.drivers.specs.laws.OptimRight.{offer-asked, Keeps, Passes, optim-step-right}
-use Rattle.drivers.specs.declared.cutting_plane.Checked.the-variants.{Right}
+use Rattle.numbers.specs.declared.refusal.Fault.the-variants.{Sound}
 use Rattle.numbers.specs.laws.Pick.{or-parts, is-hit, by-test}
 
 -- ---- the best point
@@ -93,12 +93,12 @@ module _ (rows : ℕ) (table : List Float) (s₀ : OptimSpace) (k₀ : ℕ) wher
     pub taken : ℕ
     pub k-is : k ≡ k₀ + taken
     pub reached : s ≡ after-steps rows table taken s₀
-    pub right : check-space rows table (plain s) ≡ Right
+    pub right : check-space rows table (plain s) ≡ Sound
     pub ndim-is : s .ell .ndim ≡ n
     pub asks-same : (gamma : Float) (m : ℕ) (x : List Float) → asked (s .oracle) gamma m rows table x ≡ asked (s₀ .oracle) gamma m rows table x
     pub held : Held taken s
 
-  pub start : check-space rows table (plain s₀) ≡ Right → Going k₀ s₀
+  pub start : check-space rows table (plain s₀) ≡ Sound → Going k₀ s₀
   unfolding after-steps
   start right = record {
     taken = 0;

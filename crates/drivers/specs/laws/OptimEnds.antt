@@ -5,22 +5,23 @@ use mathlib.Core.Bool.{true, false}
 use mathlib.Core.List.{List}
 use mathlib.Core.Logic.{_⊎_, inl, inr}
 use native.Mathlib.Omega.{arith}
-use borrow.Author.Tests.{le-ltb}
+use borrow.Author.Tests.{le-leb}
 use lib.ListN.{length}
 use lib.Ieee.{Float}
 use Rattle.oracles.specs.Verdict.{feasible, judge, no-stop-value}
 use Rattle.oracles.specs.Numbered.{update-number}
 use Rattle.oracles.specs.declared.ell_common.Update.{Update}
 use Rattle.oracles.specs.declared.ell_common.Update.the-variants.{Status, Refused as NotUpdated}
-use Rattle.drivers.specs.CuttingPlane.{OptimSpace, OptimLeft, check-space, plain, leaves, optim-step, optim-goes-on, optim-ended, optim-run, optim-checked, optim-answer}
+use Rattle.drivers.specs.CuttingPlane.{OptimSpace, OptimLeft, check-space, plain, leaves, optim-step, optim-goes-on, optim-ended, run-tests, optim-run, optim-answer}
 use Rattle.drivers.specs.Numbered.{optim-number}
 use Rattle.drivers.specs.laws.OptimRight.{offer-asked, OptimStepped, optim-step-right}
 use Rattle.drivers.specs.laws.OptimBest.{Best, best-later, Going, start, next}
 use Rattle.drivers.specs.declared.answer.Answer.{Answer}
 use Rattle.drivers.specs.declared.cutting_plane.Options.{Options}
-use Rattle.drivers.specs.declared.cutting_plane.Checked.the-variants.{Right}
+use Rattle.numbers.specs.declared.refusal.Fault.the-variants.{Sound}
 use Rattle.drivers.specs.declared.cutting_plane.OptimAnswer.the-variants.{Ended as EndedOptim, Halted}
-use Rattle.numbers.specs.laws.Pick.{is-skip, by-test}
+use Rattle.numbers.specs.laws.Pick.{by-test}
+use Rattle.numbers.specs.laws.Refusal.{held, at-next, accepts}
 
 -- A run that began with s₀ at step k₀ has answered r after the steps k, k + 1, .. of which so many were left: it has ended, or was halted by 6 at one of them.
 -- It leaves what stood before a step: the one after the last. Where it is halted, that is the halted step itself, which is refused by 6, on a centre that is feasible for gamma while no stop value compares.
@@ -122,20 +123,20 @@ module _ (rows : ℕ) (table : List Float) (s₀ : OptimSpace) (k₀ : ℕ) wher
       })
       (λ _. last-step left k s (r .1) (r .0) g g′ h refl)
 
-  pub optim-run-ends : check-space rows table (plain s₀) ≡ Right → (tolerance : Float) (left : ℕ) → OptimRunEnded rows table s₀ k₀ left k₀ (optim-run rows table tolerance left k₀ s₀)
+  pub optim-run-ends : check-space rows table (plain s₀) ≡ Sound → (tolerance : Float) (left : ℕ) → OptimRunEnded rows table s₀ k₀ left k₀ (optim-run rows table tolerance left k₀ s₀)
   optim-run-ends right tolerance left = run-on tolerance left k₀ s₀ (start rows table s₀ k₀ right)
 
 -- so does the whole call, where x_best has room for the point
-pub optim-answered : (options : Options) (rows : ℕ) (table : List Float) (s : OptimSpace) → check-space rows table (plain s) ≡ Right → s .ell .ndim ≤ length (s .best)
+pub optim-answered : (options : Options) (rows : ℕ) (table : List Float) (s : OptimSpace) → check-space rows table (plain s) ≡ Sound → s .ell .ndim ≤ length (s .best)
     → OptimRunEnded rows table s 0 (options .«max_iters») 0 (optim-answer options rows table s)
 unfolding optim-answer
 optim-answered options rows table s right room =
     subst (λ z. OptimRunEnded rows table s 0 (options .«max_iters») 0 z)
-    (sym (ap (λ z. optim-checked options rows table s z) right ∙ is-skip _ _ _ (le-ltb (length (s .best)) (s .ell .ndim) room)))
+    (accepts _ _ (run-tests rows table (plain s) (s .best)) (at-next (sym right) (held _ _ (le-leb (s .ell .ndim) (length (s .best)) room))) refl)
     (optim-run-ends rows table s 0 right (options .tolerance) (options .«max_iters»))
 
 -- and a point that it has found is the best: the centre of one of its steps
-pub optim-best : (options : Options) (rows : ℕ) (table : List Float) (s : OptimSpace) (right : check-space rows table (plain s) ≡ Right) (room : s .ell .ndim ≤ length (s .best)) → s .found ≡ false
+pub optim-best : (options : Options) (rows : ℕ) (table : List Float) (s : OptimSpace) (right : check-space rows table (plain s) ≡ Sound) (room : s .ell .ndim ≤ length (s .best)) → s .found ≡ false
     → let r = optim-answer options rows table s in
     let e = optim-answered options rows table s right room in
     e .answer .found ≡ true → Best rows table s (suc (e .answer .steps)) (r .gamma) (r .best)

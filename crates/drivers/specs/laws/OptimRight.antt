@@ -35,7 +35,7 @@ use Rattle.drivers.specs.CuttingPlane.{OptimSpace, check-space, kept, pl
 use Rattle.drivers.specs.Numbered.{optim-number}
 use Rattle.drivers.specs.laws.StepRight.{Fitting, right-fits, fits-right, oracle-accepts, ell-accepts}
 use Rattle.drivers.specs.laws.Untouched.{is-improved, untouched}
-use Rattle.drivers.specs.declared.cutting_plane.Checked.the-variants.{Right}
+use Rattle.numbers.specs.declared.refusal.Fault.the-variants.{Sound}
 
 -- ---- a step
 
@@ -75,7 +75,7 @@ pub record OptimStepped (rows : ℕ) (table : List Float) (s : OptimSpace) (r : 
   pub keeps-or-passes : Keeps rows table s (r .1) ⊎ Passes s (r .1)
   pub ndim-stays : r .1 .ell .ndim ≡ s .ell .ndim
   pub asks-same : (gamma : Float) (n : ℕ) (x : List Float) → asked (r .1 .oracle) gamma n rows table x ≡ asked (s .oracle) gamma n rows table x
-  pub right : check-space rows table (plain (r .1)) ≡ Right
+  pub right : check-space rows table (plain (r .1)) ≡ Sound
 
 -- a judgement that counts a refusal as feasible only by 6
 six-feasible : (q : Question) (t : Bool) (why : Refusal) → judgement (pick t IsFeasible (NotAssessed why)) ≡ judge q → (t ≡ true) × (judge q ≡ feasible)
@@ -95,7 +95,7 @@ asks-by o o′ left e rows table gamma n x =
       x = x;
     }) e
 
-module _ (rows : ℕ) (table : List Float) (s : OptimSpace) (is-right : check-space rows table (plain s) ≡ Right) where
+module _ (rows : ℕ) (table : List Float) (s : OptimSpace) (is-right : check-space rows table (plain s) ≡ Sound) where
   abbrev n : ℕ
   n = s .ell .ndim
 

@@ -3,21 +3,19 @@ use Prim.Native.Nat.{ℕ, suc, _+_, _*_, _-_, _≤_, _<_}
 use mathlib.Core.Path.{_≡_, refl, sym, ap, _∙_, subst}
 use mathlib.Core.List.{List}
 use native.Mathlib.Omega.{arith}
-use borrow.Author.Tests.{le-ltb, ltb-true}
-use lib.Dec.{ltb}
+use borrow.Author.Tests.{le-leb}
 use lib.ListN.{length, take, drop, getD, replicate, length-replicate}
 use lib.Seq.{take-at}
 use lib.Ieee.{Float}
 use Rattle.numbers.specs.F64.{0ᶠ}
 use Rattle.numbers.specs.laws.Arr.{length-tab}
 use Rattle.numbers.specs.declared.refusal.Refusal.{Refusal}
-use Rattle.numbers.specs.declared.refusal.Refusal.the-variants.{Room}
-use Rattle.numbers.specs.laws.Pick.{is-skip, by-test, pick-cong, pick-map}
-use Rattle.numbers.specs.Refusal.{unless}
+use Rattle.numbers.specs.Refusal.{_⨾_, unless}
+use Rattle.numbers.specs.laws.Refusal.{held, at-first, at-next, refuses, accepts, by-tests}
 use Rattle.oracles.specs.Ell.{EllBuffers}
 use Rattle.drivers.specs.Record.{halfAt, numbersAt, numberAt, fields-of, rows-of, fronted, no-places}
 use Rattle.drivers.specs.Job.{optionsOf, job-fault, jobOf, read-job-answer}
-use Rattle.drivers.specs.Trace.{printed, new-run-answer, opened-run, opened-read, with-slices, run-text, text-in, printed-by, open-answer}
+use Rattle.drivers.specs.Trace.{text-room, printed, input-tests, new-run-answer, opened-run, opened-read, with-slices, run-text, text-in, printed-by, open-answer}
 use Rattle.drivers.specs.laws.Text.{front-over}
 use Rattle.drivers.specs.laws.Trace.{calls-print}
 use Rattle.drivers.specs.Calls.{run-all-text}
@@ -46,7 +44,7 @@ pub record RunHeld (run : Run) (table xc mq : List Float) : Type 0 where
 printed-front : (text out : List ℕ) → 128 ≤ length out → text-in (printed text out .0) (printed text out .1) ≡ text
 unfolding printed
 printed-front text out h =
-    ap (λ (r : _ × List ℕ). text-in (r .0) (r .1)) (is-skip (ltb (length out) 128) _ (Bytes (length text), _) (le-ltb (length out) 128 h)) ∙ front-over out text
+    ap (λ (r : Text × List ℕ). text-in (r .0) (r .1)) (sym (accepts _ _ (text-room out) (held _ _ (le-leb 128 (length out) h)) refl)) ∙ front-over out text
 
 -- the step limit has 16 bits
 limit-small : (bytes : List ℕ) (p : ℕ) → optionsOf bytes p .«max_iters» < 65536
@@ -108,8 +106,9 @@ module _ (calls : ℕ) (enough : 65536 ≤ calls) (bytes : List ℕ) (out : List
   pub program-prints : (table xc mq : List Float) → length table ≡ 32768 → length xc ≡ 32 → length mq ≡ 1024 → calls-text calls (open-answer bytes table xc mq out) ≡ program-text bytes
   unfolding open-answer program-text
   program-prints table xc mq t x m =
-      let long = ltb 65536 (length bytes) in
-      pick-map (calls-text calls) long _ _ ∙ pick-cong long (λ _. printed-front (refused-text Room 65536) out room) (λ _. read-prints table xc mq t x m)
+      by-tests (λ (r : Opened × List Float × List Float × List Float × List ℕ). calls-text calls r ≡ program-text bytes) (input-tests bytes) _ _
+      (λ why place e. printed-front (refused-text why place) out room ∙ refuses _ _ (input-tests bytes ⨾ _) (at-first _ (sym e)) refl)
+      (λ e. read-prints table xc mq t x m ∙ ap (λ (f : Fault). unless f refused-text (job-text bytes (job-fault bytes no-places 32768 32 1024 .1))) (at-next (sym e) refl))
 
 -- Its two ways. The answer of `open` is a line that refuses the job ..
 pub refused-prints : (bytes : List ℕ) (table xc mq table′ xc′ mq′ : List Float) (out out′ : List ℕ) (k : ℕ) → length table ≡ 32768 → length xc ≡ 32 → length mq ≡ 1024
@@ -146,7 +145,7 @@ Speaks (Over (NoLine why)) = ⊥
 
 printed-speaks : (text out : List ℕ) → 128 ≤ length out → Speaks (Over (printed text out .0))
 unfolding printed
-printed-speaks text out h = by-test (λ (r : Text × List ℕ). Speaks (Over (r .0))) (ltb (length out) 128) _ _ (λ l. absurd (omega (arith, ltb-true (length out) 128 l))) (λ _. tt)
+printed-speaks text out h = subst (λ (r : Text × List ℕ). Speaks (Over (r .0))) (accepts _ _ (text-room out) (held _ _ (le-leb 128 (length out) h)) refl) tt
 
 run-speaks : (r : NewRun) (out : List ℕ) → 128 ≤ length out → Speaks (opened-run out r .0)
 run-speaks (Made run) out h = tt
@@ -160,7 +159,7 @@ pub open-speaks : (bytes : List ℕ) (table xc mq : List Float) (out : List ℕ)
 unfolding open-answer
 open-speaks bytes table xc mq out h why e =
     subst Speaks e
-    (by-test (λ (r : Opened × List Float × List Float × List Float × List ℕ). Speaks (r .0)) (ltb 65536 (length bytes)) _ _ (λ _. printed-speaks (refused-text Room 65536) out h)
+    (by-tests (λ (r : Opened × List Float × List Float × List Float × List ℕ). Speaks (r .0)) (input-tests bytes) _ _ (λ w place _. printed-speaks (refused-text w place) out h)
     (λ _. read-speaks (read-job-answer bytes table xc mq .0) out h))
 
 -- A run that goes has its numbers at the fronts of the slices.
@@ -180,5 +179,5 @@ module _ (bytes : List ℕ) (table xc mq : List Float) (out : List ℕ) where
   unfolding open-answer
   open-held run table′ xc′ mq′ out′ e =
       subst Held e
-      (by-test Held (ltb 65536 (length bytes)) _ _ (λ _. tt)
+      (by-tests Held (input-tests bytes) _ _ (λ why place _. tt)
       (λ _. let j = read-job-answer bytes table xc mq in read-held (j .0) (j .1) (j .2) (j .3) refl))

@@ -9,7 +9,7 @@ use Rattle.oracles.specs.Verdict.{Limits, limits, asked, judge, is-feasible}
 use Rattle.drivers.specs.CuttingPlane.{Space, check-space, feas-step, goes-on, feas-ended, feas-run}
 use Rattle.drivers.specs.laws.StepRight.{centre-asked, says-feasible, Stepped, step-right}
 use Rattle.drivers.specs.declared.answer.Answer.{Answer}
-use Rattle.drivers.specs.declared.cutting_plane.Checked.the-variants.{Right}
+use Rattle.numbers.specs.declared.refusal.Fault.the-variants.{Sound}
 use Rattle.drivers.specs.declared.cutting_plane.Said.{Said}
 use Rattle.drivers.specs.declared.cutting_plane.Said.the-variants.{Feasible, Cut, Refused}
 use Rattle.drivers.specs.declared.cutting_plane.FeasAnswer.{FeasAnswer}
@@ -32,7 +32,7 @@ pub record RunEnded (rows : ℕ) (table : List Float) (left k : ℕ) (s : Space)
   pub none-feasible : answer .found ≡ false → 1 ≤ left → centre-feasible rows table s ≡ false
   pub ndim-stays : r .1 .ell .ndim ≡ s .ell .ndim
   pub limits-stay : limits (r .1 .oracle) ≡ limits (s .oracle)
-  pub right : check-space rows table (r .1) ≡ Right
+  pub right : check-space rows table (r .1) ≡ Sound
 
 module _ (rows : ℕ) (table : List Float) where
   -- what is asked about the centre of s′ is what the oracle of s would be asked about it
@@ -80,7 +80,7 @@ module _ (rows : ℕ) (table : List Float) where
   goes-infeasible (Cut group beta status) tsq tolerance e = refl
   goes-infeasible (Refused why) tsq tolerance e = refl
 
-  pub run-ends : (tolerance : Float) (left k : ℕ) (s : Space) → check-space rows table s ≡ Right → RunEnded rows table left k s (feas-run rows table tolerance left k s)
+  pub run-ends : (tolerance : Float) (left k : ℕ) (s : Space) → check-space rows table s ≡ Sound → RunEnded rows table left k s (feas-run rows table tolerance left k s)
   unfolding feas-run
   run-ends tolerance zero k s right = record {
     answer = record { found = false; steps = k };

@@ -1,21 +1,17 @@
 -- A step from a space that passes the tests of a run is not refused, and the space that it leaves passes them again. Assumes nothing.
 use Prim.Native.Nat.{ℕ, _*_}
 use mathlib.Core.Path.{_≡_, refl, sym, ap, _∙_}
-use mathlib.Core.Bool.{Bool, true, false, not, _&&_, true≢false}
+use mathlib.Core.Bool.{Bool, true, false, true≢false}
 use mathlib.Core.List.{List}
-use native.Mathlib.Omega.{arith}
-use borrow.Author.Tests.{eq-eqb, eqb-true, not-false}
+use borrow.Author.Tests.{eq-eqb, eqb-true}
 use lib.Dec.{eqb}
 use lib.ListN.{length}
 use lib.Ieee.{Float}
 use Rattle.numbers.specs.Arr.{isDimension}
-use Rattle.numbers.specs.laws.Arr.{accepted}
-use Rattle.numbers.specs.declared.refusal.Refusal.{Refusal}
 use Rattle.numbers.specs.declared.cut.CutChoice.{CutChoice}
-use Rattle.numbers.specs.laws.Pick.{and-parts, is-skip, by-test}
-use Rattle.oracles.specs.laws.EllCommon.{by-tested}
+use Rattle.numbers.specs.laws.Pick.{and-parts}
 use Rattle.oracles.specs.LowpassOracle.{bands-fit, cursors-fit, assess-feas-answer}
-use Rattle.oracles.specs.laws.Assess.{accepted-of}
+use Rattle.oracles.specs.laws.Assess.{oracle-fits, fits-oracle, accepted-of, accepted-by}
 use Rattle.oracles.specs.Verdict.{Question, limits, asked, judge, judgement, is-feasible, is-accepted}
 use Rattle.oracles.specs.laws.Judge.{judge-answers}
 use Rattle.oracles.specs.laws.CursorRule.{feas-rule}
@@ -28,9 +24,8 @@ use Rattle.oracles.specs.declared.lowpass_oracle.Group.{Group}
 use Rattle.oracles.specs.declared.lowpass_oracle.Group.the-variants.{Pass, Stop, Middle, Sign}
 use Rattle.oracles.specs.declared.lowpass_oracle.Verdict.{Verdict}
 use Rattle.oracles.specs.declared.lowpass_oracle.Verdict.the-variants.{Feasible as IsFeasible, Cut as IsCut, Refused as NotAssessed}
-use Rattle.drivers.specs.CuttingPlane.{Space, checkOf, check-space, said-of, feas-cut, feas-step}
-use Rattle.drivers.specs.declared.cutting_plane.Checked.{Checked}
-use Rattle.drivers.specs.declared.cutting_plane.Checked.the-variants.{Right, Wrong}
+use Rattle.drivers.specs.CuttingPlane.{Space, run-fits, checkOf, check-space, said-of, feas-cut, feas-step}
+use Rattle.numbers.specs.declared.refusal.Fault.the-variants.{Sound}
 use Rattle.drivers.specs.declared.cutting_plane.Said.{Said}
 use Rattle.drivers.specs.declared.cutting_plane.Said.the-variants.{Feasible, Cut, Refused}
 
@@ -46,46 +41,38 @@ pub record Fitting (n rows : ℕ) (table : List Float) (s : Space) : Type 0 wher
   pub bands : bands-fit (s .oracle) rows ≡ true
   pub cursors : cursors-fit (s .oracle) ≡ true
 
-apart : {X : Type 0} (why : Refusal) → Wrong why ≡ Right → X
-apart why e = absurd (let z : _≡_ {A = ℕ} 0 1 = cc in omega arith)
-
 module _ (rows : ℕ) (table : List Float) (s : Space) where
+  -- the test of the lengths
+  abbrev space-fits : ℕ → Bool
+  space-fits n = run-fits n rows (length table) (length (s .buffers .mq)) (length (s .buffers .xc)) (length (s .grad)) (length (s .buffers .grad-t))
+
   -- a space that is right has it, and one that has it is right
-  pub right-fits : check-space rows table s ≡ Right → Fitting (s .ell .ndim) rows table s
+  pub right-fits : check-space rows table s ≡ Sound → Fitting (s .ell .ndim) rows table s
   unfolding checkOf
-  right-fits =
+  right-fits e =
       let n = s .ell .ndim in
-      by-tested P n _ _ _ _ (apart _) (apart _)
-      (λ d f.
-      by-test P (not (bands-fit (s .oracle) rows)) _ _ (λ _. apart _)
-      (λ b.
-      by-test P (not (cursors-fit (s .oracle))) _ _ (λ _. apart _)
-      (λ c _.
-      let p₄ = and-parts _ (eqb (length (s .buffers .grad-t)) n) f in
+      let F = oracle-fits (s .oracle) n rows (space-fits n) e in
+      let p₄ = and-parts _ (eqb (length (s .buffers .grad-t)) n) (F .long) in
       let p₃ = and-parts _ (eqb (length (s .grad)) n) (p₄ .0) in
       let p₂ = and-parts _ (eqb (length (s .buffers .mq)) (n * n)) (p₃ .0) in
       let p₁ = and-parts (eqb (length table) (rows * n)) (eqb (length (s .buffers .xc)) n) (p₂ .0) in
       record {
         ndim-is = refl;
-        dimension = d;
+        dimension = F .dimension;
         table-long = eqb-true _ (rows * n) (p₁ .0);
         long = record { mq-long = eqb-true _ (n * n) (p₂ .1); xc-long = eqb-true _ n (p₁ .1); grad-t-long = eqb-true _ n (p₄ .1) };
         grad-long = eqb-true _ n (p₃ .1);
-        bands = not-false _ b;
-        cursors = not-false _ c;
-      })))
-    where
-      P : Checked → Type 0
-      P r = r ≡ Right → Fitting (s .ell .ndim) rows table s
+        bands = F .bands;
+        cursors = F .cursors;
+      }
 
   module _ (n : ℕ) (h : Fitting n rows table s) where
-    pub fits-right : check-space rows table s ≡ Right
+    pub fits-right : check-space rows table s ≡ Sound
     unfolding checkOf
     fits-right =
-        rw (h .ndim-is)
-        (sym (accepted n _ _ _ _ (h .dimension) fit) ∙ is-skip _ _ _ (ap not (h .bands)) ∙ is-skip _ _ _ (ap not (h .cursors)))
+        rw (h .ndim-is) (sym (fits-oracle (s .oracle) n rows (space-fits n) (record { dimension = h .dimension; long = fit; bands = h .bands; cursors = h .cursors })))
       where
-        fit : (eqb (length table) (rows * n) && eqb (length (s .buffers .xc)) n && eqb (length (s .buffers .mq)) (n * n) && eqb (length (s .grad)) n && eqb (length (s .buffers .grad-t)) n) ≡ true
+        fit : space-fits n ≡ true
         fit =
             rw (
               eq-eqb (length table) (rows * n) (h .table-long),
@@ -98,7 +85,12 @@ module _ (rows : ℕ) (table : List Float) (s : Space) where
     -- the oracle and the ellipsoid accept it
     pub oracle-accepts : is-accepted (s .oracle) n rows table (s .buffers .xc) (s .grad) ≡ true
     oracle-accepts =
-        rw (h .dimension, eq-eqb (length table) (rows * n) (h .table-long), eq-eqb (length (s .buffers .xc)) n (h .long .xc-long), eq-eqb (length (s .grad)) n (h .grad-long), h .bands, h .cursors)
+        accepted-by (s .oracle) n rows table (s .buffers .xc) (s .grad) (record {
+          dimension = h .dimension;
+          long = rw (eq-eqb (length table) (rows * n) (h .table-long), eq-eqb (length (s .buffers .xc)) n (h .long .xc-long), eq-eqb (length (s .grad)) n (h .grad-long));
+          bands = h .bands;
+          cursors = h .cursors;
+        })
 
     pub ell-accepts : (grad : List Float) → length grad ≡ n → ell-fits n grad (s .buffers) ≡ true
     ell-accepts grad l =
@@ -127,7 +119,7 @@ pub record Stepped (rows : ℕ) (table : List Float) (s : Space) (r : Said × Sp
   pub centre-stays : says-feasible (r .0) ≡ true → r .1 .buffers ≡ s .buffers
   pub ndim-stays : r .1 .ell .ndim ≡ s .ell .ndim
   pub limits-stay : limits (r .1 .oracle) ≡ limits (s .oracle)
-  pub right : check-space rows table (r .1) ≡ Right
+  pub right : check-space rows table (r .1) ≡ Sound
 
 cut-infeasible : (group : Group) (beta : CutChoice) → is-feasible (judgement (IsCut group beta)) ≡ false
 cut-infeasible (Pass row over) beta = refl
@@ -135,7 +127,7 @@ cut-infeasible (Stop row over) beta = refl
 cut-infeasible (Middle row) beta = refl
 cut-infeasible Sign beta = refl
 
-pub step-right : (rows : ℕ) (table : List Float) (s : Space) → check-space rows table s ≡ Right → Stepped rows table s (feas-step rows table s)
+pub step-right : (rows : ℕ) (table : List Float) (s : Space) → check-space rows table s ≡ Sound → Stepped rows table s (feas-step rows table s)
 unfolding feas-step
 step-right rows table s right =
     let a = assess-feas-answer (s .oracle) n rows table (s .buffers .xc) (s .grad) in

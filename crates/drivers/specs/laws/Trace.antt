@@ -4,7 +4,7 @@ use mathlib.Core.Path.{_≡_, refl, sym, ap, _∙_, subst}
 use mathlib.Core.Bool.{Bool, true, false, true≢false}
 use mathlib.Core.List.{List, [], _++_, append-assoc, append-nil}
 use native.Mathlib.Omega.{arith}
-use borrow.Author.Tests.{lt-ltb, le-ltb, ltb-true, ltb-false}
+use borrow.Author.Tests.{ltb-true, ltb-false, le-leb, lt-leb}
 use lib.Dec.{ltb}
 use lib.ListN.{length, take}
 use lib.Ieee.{Float}
@@ -17,14 +17,14 @@ use Rattle.numbers.specs.declared.cut.CutChoice.{CutChoice}
 use Rattle.numbers.specs.declared.cut.CutChoice.the-variants.{Single, Parallel}
 use Rattle.numbers.specs.declared.cut.CutStatus.{CutStatus}
 use Rattle.numbers.specs.declared.cut.CutStatus.the-variants.{Success, NoSoln, NoEffect}
-use Rattle.numbers.specs.laws.Pick.{hit, skip, is-hit, pick-cong, by-test, pick-map}
+use Rattle.numbers.specs.laws.Pick.{skip, is-hit, pick-cong, by-test, pick-map}
 use Rattle.oracles.specs.LowpassOracle.{groupSide}
 use Rattle.oracles.specs.Ell.{EllBuffers}
 use Rattle.oracles.specs.declared.lowpass_oracle.Group.{Group}
 use Rattle.oracles.specs.declared.lowpass_oracle.Group.the-variants.{Pass, Stop, Middle, Sign}
 use Rattle.drivers.specs.Text.{over, put-all, joined, hex}
 use Rattle.drivers.specs.laws.Text.{length-over, length-decimal, length-hex, most-more, most-on, most-none, put-front, joined-append, joined-none, front-over}
-use Rattle.drivers.specs.Trace.{group-word, row-text, side-word, beta-pieces, status-word, said-pieces, outcome-word, last-pieces, ended-pieces, refused-pieces, printed, step-text, space-of, run-at, step-printed, limit-printed, next-checked, next-answer, run-text, cut-lines, text-left, text-in, printed-by}
+use Rattle.drivers.specs.Trace.{group-word, row-text, side-word, beta-pieces, status-word, said-pieces, outcome-word, last-pieces, ended-pieces, refused-pieces, text-room, printed, step-text, space-of, run-at, step-printed, limit-printed, next-tests, next-answer, run-text, cut-lines, text-left, text-in, printed-by}
 use Rattle.drivers.specs.CuttingPlane.{Space, check-space, feas-step, goes-on, feas-ended, feas-run}
 use Rattle.drivers.specs.laws.StepRight.{step-right}
 use Rattle.drivers.specs.declared.answer.Answer.{Answer}
@@ -32,8 +32,8 @@ use Rattle.drivers.specs.declared.cutting_plane.Said.{Said}
 use Rattle.drivers.specs.declared.cutting_plane.Said.the-variants.{Feasible, Cut, Refused as NotStepped}
 use Rattle.drivers.specs.declared.cutting_plane.FeasAnswer.{FeasAnswer}
 use Rattle.drivers.specs.declared.cutting_plane.FeasAnswer.the-variants.{Ended, Refused as NotRun}
-use Rattle.drivers.specs.declared.cutting_plane.Checked.{Checked}
-use Rattle.drivers.specs.declared.cutting_plane.Checked.the-variants.{Right}
+use Rattle.numbers.specs.declared.refusal.Fault.the-variants.{Sound}
+use Rattle.numbers.specs.laws.Refusal.{held, at-next, accepts, failed, refuses}
 use Rattle.drivers.specs.declared.trace.Run.{Run}
 use Rattle.drivers.specs.declared.trace.Printed.{Printed}
 use Rattle.drivers.specs.declared.trace.Text.the-variants.{Bytes, Refused}
@@ -106,14 +106,14 @@ step-most k more said =
 
 pub not-printed-in : (text out : List ℕ) → length out < 128 → (Refused Room, out) ≡ printed text out
 unfolding printed
-not-printed-in text out h = hit _ _ _ _ (lt-ltb (length out) 128 h) refl
+not-printed-in text out h = refuses _ _ (text-room out) (failed (lt-leb 128 (length out) h)) refl
 
 pub printed-in : (out : List ℕ) (texts : List (List ℕ)) (r : ℕ × List ℕ) → 128 ≤ length out → length (joined texts) ≤ 128 → r ≡ put-all out 0 texts
     → (Bytes (r .0), r .1) ≡ printed (joined texts) out
 unfolding printed
 printed-in out texts r h l e =
     let f : length (joined texts) ≤ length out = omega arith in
-    skip _ _ _ _ (le-ltb (length out) 128 h) (ap (λ (q : ℕ × List ℕ). (Bytes (q .0), q .1)) (put-front out texts r f e))
+    accepts _ _ (text-room out) (held _ _ (le-leb 128 (length out) h)) (ap (λ (q : ℕ × List ℕ). (Bytes (q .0), q .1)) (put-front out texts r f e))
 
 -- a step's pieces, and those of the answer where it is the last
 pub step-pieces : (out : List ℕ) (k : ℕ) (more : Bool) (said : Said) (rest : List (List ℕ)) (r : ℕ × List ℕ) → 128 ≤ length out
@@ -184,20 +184,19 @@ module _ (run : Run) (table : List Float) (b : EllBuffers) (grad : List Float) (
 
   -- what follows where there is more: another call, with fewer steps left
   record Goes (p : Printed × EllBuffers × List Float × List ℕ) : Type 0 where
-    right : check-space (p .0 .run .rows) table (space-of (p .0 .run) (p .1) (p .2)) ≡ Right
+    right : check-space (p .0 .run .rows) table (space-of (p .0 .run) (p .1) (p .2)) ≡ Sound
     room : 128 ≤ length (p .3)
     fewer : p .0 .run .options .«max_iters» - p .0 .run .niter < run .options .«max_iters» - run .niter
 
-  module _ (e : check-space (run .rows) table (space-of run b grad) ≡ Right) (h : 128 ≤ length out) where
+  module _ (e : check-space (run .rows) table (space-of run b grad) ≡ Sound) (h : 128 ≤ length out) where
     by-next : (P : Printed × EllBuffers × List Float × List ℕ → Type 0) → (run .niter < run .options .«max_iters» → P (step-printed run table b grad out))
         → (run .options .«max_iters» ≤ run .niter → P (limit-printed run b grad out)) → P (next-answer run table b grad out)
     unfolding next-answer
     by-next P f g =
-        subst (λ (c : Checked). P (next-checked run table b grad out c)) (sym e)
-        (by-test P (ltb (length out) 128) _ _ (λ l. absurd (omega (arith, ltb-true (length out) 128 l)))
-        (λ _. by-test P (ltb (run .niter) (run .options .«max_iters»)) _ _
+        subst P (accepts _ _ (next-tests run table b grad out) (at-next (sym e) (held _ _ (le-leb 128 (length out) h))) refl)
+        (by-test P (ltb (run .niter) (run .options .«max_iters»)) _ _
         (λ l. f (ltb-true (run .niter) (run .options .«max_iters») l))
-        (λ l. g (ltb-false (run .niter) (run .options .«max_iters») l))))
+        (λ l. g (ltb-false (run .niter) (run .options .«max_iters») l)))
 
     pub next-prints : Prints (next-answer run table b grad out)
     next-prints = by-next Prints step-prints limit-prints
@@ -222,7 +221,7 @@ module _ (run : Run) (table : List Float) (b : EllBuffers) (grad : List Float) (
 
 -- enough calls of `next` print all of a run that passes the check
 pub calls-print : (calls : ℕ) (run : Run) (table : List Float) (b : EllBuffers) (grad : List Float) (out : List ℕ)
-    → check-space (run .rows) table (space-of run b grad) ≡ Right → 128 ≤ length out → run .options .«max_iters» - run .niter < calls
+    → check-space (run .rows) table (space-of run b grad) ≡ Sound → 128 ≤ length out → run .options .«max_iters» - run .niter < calls
     → printed-by calls run table b grad out ≡ text-left run table b grad
 unfolding printed-by
 calls-print zero run table b grad out e h l = absurd (omega (arith, l))
@@ -238,7 +237,7 @@ calls-print (suc calls) run table b grad out e h l =
 
 -- so a run from its first step on prints the lines of its cuts, and last the answer of `feas-run`
 pub run-printed : (run : Run) (table : List Float) (b : EllBuffers) (grad : List Float) (out : List ℕ)
-    → check-space (run .rows) table (space-of run b grad) ≡ Right → 128 ≤ length out → run .niter ≡ 0
+    → check-space (run .rows) table (space-of run b grad) ≡ Sound → 128 ≤ length out → run .niter ≡ 0
     → (let m = run .options .«max_iters» in
     let t = run .options .tolerance in
     let s = space-of run b grad in

@@ -6,8 +6,8 @@ use mathlib.Core.List.{List}
 use lib.IntN.{pos}
 use lib.Signed.{ltZ}
 use lib.Ieee.{Float}
-use Rattle.oracles.specs.LowpassOracle.{offered, improvedOf, optim-of, assess-feas-answer, assess-optim-answer}
-use Rattle.oracles.specs.laws.Assess.{assess-cases, by-refusals}
+use Rattle.oracles.specs.LowpassOracle.{offered, improvedOf, optim-of, assess-tests, assess-feas-answer, assess-optim-answer}
+use Rattle.oracles.specs.laws.Assess.{assess-cases}
 use Rattle.oracles.specs.laws.OracleAfter.{is-refusal}
 use Rattle.oracles.specs.declared.lowpass_oracle.LowpassOracle.{LowpassOracle}
 use Rattle.oracles.specs.declared.lowpass_oracle.Verdict.{Verdict}
@@ -17,6 +17,7 @@ use Rattle.oracles.specs.declared.lowpass_oracle.OptimVerdict.the-variants.{Imp
 use Rattle.oracles.specs.declared.lowpass_oracle.Assessed.{Assessed}
 use Rattle.oracles.specs.declared.lowpass_oracle.AssessedOptim.{AssessedOptim}
 use Rattle.numbers.specs.laws.Pick.{by-test}
+use Rattle.numbers.specs.laws.Refusal.{by-tests}
 
 abbrev is-cut : Verdict → Bool
 is-cut IsFeasible = false
@@ -25,8 +26,9 @@ is-cut (NotAssessed why) = false
 
 -- without a cut the gradient is as it came
 uncut-gradient : (o : LowpassOracle) (n rows : ℕ) (table x grad : List Float) → let a = assess-feas-answer o n rows table x grad in is-cut (a .0 .verdict) ≡ false → a .1 ≡ grad
+unfolding assess-feas-answer
 uncut-gradient o n rows table x grad =
-    by-refusals o n rows table x grad P (λ _. refl) (λ _. refl) (λ _. refl) (λ _. refl)
+    by-tests P (assess-tests o n rows table x grad) _ _ (λ why place e _. refl)
     (λ _. assess-cases o n table x grad P (λ row v over e t. absurd (true≢false t)) (λ e₁ row v over e t. absurd (true≢false t)) (λ e₁ e₂ row v over e t. absurd (true≢false t))
     (λ e₁ e₂ e₃ e t. absurd (true≢false t)) (λ e₁ e₂ e₃ e t. refl))
   where

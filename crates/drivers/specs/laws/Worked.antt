@@ -1,15 +1,16 @@
 -- Document 01's worked job of 145 bytes, two of its refused records, and long inputs: what the definition prints for them, computed. Assumes nothing.
 use Prim.Native.Nat.{ℕ, _<_}
-use mathlib.Core.Path.{_≡_, refl}
+use mathlib.Core.Path.{_≡_, refl, sym}
 use mathlib.Core.List.{List, [], _∷_}
-use borrow.Author.Tests.{lt-ltb}
+use borrow.Author.Tests.{lt-leb}
 use lib.ListN.{length}
 use lib.Ieee.{add, lt, sub, mul, le, ofBits, toBits}
 use Rattle.numbers.specs.Pick.{pick, some}
 use Rattle.numbers.specs.Bits.{leNumber, wordAt}
-use Rattle.numbers.specs.Arr.{tab, dotFrom, dotOf, mvOf, tested}
+use Rattle.numbers.specs.Arr.{tab, dotFrom, dotOf, mvOf}
 use Rattle.numbers.specs.EllCalc.{made, calc-bias-cut, calc-parallel-impl, calc-parallel-bias-cut, calc-single-or-parallel-bias-cut}
-use Rattle.numbers.specs.laws.Pick.{is-hit}
+use Rattle.numbers.specs.Refusal.{_⨾_}
+use Rattle.numbers.specs.laws.Refusal.{failed, at-first, refuses}
 use Rattle.oracles.specs.RoundRobin.{advanced}
 use Rattle.oracles.specs.Scan.{valueOf, scanFrom, scanOf, band-gradient}
 use Rattle.oracles.specs.LowpassOracle.{assessOf, assess-feas-answer}
@@ -18,7 +19,7 @@ use Rattle.drivers.specs.Record.{rules, ruleAt, indexIn, indexOf, ruleLe
 use Rattle.drivers.specs.CuttingPlane.{feas-step}
 use Rattle.drivers.specs.Text.{joined, digitChar, digitsOf, digit-count-to, digit-count, decimal, hex}
 use Rattle.drivers.specs.Job.{signed, job-oracle, optionsOf, dimension-fault, band-fault, cursor-fault, room-fault, job-fault}
-use Rattle.drivers.specs.Trace.{step-text, run-text}
+use Rattle.drivers.specs.Trace.{input-tests, step-text, run-text}
 use Rattle.drivers.specs.Program.{first-space, job-text, program-text}
 
 -- n 2; bands 1, 1; limits 1, 2, 1; row (1, 0); point (0, 0); cursors −1, 0, 0; kappa 0.25; identity; 10 steps, tolerance 0
@@ -41,7 +42,7 @@ worked-text =
     ∷ 110 ∷ 111 ∷ 110 ∷ 101 ∷ 32 ∷ 48 ∷ 10 ∷ []  -- none 0
 
 pub worked : program-text worked-job ≡ worked-text
-unfolding add lt sub mul le ofBits toBits pick leNumber wordAt tab dotFrom dotOf mvOf tested made calc-bias-cut calc-parallel-impl calc-parallel-bias-cut calc-single-or-parallel-bias-cut advanced valueOf scanFrom scanOf band-gradient assessOf assess-feas-answer some ell-updateOf rules ruleAt indexIn indexOf ruleLength after numberAt fields-from fields-of field-fault walk-of missing-fault record-fault lengths-fault row-count rows-of feas-step joined digitChar digitsOf digit-count-to digit-count decimal hex signed job-oracle optionsOf dimension-fault band-fault cursor-fault room-fault job-fault step-text run-text first-space job-text program-text
+unfolding add lt sub mul le ofBits toBits pick leNumber wordAt tab dotFrom dotOf mvOf made calc-bias-cut calc-parallel-impl calc-parallel-bias-cut calc-single-or-parallel-bias-cut advanced valueOf scanFrom scanOf band-gradient assessOf assess-feas-answer some ell-updateOf rules ruleAt indexIn indexOf ruleLength after numberAt fields-from fields-of field-fault walk-of missing-fault record-fault lengths-fault row-count rows-of feas-step joined digitChar digitsOf digit-count-to digit-count decimal hex signed job-oracle optionsOf dimension-fault band-fault cursor-fault room-fault job-fault step-text run-text first-space job-text program-text
 worked = refl
 
 -- the empty record: refused 10 0
@@ -57,4 +58,4 @@ short-refused = refl
 -- any input of more than 65,536 bytes: refused 11 65536
 pub long-refused : (bytes : List ℕ) → 65536 < length bytes → program-text bytes ≡ 114 ∷ 101 ∷ 102 ∷ 117 ∷ 115 ∷ 101 ∷ 100 ∷ 32 ∷ 49 ∷ 49 ∷ 32 ∷ 54 ∷ 53 ∷ 53 ∷ 51 ∷ 54 ∷ 10 ∷ []
 unfolding pick joined digitChar digitsOf digit-count-to digit-count decimal program-text
-long-refused bytes h = is-hit _ _ _ (lt-ltb 65536 (length bytes) h)
+long-refused bytes h = sym (refuses _ _ (input-tests bytes ⨾ _) (at-first _ (failed (lt-leb (length bytes) 65536 h))) refl)

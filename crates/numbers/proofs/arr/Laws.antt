@@ -6,7 +6,7 @@ use Prim.Native.Nat.{ℕ, zero, suc, _≤_, _<_, _+_, _*_, _-_, min}
 use native.Mathlib.Nat.{mul-le-mul, le-of-suc-le-suc}
 use native.Mathlib.Numerals.{add-one}
 use native.Mathlib.Omega.{arith}
-use borrow.Author.Tests.{not-true, not-false, ltb-true, eqb-true}
+use borrow.Author.Tests.{ltb-true, eqb-true}
 use lib.Dec.{ltb, eqb}
 use lib.ListN.{length, take, drop, getD, set, replicate, length-replicate}
 use lib.Seq.{take-all}
@@ -14,6 +14,7 @@ use lib.Ieee.{Float, nan, neg, ofBits}
 use Rattle.numbers.specs.F64.{_⊕_, _⊗_, 0ᶠ}
 use Rattle.numbers.specs.Arr.{isDimension, dotFrom, dotOf, rowOf, fourOf, tab, mvOf, setDiag, diagOf}
 use Rattle.numbers.specs.declared.arr.Four.{Four}
+use Rattle.numbers.specs.laws.Pick.{says-yes}
 use Rattle.numbers.specs.laws.Arr.{dot-step, dot-end, row-part, tab-getD, FilledTo, filled-start, filled-turn, filled-done, row-in, dimension-most, fourFrom, fourRows}
 
 -- ---- the sum's loop, from its invariant `dotFrom s (drop i a) (drop i b) ≡ d`
@@ -131,15 +132,8 @@ diagonal n v out zeros e h = rw (h, e)
 
 -- ---- tests of the code. `r` is what is_dimension answered.
 
-module _ (n : ℕ) (r : Bool) (e : r ≡ isDimension n) where
-  pub no-dimension : not r ≡ true → isDimension n ≡ false
-  no-dimension t = sym e ∙ not-true r t
-
-  pub a-dimension : not r ≡ false → isDimension n ≡ true
-  a-dimension t = sym e ∙ not-false r t
-
-  pub small : not r ≡ false → n ≤ 32
-  small t = dimension-most n (a-dimension t)
+pub small : (n : ℕ) (r : Bool) → r ≡ isDimension n → not r ≡ false → n ≤ 32
+small n r e t = dimension-most n (says-yes r (isDimension n) e t)
 
 pub square : (n : ℕ) → n ≤ 32 → n * n ≤ 1024
 square n h = omega (arith, mul-le-mul h h)

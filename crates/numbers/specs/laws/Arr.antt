@@ -1,5 +1,5 @@
 -- Laws of the definitions of Arr, for the proofs here and in the crates above. Assumes nothing.
-use mathlib.Core.Bool.{and-eq-true-iff, Bool, true, false, not}
+use mathlib.Core.Bool.{and-eq-true-iff, Bool, true, false}
 use mathlib.Core.Path.{_≡_, refl, sym, ap, _∙_}
 use mathlib.Core.List.{List, [], _∷_, _++_, append-nil}
 use mathlib.Core.Logic.{⊎-elim}
@@ -14,7 +14,7 @@ use lib.Ieee.Fits.{mul-fits}
 use lib.ListN.{length, take, drop, getD, set, replicate, length-append, length-set, length-replicate, drop-of-length-le, getD-replicate, replicate-append-replicate, List·getD-append}
 use lib.Seq.{drop-cons, take-suc, set-at, append-snoc, getD-at, getD-set-same, getD-set-other, ext-getD}
 use Rattle.numbers.specs.F64.{−0ᶠ, _⊕_, _⊗_, 0ᶠ, 1ᶠ}
-use Rattle.numbers.specs.Arr.{dotOf, rowOf, isDimension, dotFrom, tab, setDiag, diagOf, tested}
+use Rattle.numbers.specs.Arr.{dotOf, rowOf, isDimension, dotFrom, tab, setDiag, diagOf}
 use Rattle.numbers.specs.Pick.{pick}
 use Rattle.numbers.specs.declared.arr.Four.{Four}
 use Rattle.numbers.specs.laws.Values.{minus-zero-adds}
@@ -214,26 +214,13 @@ module _ (n : ℕ) (v : List Float) where
 pub eye-at : (n i j : ℕ) → i < n → j < n → getD (diagOf n (replicate n 1ᶠ)) (i * n + j) nan ≡ pick (eqb i j) 1ᶠ 0ᶠ
 eye-at n i j h g = diag-at n (replicate n 1ᶠ) i j h g ∙ rw (getD-replicate n i 1ᶠ nan h)
 
--- ---- the answers of the public calls, by what the tests say
+-- ---- what the test of a dimension says
 
 pub dimension-least : (n : ℕ) → isDimension n ≡ true → 2 ≤ n
 dimension-least n h = leb-true 2 n (and-eq-true-iff (leb 2 n) (leb n 32) .0 h .0)
 
 pub dimension-most : (n : ℕ) → isDimension n ≡ true → n ≤ 32
 dimension-most n h = leb-true n 32 (and-eq-true-iff (leb 2 n) (leb n 32) .0 h .1)
-
-module _ {ℓ} {X : Type ℓ} (n : ℕ) (fit : Bool) (one two done : X) where
-  pub wrong-dimension : isDimension n ≡ false → one ≡ tested n fit one two done
-  unfolding tested
-  wrong-dimension h = hit _ _ _ _ (ap not h) refl
-
-  pub wrong-length : isDimension n ≡ true → fit ≡ false → two ≡ tested n fit one two done
-  unfolding tested
-  wrong-length h k = skip _ _ _ _ (ap not h) (hit _ _ _ _ (ap not k) refl)
-
-  pub accepted : isDimension n ≡ true → fit ≡ true → done ≡ tested n fit one two done
-  unfolding tested
-  accepted h k = skip _ _ _ _ (ap not h) (skip _ _ _ _ (ap not k) refl)
 
 -- ---- a sum from the first product on is one begun at minus zero
 

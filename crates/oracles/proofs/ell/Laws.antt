@@ -12,16 +12,16 @@ use lib.ListN.{length, set, take, drop}
 use lib.Ieee.{Float}
 use Rattle.numbers.specs.F64.{_⊖_, _⊗_, _⊘_, 0ᶠ}
 use Rattle.numbers.specs.Pick.{pick}
-use Rattle.numbers.specs.Arr.{tab, isDimension, mvOf, dotOf}
+use Rattle.numbers.specs.Arr.{tab, mvOf, dotOf}
 use Rattle.numbers.specs.declared.cut.Answer.{Answer}
 use Rattle.numbers.specs.declared.cut.CutChoice.{CutChoice}
 use Rattle.numbers.specs.declared.cut.CutStatus.the-variants.{NoEffect}
-use Rattle.numbers.specs.EllCalc.{made, new-answer}
-use Rattle.numbers.specs.declared.refusal.Refusal.the-variants.{Dimension}
+use Rattle.numbers.specs.EllCalc.{made, new-answer, new-tests}
 use Rattle.numbers.specs.declared.ell_calc.NewEllCalc.{NewEllCalc}
 use Rattle.numbers.specs.declared.ell_calc.NewEllCalc.the-variants.{Made as MadeCalc, Refused as NoCalc}
 use Rattle.numbers.specs.laws.Arr.{length-tab, tab-entry}
-use Rattle.numbers.specs.laws.Pick.{hit, skip, is-hit, is-skip, both-ways, pick-cong, pick-grow, pick-map}
+use Rattle.numbers.specs.laws.Pick.{hit, skip, is-hit, is-skip, both-ways, pick-cong, pick-grow}
+use Rattle.numbers.specs.laws.Refusal.{unless-map}
 use Rattle.oracles.specs.Matrix.{entry, at, grid}
 use Rattle.oracles.specs.laws.Matrix.{length-grid, grid-at, grid-cong}
 use Rattle.oracles.specs.laws.Loop.{MatrixOf, matrix-set, matrix-grid, swept-by, by-zero, by-left, by-past, by-turn, by-done, part-long, part-entry, part-turn}
@@ -138,7 +138,7 @@ from-calc n kappa (NoCalc why) = NotMade why
 
 pub made-from : (n : ℕ) (kappa : Float) → from-calc n kappa (new-answer n) ≡ new-ell-answer n kappa
 unfolding new-answer new-ell-answer
-made-from n kappa = pick-map (from-calc n kappa) (not (isDimension n)) (NoCalc Dimension) (MadeCalc (made n))
+made-from n kappa = unless-map (from-calc n kappa) (new-tests n) (λ why place. NoCalc why) (MadeCalc (made n))
 
 -- ---- the ways through an update, from what its calls answered
 

@@ -16,15 +16,15 @@ use lib.Seq.{getD-at, getD-append-add, getD-take, getD-drop, getD-set-same, getD
 use Rattle.numbers.specs.F64.{_⊕_, _⊖_, _⊗_, _⊘_, 0ᶠ, 1ᶠ}
 use Rattle.numbers.specs.Pick.{pick}
 use Rattle.numbers.specs.Arr.{tab, isDimension}
-use Rattle.numbers.specs.EllCalc.{made, new-answer}
-use Rattle.numbers.specs.declared.refusal.Refusal.the-variants.{Dimension}
+use Rattle.numbers.specs.EllCalc.{made, new-answer, new-tests}
 use Rattle.numbers.specs.declared.cut.Answer.{Answer}
 use Rattle.numbers.specs.declared.cut.CutChoice.{CutChoice}
 use Rattle.numbers.specs.declared.cut.CutStatus.the-variants.{NoEffect}
 use Rattle.numbers.specs.declared.ell_calc.NewEllCalc.{NewEllCalc}
 use Rattle.numbers.specs.declared.ell_calc.NewEllCalc.the-variants.{Made as MadeCalc, Refused as NoCalc}
 use Rattle.numbers.specs.laws.Arr.{length-tab, FilledTo, filled-turn, tab-entry, tab-ext, tab-cong}
-use Rattle.numbers.specs.laws.Pick.{hit, skip, is-hit, is-skip, both-ways, pick-cong, pick-map}
+use Rattle.numbers.specs.laws.Pick.{hit, skip, is-hit, is-skip, both-ways, pick-cong}
+use Rattle.numbers.specs.laws.Refusal.{unless-map}
 use Rattle.oracles.specs.Matrix.{entry, at, total}
 use Rattle.oracles.specs.laws.Matrix.{total-turn, total-cong}
 use Rattle.oracles.specs.laws.Loop.{VectorOf, MatrixOf, swept, sweep-start, sweep-left, sweep-past, sweep-turn, swept-by, by-start, by-left, by-past, by-done, part-long, part-entry, part-turn}
@@ -326,7 +326,7 @@ from-calc n kappa (NoCalc why) = NotMade why
 
 pub made-from : (n : ℕ) (kappa : Float) → from-calc n kappa (new-answer n) ≡ new-ell-stable-answer n kappa
 unfolding new-answer new-ell-stable-answer
-made-from n kappa = pick-map (from-calc n kappa) (not (isDimension n)) (NoCalc Dimension) (MadeCalc (made n))
+made-from n kappa = unless-map (from-calc n kappa) (new-tests n) (λ why place. NoCalc why) (MadeCalc (made n))
 
 -- ---- the ways through an update, from what its calls answered
 

@@ -1,5 +1,5 @@
 -- Laws that the proofs of lmi_oracle alone use. Assumes nothing.
-use mathlib.Core.Path.{_≡_, refl, sym, ap, _∙_}
+use mathlib.Core.Path.{_≡_, refl, sym, _∙_}
 use mathlib.Core.Bool.{Bool, true, false, not, _&&_, and-eq-true-iff}
 use mathlib.Core.List.{List}
 use Prim.Native.Nat.{ℕ, _≤_, _<_, _+_, _-_, _*_}
@@ -13,9 +13,10 @@ use lib.Ieee.{Float, neg}
 use Rattle.numbers.specs.declared.cut.CutChoice.the-variants.{Single}
 use Rattle.numbers.specs.F64.{_⊗_, 1ᶠ}
 use Rattle.numbers.specs.Arr.{isDimension, tab}
-use Rattle.numbers.specs.declared.refusal.Refusal.the-variants.{Dimension, Length}
+use Rattle.numbers.specs.declared.refusal.Refusal.the-variants.{Length}
 use Rattle.numbers.specs.laws.Arr.{row-in, dimension-most}
 use Rattle.numbers.specs.laws.Pick.{hit, skip, says-no, says-yes}
+use Rattle.numbers.specs.laws.Refusal.{failed, held, at-next, refuses, accepts}
 use Rattle.oracles.specs.Matrix.{at}
 use Rattle.oracles.specs.LdltMgr.{isOrder, get-elem, posOf, rowsOf, witnessOf, quadOf}
 use Rattle.oracles.specs.laws.Ldlt.{LmiReads}
@@ -71,27 +72,15 @@ module _ (m n : ℕ) (mat-b mat-f xc : List Float) (b : LmiBuffers) (e : ℕ) (o
 
 -- ---- the answers by what the tests say: `r` is what is_order answered, `s` what is_dimension did, `u` what lengths_fit did
 
-module _ (m n : ℕ) (mat-b mat-f xc : List Float) (b : LmiBuffers) {r : Bool} (e : r ≡ isOrder m) where
-  pub wrong-order : not r ≡ true → (Refused Dimension, b) ≡ lmi-answer m n mat-b mat-f xc b
+module _ (m n : ℕ) (mat-b mat-f xc : List Float) (b : LmiBuffers) {r s u : Bool} (e : r ≡ isOrder m) (f : s ≡ isDimension n) (g : u ≡ lmi-fits m n mat-b mat-f xc b)
+    (h : not r ≡ false) (k : not s ≡ false) where
+  pub wrong-length : not u ≡ true → (Refused Length, b) ≡ lmi-answer m n mat-b mat-f xc b
   unfolding lmi-answer
-  wrong-order h = hit _ _ _ _ (rw (says-no r (isOrder m) e h)) refl
+  wrong-length l = refuses _ _ _ (at-next (held _ _ (says-yes r _ e h)) (at-next (held _ _ (says-yes s _ f k)) (failed (says-no u _ g l)))) refl
 
-  module _ {s : Bool} (f : s ≡ isDimension n) (h : not r ≡ false) where
-    pub wrong-dimension : not s ≡ true → (Refused Dimension, b) ≡ lmi-answer m n mat-b mat-f xc b
-    unfolding lmi-answer
-    wrong-dimension k = hit _ _ _ _ (rw (says-yes r (isOrder m) e h, says-no s (isDimension n) f k)) refl
-
-    module _ {u : Bool} (g : u ≡ lmi-fits m n mat-b mat-f xc b) (k : not s ≡ false) where
-      right : not (isOrder m && isDimension n) ≡ false
-      right = rw (says-yes r (isOrder m) e h, says-yes s (isDimension n) f k)
-
-      pub wrong-length : not u ≡ true → (Refused Length, b) ≡ lmi-answer m n mat-b mat-f xc b
-      unfolding lmi-answer
-      wrong-length l = skip _ _ _ _ right (hit _ _ _ _ (ap not (sym g) ∙ l) refl)
-
-      pub accepted : (v : LmiVerdict) (w : LmiBuffers) → not u ≡ false → (v, w) ≡ lmi-assessOf m n mat-b mat-f xc b → (v, w) ≡ lmi-answer m n mat-b mat-f xc b
-      unfolding lmi-answer
-      accepted v w l x = skip _ _ _ _ right (skip _ _ _ _ (ap not (sym g) ∙ l) x)
+  pub accepted : (v : LmiVerdict) (w : LmiBuffers) → not u ≡ false → (v, w) ≡ lmi-assessOf m n mat-b mat-f xc b → (v, w) ≡ lmi-answer m n mat-b mat-f xc b
+  unfolding lmi-answer
+  accepted v w l x = accepts _ _ _ (at-next (held _ _ (says-yes r _ e h)) (at-next (held _ _ (says-yes s _ f k)) (held _ _ (says-yes u _ g l)))) x
 
 -- what lengths_fit says
 pub lengths : (m n b f x s w g : ℕ) {u : Bool} → u ≡ (eqb b (m * m) && eqb f (n * (m * m)) && eqb x n && eqb s (m * m) && eqb w m && eqb g n) → not u ≡ false

@@ -1,6 +1,6 @@
 -- What the public calls of an oracle answer, by what the tests say. Assumes nothing.
 use mathlib.Core.Path.{_≡_, refl, sym, ap, _∙_, subst}
-use mathlib.Core.Bool.{Bool, true, false, not, _&&_, true≢false}
+use mathlib.Core.Bool.{Bool, true, false, _&&_, true≢false}
 use mathlib.Core.List.{List, [], _∷_}
 use mathlib.Core.Logic.{inl, inr}
 use Prim.Native.Nat.{ℕ, _≤_, _+_, _*_}
@@ -15,14 +15,15 @@ use lib.Signed.{leZ, ltZ}
 use lib.ListN.{length}
 use lib.Ieee.{Float}
 use Rattle.numbers.specs.Arr.{isDimension}
-use Rattle.numbers.specs.laws.Arr.{wrong-dimension, wrong-length, accepted, dimension-least, dimension-most}
+use Rattle.numbers.specs.laws.Arr.{dimension-least, dimension-most}
 use Rattle.numbers.specs.declared.refusal.Refusal.the-variants.{Dimension, Length, Band, Cursor}
-use Rattle.numbers.specs.laws.Pick.{hit, skip, and-parts}
+use Rattle.numbers.specs.laws.Pick.{and-parts}
+use Rattle.numbers.specs.laws.Refusal.{failed, held, at-first, at-next, refuses, accepts}
 use Rattle.oracles.specs.laws.RoundRobin.{legal-band, legal-at}
 use Rattle.oracles.specs.Scan.{isRows, table-fits}
 use Rattle.oracles.specs.LowpassOracle.{bands-fit, cursors-fit, refusedOf, assessOf, assess-feas-answer, optim-of, assess-optim-answer, offered}
 use Rattle.oracles.specs.Verdict.{feasible, refused, asked, is-accepted, is-feasible, judgement, Peak, FeasRule, OptimRule}
-use Rattle.oracles.specs.laws.Assess.{Spans, fit-of, Accepted, accepted-of}
+use Rattle.oracles.specs.laws.Assess.{Spans, fit-of, Accepted, accepted-of, fits-oracle}
 use Rattle.oracles.specs.laws.CursorRule.{feas-rule, optim-rule, refused-unless}
 use Rattle.oracles.specs.laws.OracleAfter.{gradient-length}
 use Rattle.oracles.specs.declared.round_robin.RoundRobin.{RoundRobin}
@@ -54,24 +55,24 @@ module _ (o : LowpassOracle) (n rows : ℕ) (table x grad : List Float) where
 
   pub no-dimension : isDimension n ≡ false → _≡_ {A = Answer} (refusedOf o Dimension, grad) (assess-feas-answer o n rows table x grad)
   unfolding assess-feas-answer
-  no-dimension h = wrong-dimension n _ _ _ _ h
+  no-dimension h = refuses _ _ _ (at-first _ (at-first _ (failed h))) refl
 
   pub no-length : isDimension n ≡ true → fits ≡ false → _≡_ {A = Answer} (refusedOf o Length, grad) (assess-feas-answer o n rows table x grad)
   unfolding assess-feas-answer
-  no-length d h = wrong-length n _ _ _ _ d h
+  no-length d h = refuses _ _ _ (at-first _ (at-next (held _ _ d) (failed h))) refl
 
   module _ (d : isDimension n ≡ true) (f : fits ≡ true) where
     pub no-bands : bands-fit o rows ≡ false → _≡_ {A = Answer} (refusedOf o Band, grad) (assess-feas-answer o n rows table x grad)
     unfolding assess-feas-answer
-    no-bands h = hit _ _ _ _ (ap not h) refl ∙ accepted n _ _ _ _ d f
+    no-bands h = refuses _ _ _ (at-next (at-next (held _ _ d) (held _ _ f)) (at-first _ (failed h))) refl
 
     pub no-cursors : bands-fit o rows ≡ true → cursors-fit o ≡ false → _≡_ {A = Answer} (refusedOf o Cursor, grad) (assess-feas-answer o n rows table x grad)
     unfolding assess-feas-answer
-    no-cursors b h = skip _ _ _ _ (ap not b) (hit _ _ _ _ (ap not h) refl) ∙ accepted n _ _ _ _ d f
+    no-cursors b h = refuses _ _ _ (at-next (at-next (held _ _ d) (held _ _ f)) (at-next (held _ _ b) (failed h))) refl
 
     pub all-passed : bands-fit o rows ≡ true → cursors-fit o ≡ true → (p : Answer) → p ≡ assessOf o n table x grad → p ≡ assess-feas-answer o n rows table x grad
     unfolding assess-feas-answer
-    all-passed b c p e = skip _ _ _ _ (ap not b) (skip _ _ _ _ (ap not c) e) ∙ accepted n _ _ _ _ d f
+    all-passed b c p e = accepts _ _ _ (fits-oracle o n rows fits (record { dimension = d; long = f; bands = b; cursors = c })) e
 
     -- each band can be scanned
     module _ (b : bands-fit o rows ≡ true) (c : cursors-fit o ≡ true) where

@@ -1,20 +1,20 @@
 -- What the tests of a scan say: the refusals by what a test found, and what is known when all have passed. Assumes nothing.
 use mathlib.Core.Path.{_≡_, refl, sym, ap, _∙_}
-use mathlib.Core.Bool.{Bool, true, false, not, _&&_}
+use mathlib.Core.Bool.{true, false, _&&_}
 use mathlib.Core.List.{List}
 use Prim.Native.Nat.{ℕ, _≤_, _<_, _*_}
 use native.Mathlib.Nat.{mul-le-mul-right, le-trans, le-of-eq}
 use native.Mathlib.Omega.{arith}
-use borrow.Author.Tests.{not-true, not-false, leb-true, eqb-true}
+use borrow.Author.Tests.{leb-true, eqb-true}
 use lib.Dec.{leb, eqb}
 use lib.IntN.{ℤ, pos}
 use lib.Signed.{leZ}
 use lib.ListN.{length}
 use lib.Ieee.{Float}
 use Rattle.numbers.specs.Arr.{isDimension}
-use Rattle.numbers.specs.laws.Arr.{wrong-dimension, wrong-length, accepted}
+use Rattle.numbers.specs.laws.Refusal.{failed, held, at-first, at-next, refuses, accepts}
 use Rattle.numbers.specs.declared.refusal.Refusal.the-variants.{Dimension, Length, Band, Cursor}
-use Rattle.numbers.specs.laws.Pick.{hit, skip, and-parts}
+use Rattle.numbers.specs.laws.Pick.{and-parts}
 use Rattle.oracles.specs.RoundRobin.{isBand, isAt, moved}
 use Rattle.oracles.specs.laws.RoundRobin.{legal-of, Legal}
 use Rattle.oracles.specs.Scan.{isRows, table-fits, band-fits, scanOf, scan-band-answer}
@@ -38,30 +38,22 @@ ready-of n rows table x c S =
 pub scanned : (n rows : ℕ) (table x : List Float) (c : RoundRobin) (lower : Float) (upper : Upper) → Scannable n rows table x c
     → (Scanned (scanOf n table x c lower upper), moved c (scanOf n table x c lower upper .last)) ≡ scan-band-answer n rows table x c lower upper
 unfolding scan-band-answer
-scanned n rows table x c lower upper S =
-    skip _ _ _ _ (ap not (S .band)) (skip _ _ _ _ (ap not (S .at)) refl) ∙ accepted n _ _ _ _ (S .dimension) (S .long)
+scanned n rows table x c lower upper S = accepts _ _ _ (at-next (at-next (held _ _ (S .dimension)) (held _ _ (S .long))) (at-next (held _ _ (S .band)) (held _ _ (S .at)))) refl
 
 module _ (n rows : ℕ) (table x : List Float) (c : RoundRobin) (lower : Float) (upper : Upper) where
   pub no-dimension : isDimension n ≡ false → (Refused Dimension, c) ≡ scan-band-answer n rows table x c lower upper
   unfolding scan-band-answer
-  no-dimension h = wrong-dimension n _ _ _ _ h
+  no-dimension h = refuses _ _ _ (at-first _ (at-first _ (failed h))) refl
 
   pub no-length : isDimension n ≡ true → table-fits n rows table x ≡ false → (Refused Length, c) ≡ scan-band-answer n rows table x c lower upper
   unfolding scan-band-answer
-  no-length d h = wrong-length n _ _ _ _ d h
+  no-length d h = refuses _ _ _ (at-first _ (at-next (held _ _ d) (failed h))) refl
 
   pub no-band : isDimension n ≡ true → table-fits n rows table x ≡ true → band-fits rows (c .lo) (c .hi) ≡ false → (Refused Band, c) ≡ scan-band-answer n rows table x c lower upper
   unfolding scan-band-answer
-  no-band d f h = hit _ _ _ _ (ap not h) refl ∙ accepted n _ _ _ _ d f
+  no-band d f h = refuses _ _ _ (at-next (at-next (held _ _ d) (held _ _ f)) (at-first _ (failed h))) refl
 
   pub no-cursor : isDimension n ≡ true → table-fits n rows table x ≡ true → band-fits rows (c .lo) (c .hi) ≡ true → isAt c ≡ false
       → (Refused Cursor, c) ≡ scan-band-answer n rows table x c lower upper
   unfolding scan-band-answer
-  no-cursor d f b h = skip _ _ _ _ (ap not b) (hit _ _ _ _ (ap not h) refl) ∙ accepted n _ _ _ _ d f
-
--- a test that was made of t, where t is u
-pub passed : {t u : Bool} → t ≡ u → not t ≡ false → u ≡ true
-passed {t} e h = sym e ∙ not-false t h
-
-pub failed : {t u : Bool} → t ≡ u → not t ≡ true → u ≡ false
-failed {t} e h = sym e ∙ not-true t h
+  no-cursor d f b h = refuses _ _ _ (at-next (at-next (held _ _ d) (held _ _ f)) (at-next (held _ _ b) (failed h))) refl

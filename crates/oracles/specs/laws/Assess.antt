@@ -1,25 +1,28 @@
 -- Laws of an assessment: what its tests say, and the ways it can go. Assumes nothing.
-use mathlib.Core.Path.{_≡_, refl, sym}
+use mathlib.Core.Path.{_≡_, refl, sym, ap}
 use mathlib.Core.Bool.{Bool, true, false, not, _&&_, true≢false}
 use mathlib.Core.List.{List}
 use Prim.Native.Nat.{ℕ, _*_, _≤_}
 use native.Mathlib.Omega.{arith}
-use borrow.Author.Tests.{leb-true, le-leb, eqb-true, not-false}
+use borrow.Author.Tests.{leb-true, le-leb, eqb-true}
 use lib.Dec.{leb, eqb}
 use lib.ListN.{length, getD, set, replicate}
 use lib.IntN.{ℤ, pos, negsuc, natAbs}
 use lib.Signed.{leZ}
 use lib.Ieee.{Float, nan, lt, neg}
 use Rattle.numbers.specs.F64.{0ᶠ}
-use Rattle.numbers.specs.Pick.{pick}
-use Rattle.numbers.specs.Arr.{isDimension, tested}
-use Rattle.numbers.specs.declared.refusal.Refusal.the-variants.{Dimension, Length, Band, Cursor}
+use Rattle.numbers.specs.Refusal.{is-fault, ask}
+use Rattle.numbers.specs.Arr.{isDimension, sized}
+use Rattle.numbers.specs.declared.refusal.Refusal.the-variants.{Dimension, Band}
+use Rattle.numbers.specs.declared.refusal.Fault.{Fault}
+use Rattle.numbers.specs.declared.refusal.Fault.the-variants.{Sound}
+use Rattle.numbers.specs.laws.Refusal.{both-sound, ask-sound, sound-is, held, at-next, accepts}
 use Rattle.numbers.specs.declared.cut.CutChoice.the-variants.{Single}
 use Rattle.numbers.specs.laws.Pick.{and-parts, by-test}
 use Rattle.oracles.specs.RoundRobin.{isAt, moved}
 use Rattle.oracles.specs.laws.RoundRobin.{eqZ-true, legal-of, Legal}
 use Rattle.oracles.specs.Scan.{−∞, none, isRows, table-fits, scanOf, violated, band-beta, band-gradient}
-use Rattle.oracles.specs.LowpassOracle.{−1ᶠ, isOf, bands-fit, cursors-fit, after-pass, after-stop, after-middle, assess-sign, assess-middle, assess-stop, assessOf, refusedOf, assess-feas-answer}
+use Rattle.oracles.specs.LowpassOracle.{−1ᶠ, isOf, bands-fit, cursors-fit, after-pass, after-stop, after-middle, assess-sign, assess-middle, assess-stop, assessOf, oracle-tests, assess-tests, assess-feas-answer}
 use Rattle.oracles.specs.Verdict.{is-accepted}
 use Rattle.oracles.specs.declared.round_robin.RoundRobin.{RoundRobin}
 use Rattle.oracles.specs.declared.scan.Upper.the-variants.{Absent, At}
@@ -82,12 +85,30 @@ fit-of o rows b a =
         let w = leb-true s rows h₃ in
         (spans (o .rr1) 0 p b₁ a₁ (omega arith) (omega arith), spans (o .rr3) s rows b₃ a₃ w m, spans (o .rr2) p s b₂ a₂ u (omega arith), omega arith, w)
 
+-- ---- what no fault by refusals 1 to 4 says, and what gives none
+
+pub record OracleFits (o : LowpassOracle) (n rows : ℕ) (fit : Bool) : Type 0 where
+  pub dimension : isDimension n ≡ true
+  pub long : fit ≡ true
+  pub bands : bands-fit o rows ≡ true
+  pub cursors : cursors-fit o ≡ true
+
+module _ (o : LowpassOracle) (n rows : ℕ) (fit : Bool) where
+  pub oracle-fits : oracle-tests o n rows fit ≡ Sound → OracleFits o n rows fit
+  oracle-fits e =
+      let p = both-sound (sized n fit) _ e in
+      let q = both-sound (ask (isDimension n) Dimension) _ (p .0) in
+      let r = both-sound (ask (bands-fit o rows) Band) _ (p .1) in
+      record { dimension = ask-sound _ _ _ (q .0); long = ask-sound _ _ _ (q .1); bands = ask-sound _ _ _ (r .0); cursors = ask-sound _ _ _ (r .1) }
+
+  pub fits-oracle : OracleFits o n rows fit → Sound ≡ oracle-tests o n rows fit
+  fits-oracle f = at-next (at-next (held _ _ (f .dimension)) (held _ _ (f .long))) (at-next (held _ _ (f .bands)) (held _ _ (f .cursors)))
+
 -- ---- an accepted call
 
 -- its tests, and the lengths that they leave
 pub record Accepted (o : LowpassOracle) (n rows : ℕ) (table x grad : List Float) : Type 0 where
   pub dimension : isDimension n ≡ true
-  pub long : (table-fits n rows table x && eqb (length grad) n) ≡ true
   pub table-long : length table ≡ rows * n
   pub x-long : length x ≡ n
   pub grad-long : length grad ≡ n
@@ -96,39 +117,26 @@ pub record Accepted (o : LowpassOracle) (n rows : ℕ) (table x grad : List Floa
 
 pub accepted-of : (o : LowpassOracle) (n rows : ℕ) (table x grad : List Float) → is-accepted o n rows table x grad ≡ true → Accepted o n rows table x grad
 accepted-of o n rows table x grad h =
-    let p₄ = and-parts _ (cursors-fit o) h in
-    let p₃ = and-parts _ (bands-fit o rows) (p₄ .0) in
-    let p₂ = and-parts (isDimension n) (table-fits n rows table x && eqb (length grad) n) (p₃ .0) in
-    let p₁ = and-parts (table-fits n rows table x) (eqb (length grad) n) (p₂ .1) in
+    let f = oracle-fits o n rows (table-fits n rows table x && eqb (length grad) n) (sound-is h) in
+    let p₁ = and-parts (table-fits n rows table x) (eqb (length grad) n) (f .long) in
     let p₀ = and-parts (eqb (length table) (rows * n)) (eqb (length x) n) (p₁ .0) in
     record {
-      dimension = p₂ .0;
-      long = p₂ .1;
+      dimension = f .dimension;
       table-long = eqb-true (length table) (rows * n) (p₀ .0);
       x-long = eqb-true (length x) n (p₀ .1);
       grad-long = eqb-true (length grad) n (p₁ .1);
-      bands = p₃ .1;
-      cursors = p₄ .1;
+      bands = f .bands;
+      cursors = f .cursors;
     }
+
+-- from its tests
+pub accepted-by : (o : LowpassOracle) (n rows : ℕ) (table x grad : List Float) → OracleFits o n rows (table-fits n rows table x && eqb (length grad) n) → is-accepted o n rows table x grad ≡ true
+accepted-by o n rows table x grad f = ap (λ (g : Fault). not (is-fault g)) (sym (fits-oracle o n rows (table-fits n rows table x && eqb (length grad) n) f))
 
 -- it is assessed
 pub accepted-is : (o : LowpassOracle) (n rows : ℕ) (table x grad : List Float) → is-accepted o n rows table x grad ≡ true → assess-feas-answer o n rows table x grad ≡ assessOf o n table x grad
-unfolding assess-feas-answer tested pick
-accepted-is o n rows table x grad h =
-    let a = accepted-of o n rows table x grad h in
-    rw (a .dimension, a .long, a .bands, a .cursors)
-
--- what holds of the four refusals, and of the assessment of an accepted call, holds of the answer
-pub by-refusals : (o : LowpassOracle) (n rows : ℕ) (table x grad : List Float) (P : Assessed × List Float → Type 0)
-    → P (refusedOf o Dimension, grad) → P (refusedOf o Length, grad) → P (refusedOf o Band, grad) → P (refusedOf o Cursor, grad)
-    → (is-accepted o n rows table x grad ≡ true → P (assessOf o n table x grad)) → P (assess-feas-answer o n rows table x grad)
-unfolding assess-feas-answer tested
-by-refusals o n rows table x grad P p₁ p₂ p₃ p₄ f =
-    by-test P (not (isDimension n)) _ _ (λ t. p₁)
-    (λ t₁. by-test P (not (table-fits n rows table x && eqb (length grad) n)) _ _ (λ t. p₂)
-    (λ t₂. by-test P (not (bands-fit o rows)) _ _ (λ t. p₃)
-    (λ t₃. by-test P (not (cursors-fit o)) _ _ (λ t. p₄)
-    (λ t₄. f (rw (not-false (isDimension n) t₁, not-false (table-fits n rows table x && eqb (length grad) n) t₂, not-false (bands-fit o rows) t₃, not-false (cursors-fit o) t₄))))))
+unfolding assess-feas-answer
+accepted-is o n rows table x grad h = sym (accepts _ _ (assess-tests o n rows table x grad) (sym (sound-is h)) refl)
 
 -- ---- the ways of an assessment
 

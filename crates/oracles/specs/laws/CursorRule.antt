@@ -1,5 +1,5 @@
 -- Demand 3: the verdict on a point and its largest stop value follow from the point alone; a cut's row is one of the broken group's and breaks it, wherever the cursors stand. Assumes nothing.
-use mathlib.Core.Path.{_≡_, refl, sym, ap, _∙_}
+use mathlib.Core.Path.{_≡_, refl, sym, ap, subst, _∙_}
 use mathlib.Core.Bool.{Bool, true, false, not, _&&_, true≢false}
 use mathlib.Core.Logic.{inl, inr}
 use mathlib.Core.List.{List}
@@ -8,22 +8,25 @@ use native.Mathlib.Nat.{sub-zero}
 use native.Mathlib.Omega.{arith}
 use borrow.Author.Tests.{le-leb, lt-ltb, le-ltb}
 use lib.Dec.{eqb}
-use lib.ListN.{getD}
+use lib.ListN.{getD, length}
 use lib.IntN.{ℤ, pos, natAbs}
 use lib.Signed.{ltZ}
 use lib.Ieee.{Float, nan, lt, neg, isNan}
 use Rattle.numbers.specs.F64.{0ᶠ}
 use Rattle.numbers.specs.Pick.{pick, some}
-use Rattle.numbers.specs.Refusal.{refusalNumber}
+use Rattle.numbers.specs.Refusal.{refusalNumber, is-fault, unless}
 use Rattle.numbers.specs.declared.refusal.Refusal.{Refusal}
+use Rattle.numbers.specs.declared.refusal.Fault.{Fault}
+use Rattle.numbers.specs.declared.refusal.Fault.the-variants.{Sound}
 use Rattle.numbers.specs.declared.cut.CutChoice.the-variants.{Single}
 use Rattle.numbers.specs.laws.Pick.{none-some, some-holds}
+use Rattle.numbers.specs.laws.Refusal.{of-test, of-chain, by-tests}
 use Rattle.oracles.specs.laws.RoundRobin.{eqZ-yes}
 use Rattle.oracles.specs.laws.FloatOrder.{only-nan}
-use Rattle.oracles.specs.Scan.{−∞, none, valueOf, scanOf, band-beta}
+use Rattle.oracles.specs.Scan.{−∞, none, valueOf, scanOf, band-beta, table-fits}
 use Rattle.oracles.specs.laws.Scan.{row-breaks, Found, Passed, found-in, top-in, passed-in, nothing-none, broken-some}
-use Rattle.oracles.specs.LowpassOracle.{offered, assessOf, improvedOf, optim-of, assess-feas-answer, assess-optim-answer}
-use Rattle.oracles.specs.laws.Assess.{Spans, Fit, fit-of, pass-scan, stop-scan, middle-scan, pass-left, stop-left, middle-left, assess-cases, accepted-of, accepted-is, by-refusals}
+use Rattle.oracles.specs.LowpassOracle.{offered, assessOf, improvedOf, optim-of, oracle-tests, assess-tests, assess-feas-answer, assess-optim-answer}
+use Rattle.oracles.specs.laws.Assess.{Spans, Fit, fit-of, pass-scan, stop-scan, middle-scan, pass-left, stop-left, middle-left, assess-cases, accepted-of, accepted-is}
 use Rattle.oracles.specs.Verdict.{refused, Question, stop-start, valueIn, sign-breaks, judge, no-stop-value, asked, is-accepted, judgement, side-breaks, cut-breaks, cut-stands, Has, Peak, FeasRule, as-feas, is-six, is-feasible, OptimRule}
 use Rattle.oracles.specs.laws.Judge.{pass-broken, stop-broken, middle-broken, judge-pass, judge-stop, judge-middle, judge-sign, judge-answers}
 use Rattle.oracles.specs.declared.round_robin.RoundRobin.{RoundRobin}
@@ -204,20 +207,34 @@ optim-rule o gamma n rows table x grad h =
 
 -- ---- what is not accepted is refused, by 1 to 4
 
+-- a fault, if it is one, is not by refusal 6
+pub record NotSix (f : Fault) : Type 0 where
+  pub no : unless f (λ why place. eqb (refusalNumber why) 6) false ≡ false
+
+pub not-six : (o : LowpassOracle) (n rows : ℕ) (fit : Bool) → NotSix (oracle-tests o n rows fit)
+not-six o n rows fit =
+    let z : NotSix Sound = record { no = refl } in
+    of-chain NotSix _ _ (of-chain NotSix _ _ (of-test NotSix _ _ _ z (record { no = refl })) (of-test NotSix _ _ _ z (record { no = refl })))
+    (of-chain NotSix _ _ (of-test NotSix _ _ _ z (record { no = refl })) (of-test NotSix _ _ _ z (record { no = refl })))
+
+no-fault-no : (o : LowpassOracle) (n rows : ℕ) (table x grad : List Float) → is-accepted o n rows table x grad ≡ false → assess-tests o n rows table x grad ≡ Sound → ⊥
+no-fault-no o n rows table x grad h e = true≢false (ap (λ (f : Fault). not (is-fault f)) (sym e) ∙ h)
+
 -- `assess_feas`
 pub refused-unless : (o : LowpassOracle) (n rows : ℕ) (table x grad : List Float) → is-accepted o n rows table x grad ≡ false → judgement (assess-feas-answer o n rows table x grad .0 .verdict) ≡ refused
-refused-unless o n rows table x grad =
-    by-refusals o n rows table x grad (λ r. is-accepted o n rows table x grad ≡ false → judgement (r .0 .verdict) ≡ refused)
-    (λ h. refl) (λ h. refl) (λ h. refl) (λ h. refl) (λ e h. absurd (true≢false (sym e ∙ h)))
+unfolding assess-feas-answer
+refused-unless o n rows table x grad h =
+    by-tests (λ (r : Assessed × List Float). judgement (r .0 .verdict) ≡ refused) (assess-tests o n rows table x grad) _ _
+    (λ why place e. refl) (λ e. absurd (no-fault-no o n rows table x grad h e))
 
 -- `assess_optim`; none of these is 6
 pub optim-refused-unless : (o : LowpassOracle) (gamma : Float) (n rows : ℕ) (table x grad : List Float) → is-accepted o n rows table x grad ≡ false
     → judgement (as-feas (assess-optim-answer o gamma n rows table x grad .0 .verdict)) ≡ refused
-unfolding pick
-optim-refused-unless o gamma n rows table x grad =
-    by-refusals (offered o gamma) n rows table x grad
-    (λ r. is-accepted o n rows table x grad ≡ false → judgement (as-feas (optim-of o gamma n table (r .0 .oracle) (r .0 .verdict) (r .1) .0 .verdict)) ≡ refused)
-    (λ h. refl) (λ h. refl) (λ h. refl) (λ h. refl) (λ e h. absurd (true≢false (sym e ∙ h)))
+unfolding assess-feas-answer pick
+optim-refused-unless o gamma n rows table x grad h =
+    by-tests (λ (r : Assessed × List Float). judgement (as-feas (optim-of o gamma n table (r .0 .oracle) (r .0 .verdict) (r .1) .0 .verdict)) ≡ refused)
+    (assess-tests o n rows table x grad) _ _
+    (λ why place e. rw (subst NotSix e (not-six o n rows (table-fits n rows table x && eqb (length grad) n)) .no)) (λ e. absurd (no-fault-no o n rows table x grad h e))
 
 -- so 6 comes exactly from an accepted call, on a feasible point, where no stop value compares
 pub six-exactly : (o : LowpassOracle) (gamma : Float) (n rows : ℕ) (table x grad : List Float)

@@ -11,19 +11,20 @@ use lib.Ieee.{Float}
 use Rattle.numbers.specs.F64.{_⊖_, _⊗_, _⊘_, 0ᶠ}
 use Rattle.numbers.specs.Pick.{pick}
 use Rattle.numbers.specs.Arr.{isDimension, dotOf, mvOf}
-use Rattle.numbers.specs.laws.Arr.{length-tab, accepted}
-use Rattle.numbers.specs.EllCalc.{made}
+use Rattle.numbers.specs.laws.Arr.{length-tab}
+use Rattle.numbers.specs.EllCalc.{made, new-tests}
 use Rattle.numbers.specs.declared.refusal.Refusal.{Refusal}
-use Rattle.numbers.specs.declared.refusal.Refusal.the-variants.{Dimension, Length}
 use Rattle.numbers.specs.declared.cut.Answer.{Answer}
 use Rattle.numbers.specs.declared.cut.CutChoice.{CutChoice}
 use Rattle.numbers.specs.declared.cut.CutStatus.{CutStatus}
 use Rattle.numbers.specs.declared.cut.CutStatus.the-variants.{Success, NoEffect}
-use Rattle.numbers.specs.laws.Pick.{hit, skip, is-skip, by-test}
+use Rattle.numbers.specs.laws.Pick.{hit, skip, by-test}
+use Rattle.numbers.specs.laws.Refusal.{held, at-next, accepts, by-tests, ask-sound}
+use Rattle.oracles.specs.declared.ell.NewEll.{NewEll}
 use Rattle.oracles.specs.Matrix.{entry, at}
 use Rattle.oracles.specs.EllCommon.{calcOf, is-tiny, is-success, centreOf}
-use Rattle.oracles.specs.laws.EllCommon.{by-tested, success-is, length-centre, centre-at}
-use Rattle.oracles.specs.Ell.{EllBuffers, new-ell-answer, rank-one, with-tsq, ell-said, ell-updateOf, ell-fits, ell-update-answer}
+use Rattle.oracles.specs.laws.EllCommon.{success-is, length-centre, centre-at}
+use Rattle.oracles.specs.Ell.{EllBuffers, new-ell-answer, rank-one, with-tsq, ell-said, ell-updateOf, ell-fits, ell-update-answer, ell-tests}
 use Rattle.oracles.specs.laws.Ell.{length-rank-one, rank-one-at, rank-one-symmetric}
 use Rattle.oracles.specs.declared.ell_common.CutStrategy.{CutStrategy}
 use Rattle.oracles.specs.declared.ell_common.Update.the-variants.{Status, Refused}
@@ -45,15 +46,15 @@ pub record NewEllIs (n : ℕ) (kappa : Float) (e : Ell) : Type 0 where
 pub ell-new : (n : ℕ) (kappa : Float) (e : Ell) → new-ell-answer n kappa ≡ Made e → NewEllIs n kappa e
 unfolding new-ell-answer made
 ell-new n kappa e =
-    by-test (λ r. r ≡ Made e → NewEllIs n kappa e) (not (isDimension n)) _ _ (λ t h. absurd (let z : _≡_ {A = ℕ} 0 1 = cc in omega arith))
+    by-tests (λ (r : NewEll). r ≡ Made e → NewEllIs n kappa e) (new-tests n) _ _ (λ why place t h. absurd (let z : _≡_ {A = ℕ} 0 1 = cc in omega arith))
     (λ t h.
     let q : e ≡ record { ndim = n; kappa = kappa; helper = made n; tsq = 0ᶠ } = cc in
-    record { dimension = not-false _ t; ndim-is = rw q; kappa-is = rw q; tsq-is = rw q; helper-is = rw q; parallel = rw q })
+    record { dimension = ask-sound (isDimension n) _ _ t; ndim-is = rw q; kappa-is = rw q; tsq-is = rw q; helper-is = rw q; parallel = rw q })
 
 -- every n in its range has one
 pub ell-makes : (n : ℕ) (kappa : Float) → isDimension n ≡ true → new-ell-answer n kappa ≡ Made (record { ndim = n; kappa = kappa; helper = made n; tsq = 0ᶠ })
 unfolding new-ell-answer
-ell-makes n kappa d = is-skip (not (isDimension n)) _ _ (ap not d)
+ell-makes n kappa d = sym (accepts _ _ (new-tests n) (held _ _ d) refl)
 
 -- ---- the lengths that n says
 
@@ -140,7 +141,7 @@ module _ (e : Ell) (s : CutStrategy) (grad : List Float) (beta : CutChoice) (b :
 
   -- and what holds of a refusal too holds of the call
   by-answers : (P : EllUpdate × EllBuffers → Type 0) → ((why : Refusal) → P (record { ell = e; answer = Refused why }, b)) → P (ell-updateOf e s grad beta b) → P (ell-update-answer e s grad beta b)
-  by-answers P f g = by-tested P (e .ndim) (ell-fits (e .ndim) grad b) _ _ _ (f Dimension) (f Length) (λ d h. g)
+  by-answers P f g = by-tests P (ell-tests (e .ndim) grad b) _ _ (λ why place h. f why) (λ h. g)
 
   -- n and the calculators stay as they came, whatever the answer
   pub ell-same : (ell-update-answer e s grad beta b .0 .ell .ndim ≡ e .ndim) × (ell-update-answer e s grad beta b .0 .ell .helper ≡ e .helper)
@@ -164,7 +165,7 @@ module _ (e : Ell) (s : CutStrategy) (grad : List Float) (beta : CutChoice) (b :
   -- a call with n in its range and lengths that fit is never refused
   pub ell-answers : isDimension (e .ndim) ≡ true → ell-fits (e .ndim) grad b ≡ true → EllAnswered e s grad beta b (ell-update-answer e s grad beta b)
   unfolding ell-status
-  ell-answers d f = subst (λ r. EllAnswered e s grad beta b r) (accepted (e .ndim) (ell-fits (e .ndim) grad b) _ _ _ d f)
+  ell-answers d f = subst (λ r. EllAnswered e s grad beta b r) (accepts _ _ (ell-tests (e .ndim) grad b) (at-next (held _ _ d) (held _ _ f)) refl)
       (record { is = refl; answer-is = says .0; tsq-is = says .1; grad-t-is = says .2 })
     where
       P : EllUpdate × EllBuffers → Type 0

@@ -1,25 +1,16 @@
 -- Laws that the calls of both ellipsoids share. Assumes nothing.
 use mathlib.Core.Path.{_≡_, refl, sym}
-use mathlib.Core.Bool.{Bool, true, not, true≢false}
+use mathlib.Core.Bool.{true, true≢false}
 use mathlib.Core.List.{List}
 use Prim.Native.Nat.{ℕ, _<_}
-use borrow.Author.Tests.{not-false}
 use lib.ListN.{length}
 use lib.Ieee.{Float}
 use Rattle.numbers.specs.F64.{_⊖_, _⊗_}
-use Rattle.numbers.specs.Arr.{isDimension, tested}
 use Rattle.numbers.specs.laws.Arr.{length-tab, tab-entry}
 use Rattle.numbers.specs.declared.cut.CutStatus.{CutStatus}
 use Rattle.numbers.specs.declared.cut.CutStatus.the-variants.{Success, NoSoln, NoEffect}
-use Rattle.numbers.specs.laws.Pick.{by-test}
 use Rattle.oracles.specs.Matrix.{entry}
 use Rattle.oracles.specs.EllCommon.{is-success, centreOf}
-
--- what holds of a call's two refusals, and of its work where there is none, holds of its answer
-pub by-tested : {X : Type 0} (P : X → Type 0) (n : ℕ) (fit : Bool) (one two done : X) → P one → P two → (isDimension n ≡ true → fit ≡ true → P done) → P (tested n fit one two done)
-unfolding tested
-by-tested P n fit one two done f g k =
-    by-test P (not (isDimension n)) _ _ (λ t. f) (λ t. by-test P (not fit) _ _ (λ u. g) (λ u. k (not-false _ t) (not-false _ u)))
 
 -- Success is the one status that is a success
 pub success-is : (c : CutStatus) → is-success c ≡ true → c ≡ Success

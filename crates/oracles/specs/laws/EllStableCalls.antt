@@ -11,19 +11,20 @@ use lib.Ieee.{Float}
 use Rattle.numbers.specs.F64.{_⊕_, _⊖_, _⊗_, _⊘_, 0ᶠ}
 use Rattle.numbers.specs.Pick.{pick}
 use Rattle.numbers.specs.Arr.{isDimension, tab}
-use Rattle.numbers.specs.laws.Arr.{length-tab, accepted}
-use Rattle.numbers.specs.EllCalc.{made}
+use Rattle.numbers.specs.laws.Arr.{length-tab}
+use Rattle.numbers.specs.EllCalc.{made, new-tests}
 use Rattle.numbers.specs.declared.refusal.Refusal.{Refusal}
-use Rattle.numbers.specs.declared.refusal.Refusal.the-variants.{Dimension, Length}
 use Rattle.numbers.specs.declared.cut.Answer.{Answer}
 use Rattle.numbers.specs.declared.cut.CutChoice.{CutChoice}
 use Rattle.numbers.specs.declared.cut.CutStatus.{CutStatus}
 use Rattle.numbers.specs.declared.cut.CutStatus.the-variants.{Success, NoEffect}
-use Rattle.numbers.specs.laws.Pick.{hit, skip, is-skip, by-test}
+use Rattle.numbers.specs.laws.Pick.{hit, skip, by-test}
+use Rattle.numbers.specs.laws.Refusal.{held, at-next, accepts, by-tests, ask-sound}
+use Rattle.oracles.specs.declared.ell_stable.NewEllStable.{NewEllStable}
 use Rattle.oracles.specs.Matrix.{entry, at}
 use Rattle.oracles.specs.EllCommon.{calcOf, is-tiny, is-success}
-use Rattle.oracles.specs.laws.EllCommon.{by-tested, success-is, length-centre, centre-at}
-use Rattle.oracles.specs.EllStable.{StableBuffers, new-ell-stable-answer, forward, inv-ml-gOf, inv-md-inv-ml-gOf, omegaOf, backward, t-start, tOf, with-tsq, stable-said, prepared, succeeded, stable-updateOf, stable-fits, stable-update-answer}
+use Rattle.oracles.specs.laws.EllCommon.{success-is, length-centre, centre-at}
+use Rattle.oracles.specs.EllStable.{StableBuffers, new-ell-stable-answer, forward, inv-ml-gOf, inv-md-inv-ml-gOf, omegaOf, backward, t-start, tOf, with-tsq, stable-said, prepared, succeeded, stable-updateOf, stable-fits, stable-update-answer, stable-tests}
 use Rattle.oracles.specs.laws.EllStable.{length-lowered, lowered-high, length-updated, updated-low, updated-diagonal, updated-high}
 use Rattle.oracles.specs.declared.ell_common.CutStrategy.{CutStrategy}
 use Rattle.oracles.specs.declared.ell_common.Update.the-variants.{Status, Refused}
@@ -45,15 +46,15 @@ pub record NewStableIs (n : ℕ) (kappa : Float) (e : EllStable) : Type 0 where
 pub stable-new : (n : ℕ) (kappa : Float) (e : EllStable) → new-ell-stable-answer n kappa ≡ Made e → NewStableIs n kappa e
 unfolding new-ell-stable-answer made
 stable-new n kappa e =
-    by-test (λ r. r ≡ Made e → NewStableIs n kappa e) (not (isDimension n)) _ _ (λ t h. absurd (let z : _≡_ {A = ℕ} 0 1 = cc in omega arith))
+    by-tests (λ (r : NewEllStable). r ≡ Made e → NewStableIs n kappa e) (new-tests n) _ _ (λ why place t h. absurd (let z : _≡_ {A = ℕ} 0 1 = cc in omega arith))
     (λ t h.
     let q : e ≡ record { ndim = n; kappa = kappa; helper = made n; tsq = 0ᶠ } = cc in
-    record { dimension = not-false _ t; ndim-is = rw q; kappa-is = rw q; tsq-is = rw q; helper-is = rw q; parallel = rw q })
+    record { dimension = ask-sound (isDimension n) _ _ t; ndim-is = rw q; kappa-is = rw q; tsq-is = rw q; helper-is = rw q; parallel = rw q })
 
 -- every n in its range has one
 pub stable-makes : (n : ℕ) (kappa : Float) → isDimension n ≡ true → new-ell-stable-answer n kappa ≡ Made (record { ndim = n; kappa = kappa; helper = made n; tsq = 0ᶠ })
 unfolding new-ell-stable-answer
-stable-makes n kappa d = is-skip (not (isDimension n)) _ _ (ap not d)
+stable-makes n kappa d = sym (accepts _ _ (new-tests n) (held _ _ d) refl)
 
 -- ---- the lengths that n says
 
@@ -157,7 +158,7 @@ module _ (e : EllStable) (s : CutStrategy) (grad : List Float) (beta : CutChoice
   -- and what holds of a refusal too holds of the call
   by-answers : (P : EllStableUpdate × StableBuffers → Type 0) → ((why : Refusal) → P (record { ell = e; answer = Refused why }, b)) → P (stable-updateOf e s grad beta b)
       → P (stable-update-answer e s grad beta b)
-  by-answers P f g = by-tested P (e .ndim) (stable-fits (e .ndim) grad b) _ _ _ (f Dimension) (f Length) (λ d h. g)
+  by-answers P f g = by-tests P (stable-tests (e .ndim) grad b) _ _ (λ why place h. f why) (λ h. g)
 
   -- n and the calculators stay as they came, whatever the answer
   pub stable-same : (stable-update-answer e s grad beta b .0 .ell .ndim ≡ e .ndim) × (stable-update-answer e s grad beta b .0 .ell .helper ≡ e .helper)
@@ -200,7 +201,7 @@ module _ (e : EllStable) (s : CutStrategy) (grad : List Float) (beta : CutChoice
   pub stable-answers : isDimension (e .ndim) ≡ true → stable-fits (e .ndim) grad b ≡ true → StableAnswered e s grad beta b (stable-update-answer e s grad beta b)
   unfolding stable-status
   stable-answers d f =
-      subst (λ r. StableAnswered e s grad beta b r) (accepted (e .ndim) (stable-fits (e .ndim) grad b) _ _ _ d f) (record { is = refl; answer-is = says .0; tsq-is = says .1 })
+      subst (λ r. StableAnswered e s grad beta b r) (accepts _ _ (stable-tests (e .ndim) grad b) (at-next (held _ _ d) (held _ _ f)) refl) (record { is = refl; answer-is = says .0; tsq-is = says .1 })
     where
       P : EllStableUpdate × StableBuffers → Type 0
       P r =

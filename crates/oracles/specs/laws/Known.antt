@@ -9,7 +9,7 @@ use lib.Ieee.{Float, binary64, add, neg, lt, sub, mul, div, le, ofInt, ofBits, t
 use Rattle.numbers.specs.Pick.{pick}
 use Rattle.numbers.specs.Sqrt.{isqrtTo, isqrt, rounded, sqrtOf}
 use Rattle.numbers.specs.F64.{0ᶠ, 1ᶠ, 2ᶠ}
-use Rattle.numbers.specs.Arr.{tab, dotFrom, dotOf, setDiag, diagOf, tested}
+use Rattle.numbers.specs.Arr.{tab, dotFrom, dotOf, setDiag, diagOf}
 use Rattle.numbers.specs.Cut.{statusNumber, chosen}
 use Rattle.numbers.specs.EllCalcCore.{core-new, core-parallel-bias-cut-fast, core-bias-cut-fast, core-bias-cut}
 use Rattle.numbers.specs.EllCalc.{made, calc-bias-cut, calc-bias-cut-q, calc-parallel-impl, calc-parallel-bias-cut}
@@ -17,7 +17,7 @@ use Rattle.oracles.specs.RoundRobin.{fresh, advanced}
 use Rattle.oracles.specs.Scan.{−∞, none, valueOf, scanFrom, scanOf, band-beta}
 use Rattle.oracles.specs.LowpassOracle.{groupNumber, groupSide, assess-sign, assess-middle, assess-stop, assessOf, assess-feas-answer}
 use Rattle.oracles.specs.Matrix.{grid, total}
-use Rattle.oracles.specs.LdltMgr.{get-elem, taken, reduced, stored, stop-from, stopOf, filled, posOf, rowsOf, factorOf, order-tested, factor-answer, witness-tail, witnessOf, witness-answer, quad-term, quadOf, sym-quad-answer}
+use Rattle.oracles.specs.LdltMgr.{get-elem, taken, reduced, stored, stop-from, stopOf, filled, posOf, rowsOf, factorOf, factor-answer, witness-tail, witnessOf, witness-answer, quad-term, quadOf, sym-quad-answer}
 use Rattle.oracles.specs.declared.ldlt_mgr.Factored.{Factored}
 use Rattle.oracles.specs.declared.ldlt_mgr.Factored.the-variants.{Definite, Stopped, Refused}
 use Rattle.oracles.specs.declared.lowpass_oracle.LowpassOracle.{LowpassOracle}
@@ -177,5 +177,5 @@ rows =
     []
 
 pub known : map (λ r. r .got) rows ≡ map (λ r. r .expected) rows
-unfolding add neg lt sub mul div le tab ofInt ofBits toBits pick isqrtTo isqrt rounded sqrtOf core-new core-parallel-bias-cut-fast core-bias-cut-fast core-bias-cut made calc-bias-cut calc-bias-cut-q calc-parallel-impl calc-parallel-bias-cut dotFrom dotOf setDiag diagOf tested advanced valueOf scanFrom scanOf assess-sign assess-middle assess-stop assessOf assess-feas-answer grid total get-elem taken reduced stored stop-from stopOf filled rowsOf factorOf order-tested witness-tail witnessOf quad-term quadOf
+unfolding add neg lt sub mul div le tab ofInt ofBits toBits pick isqrtTo isqrt rounded sqrtOf core-new core-parallel-bias-cut-fast core-bias-cut-fast core-bias-cut made calc-bias-cut calc-bias-cut-q calc-parallel-impl calc-parallel-bias-cut dotFrom dotOf setDiag diagOf advanced valueOf scanFrom scanOf assess-sign assess-middle assess-stop assessOf assess-feas-answer grid total get-elem taken reduced stored stop-from stopOf filled rowsOf factorOf witness-tail witnessOf quad-term quadOf
 known = refl

@@ -12,13 +12,15 @@ use lib.ListN.{length}
 use lib.Ieee.{Float, neg}
 use Rattle.numbers.specs.F64.{_⊕_, _⊗_, _⊘_, 0ᶠ}
 use Rattle.numbers.specs.Pick.{pick}
+use Rattle.numbers.specs.Refusal.{ask}
 use Rattle.numbers.specs.declared.refusal.Refusal.{Refusal}
-use Rattle.numbers.specs.declared.refusal.Refusal.the-variants.{Dimension, Length}
+use Rattle.numbers.specs.declared.refusal.Refusal.the-variants.{Dimension}
 use Rattle.numbers.specs.declared.arr.Number.the-variants.{Value}
-use Rattle.numbers.specs.laws.Pick.{hit, skip, says-no, says-yes}
+use Rattle.numbers.specs.laws.Pick.{hit, skip, says-yes}
+use Rattle.numbers.specs.laws.Refusal.{ask-sound, both-sound, held, at-next, accepts, by-tests}
 use Rattle.oracles.specs.Matrix.{at, total}
 use Rattle.oracles.specs.laws.Matrix.{length-grid, grid-at, grid-ext}
-use Rattle.oracles.specs.LdltMgr.{isOrder, get-elem, less, taken, reduced, stored, stops, stop-from, stopOf, filled, posOf, rowsOf, factorOf, factor-answer, order-tested, witnessOf, witness-answer}
+use Rattle.oracles.specs.LdltMgr.{isOrder, get-elem, less, taken, reduced, stored, stops, stop-from, stopOf, filled, posOf, rowsOf, factorOf, factor-tests, factor-answer, witnessOf, witness-tests, witness-answer}
 use Rattle.oracles.specs.declared.ldlt_mgr.Pos.{Pos}
 use Rattle.oracles.specs.declared.ldlt_mgr.Factored.{Factored}
 use Rattle.oracles.specs.declared.ldlt_mgr.Factored.the-variants.{Definite, Stopped, Refused}
@@ -26,23 +28,8 @@ use Rattle.oracles.specs.declared.ldlt_mgr.Factored.the-variants.{Defini
 -- ---- the tests of a call
 
 -- `r` is what is_order answered
-module _ (m : ℕ) (r : Bool) (e : r ≡ isOrder m) where
-  pub order-most : not r ≡ false → m ≤ 32
-  order-most t = leb-true m 32 (and-eq-true-iff (leb 1 m) (leb m 32) .0 (says-yes r (isOrder m) e t) .1)
-
-  -- the answers of a call that tests the order, and then its lengths
-  module _ {ℓ} {X : Type ℓ} (fit : Bool) (one two done : X) where
-    pub wrong-order : not r ≡ true → one ≡ order-tested m fit one two done
-    unfolding order-tested
-    wrong-order t = hit _ _ _ _ (ap not (says-no r (isOrder m) e t)) refl
-
-    pub wrong-length : not r ≡ false → fit ≡ false → two ≡ order-tested m fit one two done
-    unfolding order-tested
-    wrong-length t f = skip _ _ _ _ (ap not (says-yes r (isOrder m) e t)) (hit _ _ _ _ (ap not f) refl)
-
-    pub accepted : not r ≡ false → fit ≡ true → done ≡ order-tested m fit one two done
-    unfolding order-tested
-    accepted t f = skip _ _ _ _ (ap not (says-yes r (isOrder m) e t)) (skip _ _ _ _ (ap not f) refl)
+pub order-most : (m : ℕ) (r : Bool) → r ≡ isOrder m → not r ≡ false → m ≤ 32
+order-most m r e t = leb-true m 32 (and-eq-true-iff (leb 1 m) (leb m 32) .0 (says-yes r (isOrder m) e t) .1)
 
 -- ---- the entry
 
@@ -304,16 +291,16 @@ rows-stopped A m storage pos out o f = go (eqb (stopOf A m) 0) refl
         }
 
 pub factor-stopped : (m : ℕ) (mat storage : List Float) (pos : Pos) (out : List Float) → factor-answer m mat storage ≡ (Stopped pos, out) → StoppedAt m pos out
-factor-stopped m mat storage pos out h = go (isOrder m) (eqb (length mat) (m * m) && eqb (length storage) (m * m)) refl refl
-  where
-    go : (s t : Bool) → isOrder m ≡ s → (eqb (length mat) (m * m) && eqb (length storage) (m * m)) ≡ t → StoppedAt m pos out
-    go false t x y = absurd (refused-no Dimension pos (ap said (wrong-order m false (sym x) _ _ _ _ refl ∙ h)))
-    go true false x y = absurd (refused-no Length pos (ap said (wrong-length m true (sym x) _ _ _ _ refl y ∙ h)))
-    go true true x y = rows-stopped (get-elem m mat [] []) m storage pos out x (accepted m true (sym x) _ _ _ _ refl y ∙ h)
+factor-stopped m mat storage pos out =
+    by-tests (λ (r : Factored × List Float). r ≡ (Stopped pos, out) → StoppedAt m pos out) (factor-tests m mat storage) _ _
+    (λ why place e h. absurd (refused-no why pos (ap said h)))
+    (λ e h. rows-stopped (get-elem m mat [] []) m storage pos out (ask-sound (isOrder m) _ _ (both-sound (ask (isOrder m) Dimension) _ e .0)) h)
 
 pub witness-follows : (m : ℕ) (pos : Pos) (out wit : List Float) → StoppedAt m pos out → length wit ≡ m
     → witness-answer m pos out wit ≡ (Value (neg (at m out (pos .end - 1) (pos .end - 1))), witnessOf m pos out wit)
 witness-follows m pos out wit h l =
     sym
-    (skip _ _ _ _ (rw (lt-ltb (pos .start) (pos .end) (h .begun), le-leb (pos .end) m (h .within))) refl
-    ∙ accepted m true (sym (h .order)) _ _ _ _ refl (rw (eq-eqb (length out) (m * m) (h .long), eq-eqb (length wit) m l)))
+    (accepts _ _ (witness-tests m pos out wit)
+    (at-next (at-next (held _ _ (h .order)) (held _ _ (rw (eq-eqb (length out) (m * m) (h .long), eq-eqb (length wit) m l))))
+    (held _ _ (rw (lt-ltb (pos .start) (pos .end) (h .begun), le-leb (pos .end) m (h .within)))))
+    refl)

@@ -17,12 +17,13 @@ use Rattle.numbers.specs.Pick.{pick}
 use Rattle.numbers.specs.Arr.{rowOf}
 use Rattle.numbers.specs.laws.Arr.{row-in}
 use Rattle.numbers.specs.laws.Pick.{by-test}
+use Rattle.numbers.specs.laws.Refusal.{by-tests}
 use Rattle.oracles.specs.RoundRobin.{isAt}
 use Rattle.oracles.specs.laws.RoundRobin.{legal-at}
 use Rattle.oracles.specs.Scan.{−∞, none, band-gradient}
 use Rattle.oracles.specs.laws.Scan.{last-legal}
-use Rattle.oracles.specs.LowpassOracle.{−1ᶠ, bands-fit, offered, assessOf, improvedOf, optim-of, assess-feas-answer, assess-optim-answer}
-use Rattle.oracles.specs.laws.Assess.{fit-of, pass-left, stop-left, middle-left, assess-cases, accepted-of, accepted-is, by-refusals}
+use Rattle.oracles.specs.LowpassOracle.{−1ᶠ, bands-fit, offered, assessOf, improvedOf, optim-of, assess-tests, assess-feas-answer, assess-optim-answer}
+use Rattle.oracles.specs.laws.Assess.{fit-of, pass-left, stop-left, middle-left, assess-cases, accepted-of, accepted-by, accepted-is}
 use Rattle.oracles.specs.Verdict.{asked, limits, is-accepted, FeasRule}
 use Rattle.oracles.specs.laws.CursorRule.{band-found, feas-rule}
 use Rattle.oracles.specs.declared.scan.Upper.the-variants.{Absent, At}
@@ -38,8 +39,9 @@ use Rattle.oracles.specs.declared.lowpass_oracle.AssessedOptim.{Assessed
 
 -- its bands and limits stay, also where the call is refused
 pub assess-kept : (o : LowpassOracle) (n rows : ℕ) (table x grad : List Float) → limits (assess-feas-answer o n rows table x grad .0 .oracle) ≡ limits o
+unfolding assess-feas-answer
 assess-kept o n rows table x grad =
-    by-refusals o n rows table x grad P refl refl refl refl
+    by-tests P (assess-tests o n rows table x grad) _ _ (λ why place e. refl)
     (λ h. assess-cases o n table x grad P (λ row v over e. refl) (λ e₁ row v over e. refl) (λ e₁ e₂ row v over e. refl) (λ e₁ e₂ e₃ e. refl) (λ e₁ e₂ e₃ e. refl))
   where
     P : Assessed × List Float → Type 0
@@ -79,7 +81,8 @@ module _ (o : LowpassOracle) (n rows : ℕ) (table x grad : List Float) (h : is-
   fits-again : (o′ : LowpassOracle) → bands-fit o′ rows ≡ true → isAt (o′ .rr1) ≡ true → isAt (o′ .rr2) ≡ true → isAt (o′ .rr3) ≡ true → is-accepted o′ n rows table x′ grad′ ≡ true
   fits-again o′ b a₁ a₂ a₃ =
       let a = accepted-of o n rows table x grad h in
-      rw (a .dimension, eq-eqb (length table) (rows * n) (a .table-long), eq-eqb (length x′) n hx, eq-eqb (length grad′) n hg, b, a₁, a₂, a₃)
+      accepted-by o′ n rows table x′ grad′
+      (record { dimension = a .dimension; long = rw (eq-eqb (length table) (rows * n) (a .table-long), eq-eqb (length x′) n hx, eq-eqb (length grad′) n hg); bands = b; cursors = rw (a₁, a₂, a₃) })
 
   as-it-came-again : is-accepted o n rows table x′ grad′ ≡ true
   as-it-came-again =

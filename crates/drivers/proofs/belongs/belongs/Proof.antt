@@ -32,7 +32,7 @@ returns-3 c =
     let f = c .before .before .before .assess-feas in
     let a = c .before .before .before .before .before .before .before .before .before .before .before .before .before .before .args in
     let t = c .before .before .before .before .before .if3 .taken in
-    belongs-said (a .job) (a .table .now) (a .x .now) (a .answer) (a .point .now) (a .grad .now) (says-yes _ _ (c .before .before .before .before .before .before .before .before .is-dimension .ensures) (c .before .before .before .before .before .before .before .if1 .left)) (says-yes _ _ refl (c .before .before .before .before .before .before .if2 .left)) _ (hit _ _ _ _ t refl)
+    belongs-said (a .job) (a .table .now) (a .x .now) (a .answer) (a .point .now) (a .grad .now) (says-yes _ _ refl (c .before .before .before .before .before .before .if2 .left)) _ (hit _ _ _ _ t refl)
     (f .result) _ (f .ensures .0) _ (c .said-by .ensures ∙ ap (said-by (f .result .verdict)) (sym t))
 
 assess-feas-requires-2 : tie.Need-assess-feas-requires-2
@@ -49,7 +49,7 @@ returns-4 c =
     let f = c .before .before .before .assess-feas2 in
     let a = c .before .before .before .before .before .before .before .before .before .before .before .before .before .before .args in
     let t = c .before .before .before .before .before .if3 .left in
-    belongs-said (a .job) (a .table .now) (a .x .now) (a .answer) (a .point .now) (a .grad .now) (says-yes _ _ (c .before .before .before .before .before .before .before .before .is-dimension .ensures) (c .before .before .before .before .before .before .before .if1 .left)) (says-yes _ _ refl (c .before .before .before .before .before .before .if2 .left)) _ (skip _ _ _ _ t refl)
+    belongs-said (a .job) (a .table .now) (a .x .now) (a .answer) (a .point .now) (a .grad .now) (says-yes _ _ refl (c .before .before .before .before .before .before .if2 .left)) _ (skip _ _ _ _ t refl)
     (f .result) _ (f .ensures .0) _ (c .said-by2 .ensures ∙ ap (said-by (f .result .verdict)) (sym t))
 
 pub belongs-spec : {M : Type 1} → statement M

@@ -8,8 +8,8 @@ use Rattle.drivers.proofs.cutting_plane.cutting_plane_optim.Tie as tie
 check-requires : tie.Need-check-requires
 check-requires c κs = tt
 
-enum-known-checked : tie.Need-enum-known-checked
-enum-known-checked c = search needs
+enum-known-fault : tie.Need-enum-known-fault
+enum-known-fault c = search needs
 
 enum-told : tie.Need-enum-told
 enum-told c = search needs
@@ -27,8 +27,8 @@ returns-2 : tie.Need-returns-2
 returns-2 c =
     let a = c .before .before .before .before .before .before .before .before .before .before .args in
     let k = c .before .before .before .check in
-    let w = c .before .checked .given in
-    optim-wrong (a .options) (a .rows) (a .table .now) (record { oracle = a .oracle; ell = a .ell; buffers = record { mq = a .mq .now; xc = a .xc .now; grad-t = a .grad-t .now }; grad = a .grad .now; gamma = a .gamma; found = false; best = a .x-best .now }) (k .result) (k .ensures) (w .0 .0) (w .1)
+    let w = c .before .fault .given in
+    optim-wrong (a .options) (a .rows) (a .table .now) (record { oracle = a .oracle; ell = a .ell; buffers = record { mq = a .mq .now; xc = a .xc .now; grad-t = a .grad-t .now }; grad = a .grad .now; gamma = a .gamma; found = false; best = a .x-best .now }) (k .result) (k .ensures) (w .0 .0) (w .0 .1 .0) (w .1)
 
 same-length : tie.Need-same-length
 same-length c = search needs
@@ -56,7 +56,7 @@ cutting-plane-optim-spec =
     tie.close
     (tie.spec
     check-requires
-    enum-known-checked
+    enum-known-fault
     enum-told
     returns
     run-optim-requires

@@ -2,7 +2,7 @@
 use Prim.Native.Nat.{ℕ}
 use mathlib.Core.Path.{_≡_, sym, ap, _∙_}
 use mathlib.Core.List.{List}
-use borrow.Author.Tests.{lt-ltb, le-ltb}
+use borrow.Author.Tests.{le-leb, lt-leb}
 use lib.ListN.{length}
 use lib.Ieee.{Float}
 use Rattle.drivers.specs.declared.job.JobAnswer.{JobAnswer}
@@ -12,7 +12,7 @@ use Rattle.drivers.specs.Trace.{opened-over, opened-read, with-slices, o
 use borrow.Author.Needs.{needs}
 use Rattle.drivers.proofs.trace.open.Statement.{statement}
 use Rattle.drivers.proofs.trace.open.Tie as tie
-use Rattle.numbers.specs.laws.Pick.{hit, skip}
+use Rattle.numbers.specs.laws.Refusal.{failed, held, refuses, accepts}
 
 -- what is opened by what was read
 from-read : (out : List ℕ) (j q : JobAnswer × List Float × List Float × List Float) (r : Opened × List ℕ) → r ≡ opened-read out (j .0) → j ≡ q
@@ -34,7 +34,7 @@ returns c =
     let test = line .before .before in
     let start = test .before .before .before .before .before .before in
     let a = start .args in
-    hit _ _ _ _ (lt-ltb 65536 (length (a .bytes .now)) (test .if1 .taken))
+    refuses _ _ _ (failed (lt-leb (length (a .bytes .now)) 65536 (test .if1 .taken)))
     (ap (λ (p : Text × List ℕ). with-slices (a .table .now) (a .xc .now) (a .mq .now) (opened-over p)) (line .refused-line .ensures))
 
 read-job-requires : tie.Need-read-job-requires
@@ -74,7 +74,7 @@ returns-2 c =
     let start = test .before .before .before .before .before .before in
     let a = start .args in
     let j = reading .read-job in
-    skip _ _ _ _ (le-ltb 65536 (length (a .bytes .now)) (test .if1 .left))
+    accepts _ _ _ (held _ _ (le-leb (length (a .bytes .now)) 65536 (test .if1 .left)))
     (from-read (a .out .now) _ _ _ (opening .open-job .ensures ∙ ap (opened-read (a .out .now)) (sym (read .read .given .1))) (j .ensures))
 
 same-length-6 : tie.Need-same-length-6
@@ -99,7 +99,7 @@ returns-3 c =
     let start = test .before .before .before .before .before .before in
     let a = start .args in
     let j = reading .read-job in
-    skip _ _ _ _ (le-ltb 65536 (length (a .bytes .now)) (test .if1 .left))
+    accepts _ _ _ (held _ _ (le-leb (length (a .bytes .now)) 65536 (test .if1 .left)))
     (from-read (a .out .now) _ _ _ (ap opened-over (line .refused-line2 .ensures) ∙ ap (opened-read (a .out .now)) (sym (read .read2 .given .1))) (j .ensures))
 
 pub open-spec : {M : Type 1} → statement M

@@ -1,9 +1,12 @@
 -- `numbers::arr::dot_mv_into` meets its contract. Assumes nothing.
+use mathlib.Core.Path.{refl}
 use native.Mathlib.Omega.{arith}
 use borrow.Author.Tests.{ne-eqb, eq-eqb}
 use borrow.Author.Needs.{needs}
-use Rattle.numbers.specs.laws.Arr.{dimension-least, dimension-most, wrong-dimension, wrong-length, accepted}
-use Rattle.numbers.proofs.arr.Laws.{no-dimension, a-dimension, small, square, no-left, no-right, both}
+use Rattle.numbers.specs.laws.Arr.{dimension-least, dimension-most}
+use Rattle.numbers.specs.laws.Pick.{says-no, says-yes}
+use Rattle.numbers.specs.laws.Refusal.{failed, held, at-first, at-next, refuses, accepts}
+use Rattle.numbers.proofs.arr.Laws.{small, square, no-left, no-right, both}
 use Rattle.numbers.proofs.arr.dot_mv_into.Statement.{statement}
 use Rattle.numbers.proofs.arr.dot_mv_into.Tie as tie
 
@@ -12,9 +15,8 @@ is-dimension-requires c κs = search needs
 
 returns : tie.Need-returns
 returns c =
-    let n = c .before .before .before .before .before .args .n in
     let d = c .before .is-dimension in
-    wrong-dimension _ _ _ _ _ (no-dimension n (d .result) (d .ensures) (c .if1 .taken))
+    refuses _ _ _ (at-first _ (failed (says-no _ _ (d .ensures) (c .if1 .taken)))) refl
 
 mul-if2 : tie.Need-mul-if2
 mul-if2 c =
@@ -24,30 +26,24 @@ mul-if2 c =
 
 returns-2 : tie.Need-returns-2
 returns-2 c =
-    let n = c .before .before .before .before .before .before .args .n in
     let d = c .before .before .is-dimension in
-    wrong-length _ _ _ _ _ (a-dimension n (d .result) (d .ensures) (c .before .if1 .left))
-    (no-left _ _ (no-left _ _ (ne-eqb _ _ (c .if2 .taken))))
+    refuses _ _ _ (at-next (held _ _ (says-yes _ _ (d .ensures) (c .before .if1 .left))) (failed (no-left _ _ (no-left _ _ (ne-eqb _ _ (c .if2 .taken)))))) refl
 
 returns-3 : tie.Need-returns-3
 returns-3 c =
-    let n = c .before .before .before .before .before .before .before .args .n in
     let d = c .before .before .before .is-dimension in
-    wrong-length _ _ _ _ _ (a-dimension n (d .result) (d .ensures) (c .before .before .if1 .left))
-    (no-left _ _ (no-right _ _ (eq-eqb _ _ (c .before .if2 .left)) (ne-eqb _ _ (c .if3 .taken))))
+    refuses _ _ _ (at-next (held _ _ (says-yes _ _ (d .ensures) (c .before .before .if1 .left))) (failed (no-left _ _ (no-right _ _ (eq-eqb _ _ (c .before .if2 .left)) (ne-eqb _ _ (c .if3 .taken)))))) refl
 
 returns-4 : tie.Need-returns-4
 returns-4 c =
-    let n = c .before .before .before .before .before .before .before .before .args .n in
     let d = c .before .before .before .before .is-dimension in
-    wrong-length _ _ _ _ _ (a-dimension n (d .result) (d .ensures) (c .before .before .before .if1 .left))
-    (no-right _ _ (both _ _ (eq-eqb _ _ (c .before .before .if2 .left)) (eq-eqb _ _ (c .before .if3 .left))) (ne-eqb _ _ (c .if4 .taken)))
+    refuses _ _ _ (at-next (held _ _ (says-yes _ _ (d .ensures) (c .before .before .before .if1 .left))) (failed (no-right _ _ (both _ _ (eq-eqb _ _ (c .before .before .if2 .left)) (eq-eqb _ _ (c .before .if3 .left))) (ne-eqb _ _ (c .if4 .taken))))) refl
 
 rows-into-requires : tie.Need-rows-into-requires
 rows-into-requires c κs =
     let n = c .before .before .before .before .before .before .before .before .before .args .n in
     let d = c .before .before .before .before .before .is-dimension in
-    let known = a-dimension n (d .result) (d .ensures) (c .before .before .before .before .if1 .left) in
+    let known = says-yes _ _ (d .ensures) (c .before .before .before .before .if1 .left) in
     (dimension-least n known, dimension-most n known, search needs, search needs, search needs)
 
 same-length : tie.Need-same-length
@@ -56,11 +52,10 @@ same-length c = search needs
 returns-5 : tie.Need-returns-5
 returns-5 c =
     let e = c .before .before .before .before in
-    let n = e .before .before .before .before .before .before .before .before .args .n in
     let d = e .before .before .before .before .is-dimension in
-    let known = a-dimension n (d .result) (d .ensures) (e .before .before .before .if1 .left) in
+    let known = says-yes _ _ (d .ensures) (e .before .before .before .if1 .left) in
     let fit = both _ _ (both _ _ (eq-eqb _ _ (e .before .before .if2 .left)) (eq-eqb _ _ (e .before .if3 .left))) (eq-eqb _ _ (e .if4 .left)) in
-    rw (c .before .before .rows-into .ensures) (accepted _ _ _ _ _ known fit)
+    rw (c .before .before .rows-into .ensures) (accepts _ _ _ (at-next (held _ _ known) (held _ _ fit)) refl)
 
 pub dot-mv-into-spec : {M : Type 1} → statement M
 dot-mv-into-spec =

@@ -1,13 +1,14 @@
 -- `numbers::arr::eye` meets its contract. Assumes nothing.
-use mathlib.Core.Path.{sym, ap, _∙_}
+use mathlib.Core.Path.{refl, sym, ap, _∙_}
 use Prim.Native.Nat.{_≤_}
 use native.Mathlib.Omega.{arith}
 use borrow.Author.Tests.{ne-eqb, eq-eqb}
 use borrow.Author.Needs.{needs}
 use Rattle.numbers.specs.F64.{1ᶠ}
 use Rattle.numbers.specs.Arr.{diagOf}
-use Rattle.numbers.specs.laws.Arr.{wrong-dimension, wrong-length, accepted}
-use Rattle.numbers.proofs.arr.Laws.{same-long, take-replicate, no-dimension, a-dimension, small, square}
+use Rattle.numbers.specs.laws.Pick.{says-no, says-yes}
+use Rattle.numbers.specs.laws.Refusal.{failed, held, at-first, at-next, refuses, accepts}
+use Rattle.numbers.proofs.arr.Laws.{same-long, take-replicate, small, square}
 use Rattle.numbers.proofs.arr.eye.Statement.{statement}
 use Rattle.numbers.proofs.arr.eye.Tie as tie
 
@@ -16,9 +17,8 @@ is-dimension-requires c κs = search needs
 
 returns : tie.Need-returns
 returns c =
-    let n = c .before .before .before .args .n in
     let d = c .before .is-dimension in
-    wrong-dimension _ _ _ _ _ (no-dimension n (d .result) (d .ensures) (c .if1 .taken))
+    refuses _ _ _ (at-first _ (failed (says-no _ _ (d .ensures) (c .if1 .taken)))) refl
 
 mul-if2 : tie.Need-mul-if2
 mul-if2 c =
@@ -28,10 +28,8 @@ mul-if2 c =
 
 returns-2 : tie.Need-returns-2
 returns-2 c =
-    let n = c .before .before .before .before .args .n in
     let d = c .before .before .is-dimension in
-    wrong-length _ _ _ _ _ (a-dimension n (d .result) (d .ensures) (c .before .if1 .left))
-    (ne-eqb _ _ (c .if2 .taken))
+    refuses _ _ _ (at-next (held _ _ (says-yes _ _ (d .ensures) (c .before .if1 .left))) (failed (ne-eqb _ _ (c .if2 .taken)))) refl
 
 array-share-prefix-ones : tie.Need-array-share-prefix-ones
 array-share-prefix-ones c =
@@ -61,7 +59,7 @@ returns-3 c =
     let d = c .before .before .before .before .before .before .before .is-dimension in
     let h = c .before .before .before .before .before .before .if1 .left in
     rw (c .before .before .diagonal-into .ensures ∙ ap (diagOf n) (take-replicate n 32 1ᶠ (small n (d .result) (d .ensures) h)))
-    (accepted _ _ _ _ _ (a-dimension n (d .result) (d .ensures) h) (eq-eqb _ _ (c .before .before .before .before .before .if2 .left)))
+    (accepts _ _ _ (at-next (held _ _ (says-yes _ _ (d .ensures) h)) (held _ _ (eq-eqb _ _ (c .before .before .before .before .before .if2 .left)))) refl)
 
 pub eye-spec : {M : Type 1} → statement M
 eye-spec =

@@ -1,11 +1,13 @@
 -- `oracles::ldlt_mgr::factor` meets its contract. Assumes nothing.
-use mathlib.Core.Path.{_∙_}
+use mathlib.Core.Path.{refl, _∙_}
 use native.Mathlib.Nat.{mul-le-mul}
 use native.Mathlib.Omega.{arith}
 use borrow.Author.Tests.{eq-eqb, ne-eqb}
 use borrow.Author.Needs.{needs}
+use Rattle.numbers.specs.laws.Pick.{says-no, says-yes}
+use Rattle.numbers.specs.laws.Refusal.{failed, held, at-first, at-next, refuses, accepts}
 use Rattle.oracles.specs.LdltMgr.{get-elem}
-use Rattle.oracles.specs.laws.Ldlt.{order-most, wrong-order, wrong-length, accepted, plain-reads}
+use Rattle.oracles.specs.laws.Ldlt.{order-most, plain-reads}
 use Rattle.oracles.proofs.ldlt_mgr.Laws.{definite, stopped-at}
 use Rattle.oracles.proofs.ldlt_mgr.factor.Statement.{statement}
 use Rattle.oracles.proofs.ldlt_mgr.factor.Tie as tie
@@ -14,7 +16,7 @@ is-order-requires : tie.Need-is-order-requires
 is-order-requires c κs = search needs
 
 returns : tie.Need-returns
-returns c = wrong-order _ _ (c .before .is-order .ensures) _ _ _ _ (c .if1 .taken)
+returns c = refuses _ _ _ (at-first _ (failed (says-no _ _ (c .before .is-order .ensures) (c .if1 .taken)))) refl
 
 mul-if2 : tie.Need-mul-if2
 mul-if2 c =
@@ -22,7 +24,7 @@ mul-if2 c =
     omega (arith, mul-le-mul h h)
 
 returns-2 : tie.Need-returns-2
-returns-2 c = wrong-length _ _ (c .before .before .is-order .ensures) _ _ _ _ (c .before .if1 .left) (rw (ne-eqb _ _ (c .if2 .taken)))
+returns-2 c = refuses _ _ _ (at-next (held _ _ (says-yes _ _ (c .before .before .is-order .ensures) (c .before .if1 .left))) (failed (rw (ne-eqb _ _ (c .if2 .taken))))) refl
 
 mul-if3 : tie.Need-mul-if3
 mul-if3 c = search needs
@@ -30,7 +32,7 @@ mul-if3 c = search needs
 returns-3 : tie.Need-returns-3
 returns-3 c =
     let e = c .before .before in
-    wrong-length _ _ (e .before .is-order .ensures) _ _ _ _ (e .if1 .left) (rw (eq-eqb _ _ (c .before .if2 .left), ne-eqb _ _ (c .if3 .taken)))
+    refuses _ _ _ (at-next (held _ _ (says-yes _ _ (e .before .is-order .ensures) (e .if1 .left))) (failed (rw (eq-eqb _ _ (c .before .if2 .left), ne-eqb _ _ (c .if3 .taken))))) refl
 
 slice-aggregate-factor-rows : tie.Need-slice-aggregate-factor-rows
 slice-aggregate-factor-rows c = search needs
@@ -50,7 +52,7 @@ returns-4 : tie.Need-returns-4
 returns-4 c =
     let e = c .before .before .before .before .before .before .before in
     definite (get-elem _ _ _ _) _ _ _ _ (c .before .before .before .factor-rows .ensures) (c .if4 .taken)
-    ∙ accepted _ _ (e .before .before .before .is-order .ensures) _ _ _ _ (e .before .before .if1 .left) (rw (eq-eqb _ _ (e .before .if2 .left), eq-eqb _ _ (e .if3 .left)))
+    ∙ accepts _ _ _ (at-next (held _ _ (says-yes _ _ (e .before .before .before .is-order .ensures) (e .before .before .if1 .left))) (held _ _ (rw (eq-eqb _ _ (e .before .if2 .left), eq-eqb _ _ (e .if3 .left))))) refl
 
 same-length-2 : tie.Need-same-length-2
 same-length-2 c = search needs
@@ -59,7 +61,7 @@ returns-5 : tie.Need-returns-5
 returns-5 c =
     let e = c .before .before .before .before .before .before .before in
     stopped-at (get-elem _ _ _ _) _ _ _ _ (c .before .before .before .factor-rows .ensures) (c .if4 .left)
-    ∙ accepted _ _ (e .before .before .before .is-order .ensures) _ _ _ _ (e .before .before .if1 .left) (rw (eq-eqb _ _ (e .before .if2 .left), eq-eqb _ _ (e .if3 .left)))
+    ∙ accepts _ _ _ (at-next (held _ _ (says-yes _ _ (e .before .before .before .is-order .ensures) (e .before .before .if1 .left))) (held _ _ (rw (eq-eqb _ _ (e .before .if2 .left), eq-eqb _ _ (e .if3 .left))))) refl
 
 pub factor-spec : {M : Type 1} → statement M
 factor-spec =

@@ -1,12 +1,13 @@
 -- `oracles::ldlt_mgr::sym_quad` meets its contract. Assumes nothing.
-use mathlib.Core.Path.{refl, ap, _∙_}
+use mathlib.Core.Path.{refl, ap}
 use native.Mathlib.Nat.{mul-le-mul}
 use native.Mathlib.Omega.{arith}
 use borrow.Author.Tests.{le-leb, lt-leb, eq-eqb, ne-eqb}
 use borrow.Author.Needs.{needs}
+use Rattle.numbers.specs.laws.Pick.{says-no, says-yes}
+use Rattle.numbers.specs.laws.Refusal.{failed, held, at-first, at-next, refuses, accepts}
 use Rattle.numbers.specs.declared.arr.Number.the-variants.{Value}
-use Rattle.numbers.specs.laws.Pick.{hit, skip}
-use Rattle.oracles.specs.laws.Ldlt.{order-most, wrong-order, wrong-length, accepted}
+use Rattle.oracles.specs.laws.Ldlt.{order-most}
 use Rattle.oracles.proofs.ldlt_mgr.sym_quad.Statement.{statement}
 use Rattle.oracles.proofs.ldlt_mgr.sym_quad.Tie as tie
 
@@ -14,10 +15,10 @@ is-order-requires : tie.Need-is-order-requires
 is-order-requires c κs = search needs
 
 returns : tie.Need-returns
-returns c = wrong-order _ _ (c .before .is-order .ensures) _ _ _ _ (c .if1 .taken)
+returns c = refuses _ _ _ (at-first _ (at-first _ (failed (says-no _ _ (c .before .is-order .ensures) (c .if1 .taken))))) refl
 
 returns-2 : tie.Need-returns-2
-returns-2 c = wrong-length _ _ (c .before .before .is-order .ensures) _ _ _ _ (c .before .if1 .left) (rw (ne-eqb _ _ (c .if2 .taken)))
+returns-2 c = refuses _ _ _ (at-first _ (at-next (held _ _ (says-yes _ _ (c .before .before .is-order .ensures) (c .before .if1 .left))) (failed (rw (ne-eqb _ _ (c .if2 .taken)))))) refl
 
 mul-if3 : tie.Need-mul-if3
 mul-if3 c =
@@ -28,20 +29,24 @@ mul-if3 c =
 returns-3 : tie.Need-returns-3
 returns-3 c =
     let e = c .before .before in
-    wrong-length _ _ (e .before .is-order .ensures) _ _ _ _ (e .if1 .left) (rw (eq-eqb _ _ (c .before .if2 .left), ne-eqb _ _ (c .if3 .taken)))
+    refuses _ _ _ (at-first _ (at-next (held _ _ (says-yes _ _ (e .before .is-order .ensures) (e .if1 .left))) (failed (rw (eq-eqb _ _ (c .before .if2 .left), ne-eqb _ _ (c .if3 .taken)))))) refl
 
 returns-4 : tie.Need-returns-4
 returns-4 c =
     let e = c .before .before in
-    hit _ _ _ _ (rw (lt-leb _ _ (c .if4 .taken))) refl
-    ∙ accepted _ _ (e .before .before .before .is-order .ensures) _ _ _ _ (e .before .before .if1 .left) (rw (eq-eqb _ _ (e .before .if2 .left), eq-eqb _ _ (e .if3 .left)))
+    refuses _ _ _
+    (at-next (at-next (held _ _ (says-yes _ _ (e .before .before .before .is-order .ensures) (e .before .before .if1 .left))) (held _ _ (rw (eq-eqb _ _ (e .before .if2 .left), eq-eqb _ _ (e .if3 .left)))))
+    (failed (rw (lt-leb _ _ (c .if4 .taken)))))
+    refl
 
 returns-5 : tie.Need-returns-5
 returns-5 c =
     let f = c .before .before in
     let e = f .before .before in
-    hit _ _ _ _ (rw (le-leb _ _ (f .if4 .left), lt-leb _ _ (c .if5 .taken))) refl
-    ∙ accepted _ _ (e .before .before .before .is-order .ensures) _ _ _ _ (e .before .before .if1 .left) (rw (eq-eqb _ _ (e .before .if2 .left), eq-eqb _ _ (e .if3 .left)))
+    refuses _ _ _
+    (at-next (at-next (held _ _ (says-yes _ _ (e .before .before .before .is-order .ensures) (e .before .before .if1 .left))) (held _ _ (rw (eq-eqb _ _ (e .before .if2 .left), eq-eqb _ _ (e .if3 .left)))))
+    (failed (rw (le-leb _ _ (f .if4 .left), lt-leb _ _ (c .if5 .taken)))))
+    refl
 
 quad-requires : tie.Need-quad-requires
 quad-requires c κs =
@@ -52,8 +57,10 @@ returns-6 : tie.Need-returns-6
 returns-6 c =
     let f = c .before .before .before in
     let e = f .before .before in
-    skip _ _ _ _ (rw (le-leb _ _ (f .if4 .left), le-leb _ _ (c .before .if5 .left))) (ap Value (c .quad .ensures))
-    ∙ accepted _ _ (e .before .before .before .is-order .ensures) _ _ _ _ (e .before .before .if1 .left) (rw (eq-eqb _ _ (e .before .if2 .left), eq-eqb _ _ (e .if3 .left)))
+    accepts _ _ _
+    (at-next (at-next (held _ _ (says-yes _ _ (e .before .before .before .is-order .ensures) (e .before .before .if1 .left))) (held _ _ (rw (eq-eqb _ _ (e .before .if2 .left), eq-eqb _ _ (e .if3 .left)))))
+    (held _ _ (rw (le-leb _ _ (f .if4 .left), le-leb _ _ (c .before .if5 .left)))))
+    (ap Value (c .quad .ensures))
 
 pub sym-quad-spec : {M : Type 1} → statement M
 sym-quad-spec =

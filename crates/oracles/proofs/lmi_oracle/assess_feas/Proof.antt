@@ -1,7 +1,11 @@
 -- `oracles::lmi_oracle::assess_feas` meets its contract. Assumes nothing.
+use mathlib.Core.Path.{refl}
 use borrow.Author.Needs.{needs}
+use Rattle.numbers.specs.laws.Pick.{says-no, says-yes}
+use Rattle.numbers.specs.laws.Refusal.{failed, held, at-first, at-next, refuses}
+use Rattle.oracles.specs.LmiOracle.{lmi-answer}
 use Rattle.oracles.specs.laws.Ldlt.{order-most}
-use Rattle.oracles.proofs.lmi_oracle.Laws.{dimension-small, wrong-order, wrong-dimension, wrong-length, accepted, lengths}
+use Rattle.oracles.proofs.lmi_oracle.Laws.{dimension-small, wrong-length, accepted, lengths}
 use Rattle.oracles.proofs.lmi_oracle.assess_feas.Statement.{statement}
 use Rattle.oracles.proofs.lmi_oracle.assess_feas.Tie as tie
 
@@ -9,15 +13,17 @@ is-order-requires : tie.Need-is-order-requires
 is-order-requires c κs = search needs
 
 returns : tie.Need-returns
-returns c = wrong-order _ _ _ _ _ _ (c .before .is-order .ensures) (c .if1 .taken)
+unfolding lmi-answer
+returns c = refuses _ _ _ (at-first _ (failed (says-no _ _ (c .before .is-order .ensures) (c .if1 .taken)))) refl
 
 is-dimension-requires : tie.Need-is-dimension-requires
 is-dimension-requires c κs = search needs
 
 returns-2 : tie.Need-returns-2
+unfolding lmi-answer
 returns-2 c =
     let e = c .before .before in
-    wrong-dimension _ _ _ _ _ _ (e .before .is-order .ensures) (c .before .is-dimension .ensures) (e .if1 .left) (c .if2 .taken)
+    refuses _ _ _ (at-next (held _ _ (says-yes _ _ (e .before .is-order .ensures) (e .if1 .left))) (at-first _ (failed (says-no _ _ (c .before .is-dimension .ensures) (c .if2 .taken))))) refl
 
 lengths-fit-requires : tie.Need-lengths-fit-requires
 lengths-fit-requires c κs =
@@ -26,7 +32,7 @@ lengths-fit-requires c κs =
 returns-3 : tie.Need-returns-3
 returns-3 c =
     let e = c .before .before in
-    wrong-length _ _ _ _ _ _ (e .before .before .before .is-order .ensures) (e .before .is-dimension .ensures) (e .before .before .if1 .left) (c .before .lengths-fit .ensures) (e .if2 .left) (c .if3 .taken)
+    wrong-length _ _ _ _ _ _ (e .before .before .before .is-order .ensures) (e .before .is-dimension .ensures) (c .before .lengths-fit .ensures) (e .before .before .if1 .left) (e .if2 .left) (c .if3 .taken)
 
 assess-requires : tie.Need-assess-requires
 assess-requires c κs =
@@ -48,7 +54,7 @@ returns-4 : tie.Need-returns-4
 returns-4 c =
     let f = c .before .before .before .before .before .before .before .before .before .before in
     let e = f .before .before in
-    accepted _ _ _ _ _ _ (e .before .before .before .is-order .ensures) (e .before .is-dimension .ensures) (e .before .before .if1 .left) (f .before .lengths-fit .ensures) (e .if2 .left) _ (record { storage = _; wit = _; grad = _ }) (f .if3 .left) (c .before .before .before .before .before .before .assess .ensures)
+    accepted _ _ _ _ _ _ (e .before .before .before .is-order .ensures) (e .before .is-dimension .ensures) (f .before .lengths-fit .ensures) (e .before .before .if1 .left) (e .if2 .left) _ (record { storage = _; wit = _; grad = _ }) (f .if3 .left) (c .before .before .before .before .before .before .assess .ensures)
 
 pub assess-feas-spec : {M : Type 1} → statement M
 assess-feas-spec =

@@ -1,5 +1,5 @@
 -- `oracles::lowpass_oracle::gradient_into` meets its contract. Assumes nothing.
-use mathlib.Core.Path.{_≡_, sym, ap, _∙_}
+use mathlib.Core.Path.{_≡_, refl, sym, ap, _∙_}
 use mathlib.Core.Bool.{Bool, true, false, _&&_}
 use mathlib.Core.List.{List, map}
 use Prim.Native.Nat.{ℕ, _≤_, _+_, _-_, _*_}
@@ -9,8 +9,8 @@ use lib.Dec.{eqb}
 use lib.ListN.{length, take, drop, length-drop}
 use lib.Seq.{length-take-le}
 use lib.Ieee.{Float, neg}
-use Rattle.numbers.specs.Arr.{isDimension, rowOf, copy-from-answer}
-use Rattle.numbers.specs.laws.Arr.{accepted}
+use Rattle.numbers.specs.Arr.{isDimension, rowOf, copy-from-tests, copy-from-answer}
+use Rattle.numbers.specs.laws.Refusal.{held, at-next, accepts}
 use Rattle.numbers.specs.declared.arr.Written.{Written}
 use Rattle.numbers.specs.laws.Pick.{hit, skip}
 use Rattle.oracles.specs.Scan.{band-gradient}
@@ -32,7 +32,7 @@ unfolding band-gradient
 copied n row over table grad grad′ e two most h long o =
     let f : isDimension n ≡ true = rw (le-leb 2 n two, le-leb n 32 most) in
     let q : (eqb (length grad) n && eqb (length (rowOf n table row)) n) ≡ true = rw (eq-eqb (length grad) n long, eq-eqb (length (rowOf n table row)) n (row-long n row table h)) in
-    hit over _ _ _ o (ap (λ (p : Written × List Float). p .1) (rw (row-is n row table) at e ∙ sym (accepted n _ _ _ _ f q)))
+    hit over _ _ _ o (ap (λ (p : Written × List Float). p .1) (rw (row-is n row table) at e ∙ sym (accepts _ _ (copy-from-tests n grad (rowOf n table row)) (at-next (held _ _ f) (held _ _ q)) refl)))
 
 negated : (n row : ℕ) (over : Bool) (table grad′ : List Float) → grad′ ≡ map neg (take (row * n + n - row * n) (drop (row * n) table)) → over ≡ false → grad′ ≡ band-gradient n table row over
 unfolding band-gradient

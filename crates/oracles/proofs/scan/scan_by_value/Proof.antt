@@ -16,10 +16,11 @@ use Rattle.oracles.specs.declared.scan.ScanAnswer.{ScanAnswer}
 use Rattle.oracles.specs.declared.scan.ScanAnswer.the-variants.{Scanned, Refused}
 use Rattle.oracles.specs.declared.scan.ScanEnd.{ScanEnd}
 use Rattle.numbers.specs.declared.refusal.Refusal.{Refusal}
+use Rattle.numbers.specs.laws.Pick.{says-no, says-yes}
 use Rattle.oracles.specs.declared.round_robin.RoundRobin.{RoundRobin}
 use Rattle.oracles.specs.laws.Scan.{Scannable}
 use Rattle.oracles.proofs.Signed.{read}
-use Rattle.oracles.proofs.scan.Tests.{ready-of, scanned, no-dimension, no-length, no-band, no-cursor, passed, failed}
+use Rattle.oracles.proofs.scan.Tests.{ready-of, scanned, no-dimension, no-length, no-band, no-cursor}
 use Rattle.oracles.proofs.scan.scan_by_value.Statement.{statement}
 use Rattle.oracles.proofs.scan.scan_by_value.Tie as tie
 
@@ -50,7 +51,7 @@ returns c =
     let e = c .before in
     let a = e .before .before .before .before .args in
     refused-as (c .scan-refused .ensures)
-    (no-dimension (a .n) (a .rows) (a .table .now) (a .x .now) (a .rr) (a .lower) (a .upper) (failed (e .before .is-dimension .ensures) (e .if1 .taken)))
+    (no-dimension (a .n) (a .rows) (a .table .now) (a .x .now) (a .rr) (a .lower) (a .upper) (says-no _ _ (e .before .is-dimension .ensures) (e .if1 .taken)))
 
 table-fits-requires : tie.Need-table-fits-requires
 table-fits-requires c κs = tt
@@ -64,7 +65,7 @@ returns-2 c =
     let e = f .before .before in
     let a = e .before .before .before .before .args in
     refused-as (c .scan-refused2 .ensures)
-    (no-length (a .n) (a .rows) (a .table .now) (a .x .now) (a .rr) (a .lower) (a .upper) (passed (e .before .is-dimension .ensures) (e .if1 .left)) (failed (f .before .table-fits .ensures) (f .if2 .taken)))
+    (no-length (a .n) (a .rows) (a .table .now) (a .x .now) (a .rr) (a .lower) (a .upper) (says-yes _ _ (e .before .is-dimension .ensures) (e .if1 .left)) (says-no _ _ (f .before .table-fits .ensures) (f .if2 .taken)))
 
 band-fits-requires : tie.Need-band-fits-requires
 band-fits-requires c κs = tt
@@ -81,8 +82,8 @@ returns-3 c =
     let e = f .before .before in
     let a = e .before .before .before .before .args in
     refused-as (c .scan-refused3 .ensures)
-    (no-band (a .n) (a .rows) (a .table .now) (a .x .now) (a .rr) (a .lower) (a .upper) (passed (e .before .is-dimension .ensures) (e .if1 .left)) (passed (f .before .table-fits .ensures) (f .if2 .left))
-    (failed (band-read (a .rows) (a .rr) (record { sfits = g .1 .0 .1 }) (record { sfits = g .1 .1 .0 .1 }) (b .before .band-fits .ensures)) (b .if3 .taken)))
+    (no-band (a .n) (a .rows) (a .table .now) (a .x .now) (a .rr) (a .lower) (a .upper) (says-yes _ _ (e .before .is-dimension .ensures) (e .if1 .left)) (says-yes _ _ (f .before .table-fits .ensures) (f .if2 .left))
+    (says-no _ _ (band-read (a .rows) (a .rr) (record { sfits = g .1 .0 .1 }) (record { sfits = g .1 .1 .0 .1 }) (b .before .band-fits .ensures)) (b .if3 .taken)))
 
 is-at-requires : tie.Need-is-at-requires
 is-at-requires c κs = tt
@@ -100,8 +101,8 @@ returns-4 c =
     let e = f .before .before in
     let a = e .before .before .before .before .args in
     refused-as (c .scan-refused4 .ensures)
-    (no-cursor (a .n) (a .rows) (a .table .now) (a .x .now) (a .rr) (a .lower) (a .upper) (passed (e .before .is-dimension .ensures) (e .if1 .left)) (passed (f .before .table-fits .ensures) (f .if2 .left))
-    (passed (band-read (a .rows) (a .rr) (record { sfits = g .1 .0 .1 }) (record { sfits = g .1 .1 .0 .1 }) (b .before .band-fits .ensures)) (b .if3 .left)) (failed (k .before .is-at .ensures) (k .if4 .taken)))
+    (no-cursor (a .n) (a .rows) (a .table .now) (a .x .now) (a .rr) (a .lower) (a .upper) (says-yes _ _ (e .before .is-dimension .ensures) (e .if1 .left)) (says-yes _ _ (f .before .table-fits .ensures) (f .if2 .left))
+    (says-yes _ _ (band-read (a .rows) (a .rr) (record { sfits = g .1 .0 .1 }) (record { sfits = g .1 .1 .0 .1 }) (b .before .band-fits .ensures)) (b .if3 .left)) (says-no _ _ (k .before .is-at .ensures) (k .if4 .taken)))
 
 scan-rows-requires : tie.Need-scan-rows-requires
 scan-rows-requires c κs =
@@ -112,10 +113,10 @@ scan-rows-requires c κs =
     let e = f .before .before in
     let a = e .before .before .before .before .args in
     let S : Scannable (a .n) (a .rows) (a .table .now) (a .x .now) (a .rr) = record {
-      dimension = passed (e .before .is-dimension .ensures) (e .if1 .left);
-      long = passed (f .before .table-fits .ensures) (f .if2 .left);
-      band = passed (band-read (a .rows) (a .rr) (record { sfits = g .1 .0 .1 }) (record { sfits = g .1 .1 .0 .1 }) (b .before .band-fits .ensures)) (b .if3 .left);
-      at = passed (c .before .is-at .ensures) (c .if4 .left);
+      dimension = says-yes _ _ (e .before .is-dimension .ensures) (e .if1 .left);
+      long = says-yes _ _ (f .before .table-fits .ensures) (f .if2 .left);
+      band = says-yes _ _ (band-read (a .rows) (a .rr) (record { sfits = g .1 .0 .1 }) (record { sfits = g .1 .1 .0 .1 }) (b .before .band-fits .ensures)) (b .if3 .left);
+      at = says-yes _ _ (c .before .is-at .ensures) (c .if4 .left);
     } in
     ready-of (a .n) (a .rows) (a .table .now) (a .x .now) (a .rr) S
 
@@ -131,10 +132,10 @@ returns-5 c =
     let n = a .n in
     let z = c .before .struct-told3 .given in
     ends n (a .rows) (a .table .now) (a .x .now) (a .rr) (a .lower) (a .upper) (record {
-      dimension = passed (e .before .is-dimension .ensures) (e .if1 .left);
-      long = passed (f .before .table-fits .ensures) (f .if2 .left);
-      band = passed (band-read (a .rows) (a .rr) (record { sfits = g .1 .0 .1 }) (record { sfits = g .1 .1 .0 .1 }) (b .before .band-fits .ensures)) (b .if3 .left);
-      at = passed (h .before .is-at .ensures) (h .if4 .left);
+      dimension = says-yes _ _ (e .before .is-dimension .ensures) (e .if1 .left);
+      long = says-yes _ _ (f .before .table-fits .ensures) (f .if2 .left);
+      band = says-yes _ _ (band-read (a .rows) (a .rr) (record { sfits = g .1 .0 .1 }) (record { sfits = g .1 .1 .0 .1 }) (b .before .band-fits .ensures)) (b .if3 .left);
+      at = says-yes _ _ (h .before .is-at .ensures) (h .if4 .left);
     }) (c .before .before .scan-rows .result) (c .before .before .scan-rows .ensures) (record { sfits = z .1 .1 .1 .0 .1 }) (record { sfits = g .1 .0 .1 }) (record { sfits = g .1 .1 .0 .1 })
 
 pub scan-by-value-spec : {M : Type 1} → statement M

@@ -8,8 +8,8 @@ use Rattle.drivers.proofs.trace.Run.next.Tie as tie
 check-requires : tie.Need-check-requires
 check-requires c κs = tt
 
-enum-known-checked : tie.Need-enum-known-checked
-enum-known-checked c = search needs
+enum-known-fault : tie.Need-enum-known-fault
+enum-known-fault c = search needs
 
 refused-requires : tie.Need-refused-requires
 refused-requires c κs = tt
@@ -60,7 +60,7 @@ returns-3 : tie.Need-returns-3
 returns-3 c =
     let checked = c .before .before in
     let check = checked .before .before in
-    next-wrong _ _ _ _ _ _ _ (sym (checked .checked .given .1) ∙ check .check .ensures) (c .refused .ensures)
+    next-wrong _ _ _ _ _ _ _ _ (sym (checked .fault .given .1) ∙ check .check .ensures) (c .refused .ensures)
 
 same-length-6 : tie.Need-same-length-6
 same-length-6 c = c .before .before .put-last .kept .0
@@ -79,7 +79,7 @@ next-spec =
     tie.close
     (tie.spec
     check-requires
-    enum-known-checked
+    enum-known-fault
     refused-requires
     enum-told
     refused-requires-2

@@ -1,9 +1,10 @@
 -- `oracles::ell::Ell::cut` meets its contract. Assumes nothing.
-use mathlib.Core.Path.{_∙_}
+use mathlib.Core.Path.{_∙_, refl}
 use borrow.Author.Needs.{needs}
 use borrow.Author.Tests.{eq-eqb, ne-eqb}
-use Rattle.numbers.specs.laws.Arr.{dimension-most, wrong-dimension, wrong-length, accepted}
+use Rattle.numbers.specs.laws.Arr.{dimension-most}
 use Rattle.numbers.specs.laws.Pick.{says-no, says-yes}
+use Rattle.numbers.specs.laws.Refusal.{failed, held, at-first, at-next, refuses, accepts}
 use Rattle.oracles.proofs.ell_common.Laws.{no-left, no-right, both, lengths}
 use Rattle.oracles.proofs.ell.Ell.cut.Statement.{statement}
 use Rattle.oracles.proofs.ell.Ell.cut.Tie as tie
@@ -15,7 +16,7 @@ refused-requires : tie.Need-refused-requires
 refused-requires c κs = search needs
 
 returns : tie.Need-returns
-returns c = rw (c .refused .ensures) (wrong-dimension _ _ _ _ _ (says-no _ _ (c .before .before .is-dimension .ensures) (c .before .if1 .taken)))
+returns c = rw (c .refused .ensures) (refuses _ _ _ (at-first _ (failed (says-no _ _ (c .before .before .is-dimension .ensures) (c .before .if1 .taken)))) refl)
 
 lengths-fit-requires : tie.Need-lengths-fit-requires
 lengths-fit-requires c κs = dimension-most _ (says-yes _ _ (c .before .is-dimension .ensures) (c .if1 .left))
@@ -26,8 +27,8 @@ refused-requires-2 c κs = search needs
 returns-2 : tie.Need-returns-2
 returns-2 c =
     rw (c .refused2 .ensures)
-    (wrong-length _ _ _ _ _ (says-yes _ _ (c .before .before .before .before .is-dimension .ensures) (c .before .before .before .if1 .left))
-    (no-left _ _ (says-no _ _ (c .before .before .lengths-fit .ensures) (c .before .if2 .taken))))
+    (refuses _ _ _ (at-next (held _ _ (says-yes _ _ (c .before .before .before .before .is-dimension .ensures) (c .before .before .before .if1 .left)))
+    (failed (no-left _ _ (says-no _ _ (c .before .before .lengths-fit .ensures) (c .before .if2 .taken))))) refl)
 
 refused-requires-3 : tie.Need-refused-requires-3
 refused-requires-3 c κs = search needs
@@ -35,8 +36,8 @@ refused-requires-3 c κs = search needs
 returns-3 : tie.Need-returns-3
 returns-3 c =
     rw (c .refused3 .ensures)
-    (wrong-length _ _ _ _ _ (says-yes _ _ (c .before .before .before .before .before .is-dimension .ensures) (c .before .before .before .before .if1 .left))
-    (no-right _ _ (says-yes _ _ (c .before .before .before .lengths-fit .ensures) (c .before .before .if2 .left)) (ne-eqb _ _ (c .before .if3 .taken))))
+    (refuses _ _ _ (at-next (held _ _ (says-yes _ _ (c .before .before .before .before .before .is-dimension .ensures) (c .before .before .before .before .if1 .left)))
+    (failed (no-right _ _ (says-yes _ _ (c .before .before .before .lengths-fit .ensures) (c .before .before .if2 .left)) (ne-eqb _ _ (c .before .if3 .taken))))) refl)
 
 update-requires : tie.Need-update-requires
 update-requires c κs =
@@ -55,10 +56,11 @@ same-length-3 c = search needs
 returns-4 : tie.Need-returns-4
 returns-4 c =
     c .before .before .before .before .before .before .update .ensures
-    ∙ accepted _ _ _ _ _
-    (says-yes _ _ (c .before .before .before .before .before .before .before .before .before .before .before .before .before .before .is-dimension .ensures) (c .before .before .before .before .before .before .before .before .before .before .before .before .before .if1 .left))
-    (both _ _ (says-yes _ _ (c .before .before .before .before .before .before .before .before .before .before .before .before .lengths-fit .ensures) (c .before .before .before .before .before .before .before .before .before .before .before .if2 .left))
-    (eq-eqb _ _ (c .before .before .before .before .before .before .before .before .before .before .if3 .left)))
+    ∙ accepts _ _ _
+    (at-next (held _ _ (says-yes _ _ (c .before .before .before .before .before .before .before .before .before .before .before .before .before .before .is-dimension .ensures) (c .before .before .before .before .before .before .before .before .before .before .before .before .before .if1 .left)))
+    (held _ _ (both _ _ (says-yes _ _ (c .before .before .before .before .before .before .before .before .before .before .before .before .lengths-fit .ensures) (c .before .before .before .before .before .before .before .before .before .before .before .if2 .left))
+    (eq-eqb _ _ (c .before .before .before .before .before .before .before .before .before .before .if3 .left)))))
+    refl
 
 pub cut-spec : {M : Type 1} → statement M
 cut-spec =

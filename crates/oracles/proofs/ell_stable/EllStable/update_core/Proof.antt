@@ -1,8 +1,9 @@
 -- `oracles::ell_stable::EllStable::update_core` meets its contract. Assumes nothing.
 use mathlib.Core.Path.{refl, _∙_}
 use borrow.Author.Needs.{needs}
-use Rattle.numbers.specs.laws.Arr.{dimension-most, wrong-dimension, wrong-length, accepted}
+use Rattle.numbers.specs.laws.Arr.{dimension-most}
 use Rattle.numbers.specs.laws.Pick.{says-no, says-yes}
+use Rattle.numbers.specs.laws.Refusal.{failed, held, at-first, at-next, refuses, accepts}
 use Rattle.oracles.proofs.ell_stable.Laws.{unfit, fit-by, lengths-known}
 use Rattle.oracles.proofs.ell_stable.EllStable.update_core.Statement.{statement}
 use Rattle.oracles.proofs.ell_stable.EllStable.update_core.Tie as tie
@@ -14,7 +15,7 @@ refused-requires : tie.Need-refused-requires
 refused-requires c κs = tt
 
 returns : tie.Need-returns
-returns c = rw (c .refused .ensures) (wrong-dimension _ _ _ _ _ (says-no _ _ (c .before .before .is-dimension .ensures) (c .before .if1 .taken)))
+returns c = rw (c .refused .ensures) (refuses _ _ _ (at-first _ (failed (says-no _ _ (c .before .before .is-dimension .ensures) (c .before .if1 .taken)))) refl)
 
 lengths-fit-requires : tie.Need-lengths-fit-requires
 lengths-fit-requires c κs = dimension-most _ (says-yes _ _ (c .before .is-dimension .ensures) (c .if1 .left))
@@ -25,8 +26,8 @@ refused-requires-2 c κs = tt
 returns-2 : tie.Need-returns-2
 returns-2 c =
     rw (c .refused2 .ensures)
-    (wrong-length _ _ _ _ _ (says-yes _ _ (c .before .before .before .before .is-dimension .ensures) (c .before .before .before .if1 .left))
-    (unfit _ _ _ _ _ (says-no _ _ (c .before .before .lengths-fit .ensures) (c .before .if2 .taken))))
+    (refuses _ _ _ (at-next (held _ _ (says-yes _ _ (c .before .before .before .before .is-dimension .ensures) (c .before .before .before .if1 .left)))
+    (failed (unfit _ _ _ _ _ (says-no _ _ (c .before .before .lengths-fit .ensures) (c .before .if2 .taken))))) refl)
 
 scratch-fits-requires : tie.Need-scratch-fits-requires
 scratch-fits-requires c κs = tt
@@ -49,9 +50,9 @@ same-length-4 c = refl
 returns-3 : tie.Need-returns-3
 returns-3 c =
     rw (c .refused3 .ensures)
-    (wrong-length _ _ _ _ _ (says-yes _ _ (c .before .before .before .before .before .before .before .before .before .before .is-dimension .ensures) (c .before .before .before .before .before .before .before .before .before .if1 .left))
-    (fit-by _ _ _ _ _ _ (says-yes _ _ (c .before .before .before .before .before .before .before .before .lengths-fit .ensures) (c .before .before .before .before .before .before .before .if2 .left))
-    (says-no _ _ (c .before .before .scratch-fits .ensures) (c .before .if3 .taken))))
+    (refuses _ _ _ (at-next (held _ _ (says-yes _ _ (c .before .before .before .before .before .before .before .before .before .before .is-dimension .ensures) (c .before .before .before .before .before .before .before .before .before .if1 .left)))
+    (failed (fit-by _ _ _ _ _ _ (says-yes _ _ (c .before .before .before .before .before .before .before .before .lengths-fit .ensures) (c .before .before .before .before .before .before .before .if2 .left))
+    (says-no _ _ (c .before .before .scratch-fits .ensures) (c .before .if3 .taken))))) refl)
 
 update-requires : tie.Need-update-requires
 update-requires c κs =
@@ -80,11 +81,12 @@ same-length-10 c = c .before .before .before .before .before .before .before .be
 returns-4 : tie.Need-returns-4
 returns-4 c =
     c .before .before .before .before .before .before .before .before .before .before .before .before .update .ensures
-    ∙ accepted _ _ _ _ _
-    (says-yes _ _ (c .before .before .before .before .before .before .before .before .before .before .before .before .before .before .before .before .before .before .before .before .before .before .before .before .before .before .before .before .is-dimension .ensures) (c .before .before .before .before .before .before .before .before .before .before .before .before .before .before .before .before .before .before .before .before .before .before .before .before .before .before .before .if1 .left))
-    (fit-by _ _ _ _ _ _
+    ∙ accepts _ _ _
+    (at-next (held _ _ (says-yes _ _ (c .before .before .before .before .before .before .before .before .before .before .before .before .before .before .before .before .before .before .before .before .before .before .before .before .before .before .before .before .is-dimension .ensures) (c .before .before .before .before .before .before .before .before .before .before .before .before .before .before .before .before .before .before .before .before .before .before .before .before .before .before .before .if1 .left)))
+    (held _ _ (fit-by _ _ _ _ _ _
     (says-yes _ _ (c .before .before .before .before .before .before .before .before .before .before .before .before .before .before .before .before .before .before .before .before .before .before .before .before .before .before .lengths-fit .ensures) (c .before .before .before .before .before .before .before .before .before .before .before .before .before .before .before .before .before .before .before .before .before .before .before .before .before .if2 .left))
-    (says-yes _ _ (c .before .before .before .before .before .before .before .before .before .before .before .before .before .before .before .before .before .before .before .before .scratch-fits .ensures) (c .before .before .before .before .before .before .before .before .before .before .before .before .before .before .before .before .before .before .before .if3 .left)))
+    (says-yes _ _ (c .before .before .before .before .before .before .before .before .before .before .before .before .before .before .before .before .before .before .before .before .scratch-fits .ensures) (c .before .before .before .before .before .before .before .before .before .before .before .before .before .before .before .before .before .before .before .if3 .left)))))
+    refl
 
 pub update-core-spec : {M : Type 1} → statement M
 update-core-spec =

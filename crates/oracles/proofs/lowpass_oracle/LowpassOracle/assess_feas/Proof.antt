@@ -5,7 +5,7 @@ use native.Mathlib.Omega.{arith}
 use borrow.Author.Needs.{needs}
 use lib.Dec.{eqb}
 use lib.ListN.{length}
-use Rattle.oracles.proofs.scan.Tests.{passed, failed}
+use Rattle.numbers.specs.laws.Pick.{says-no, says-yes}
 use Rattle.oracles.proofs.lowpass_oracle.Answers.{with-rule, refused-as, no-dimension, no-length, no-bands, no-cursors, all-passed, all-scannable}
 use Rattle.oracles.proofs.lowpass_oracle.LowpassOracle.assess_feas.Statement.{statement}
 use Rattle.oracles.proofs.lowpass_oracle.LowpassOracle.assess_feas.Tie as tie
@@ -20,7 +20,7 @@ returns : tie.Need-returns
 returns c =
     let e = c .before in
     let a = e .before .before .before .before .before .args in
-    refused-as (a .self) (a .n) (a .rows) (a .table .now) (a .x .now) (a .grad .now) _ _ (c .refused .ensures) (no-dimension (a .self) (a .n) (a .rows) (a .table .now) (a .x .now) (a .grad .now) (failed (e .before .is-dimension .ensures) (e .if1 .taken)))
+    refused-as (a .self) (a .n) (a .rows) (a .table .now) (a .x .now) (a .grad .now) _ _ (c .refused .ensures) (no-dimension (a .self) (a .n) (a .rows) (a .table .now) (a .x .now) (a .grad .now) (says-no _ _ (e .before .is-dimension .ensures) (e .if1 .taken)))
 
 table-fits-requires : tie.Need-table-fits-requires
 table-fits-requires c κs = tt
@@ -34,7 +34,7 @@ returns-2 c =
     let e = f .before .before in
     let a = e .before .before .before .before .before .args in
     refused-as (a .self) (a .n) (a .rows) (a .table .now) (a .x .now) (a .grad .now) _ _ (c .refused2 .ensures)
-    (no-length (a .self) (a .n) (a .rows) (a .table .now) (a .x .now) (a .grad .now) (passed (e .before .is-dimension .ensures) (e .if1 .left)) (failed (ap (λ (t : Bool). t && eqb (length (a .grad .now)) (a .n)) (f .before .table-fits .ensures)) (f .if2 .taken)))
+    (no-length (a .self) (a .n) (a .rows) (a .table .now) (a .x .now) (a .grad .now) (says-yes _ _ (e .before .is-dimension .ensures) (e .if1 .left)) (says-no _ _ (ap (λ (t : Bool). t && eqb (length (a .grad .now)) (a .n)) (f .before .table-fits .ensures)) (f .if2 .taken)))
 
 bands-fit-requires : tie.Need-bands-fit-requires
 bands-fit-requires c κs = tt
@@ -49,8 +49,8 @@ returns-3 c =
     let e = f .before .before in
     let a = e .before .before .before .before .before .args in
     refused-as (a .self) (a .n) (a .rows) (a .table .now) (a .x .now) (a .grad .now) _ _ (c .refused3 .ensures)
-    (no-bands (a .self) (a .n) (a .rows) (a .table .now) (a .x .now) (a .grad .now) (passed (e .before .is-dimension .ensures) (e .if1 .left)) (passed (ap (λ (t : Bool). t && eqb (length (a .grad .now)) (a .n)) (f .before .table-fits .ensures)) (f .if2 .left))
-    (failed (b .before .bands-fit .ensures) (b .if3 .taken)))
+    (no-bands (a .self) (a .n) (a .rows) (a .table .now) (a .x .now) (a .grad .now) (says-yes _ _ (e .before .is-dimension .ensures) (e .if1 .left)) (says-yes _ _ (ap (λ (t : Bool). t && eqb (length (a .grad .now)) (a .n)) (f .before .table-fits .ensures)) (f .if2 .left))
+    (says-no _ _ (b .before .bands-fit .ensures) (b .if3 .taken)))
 
 cursors-fit-requires : tie.Need-cursors-fit-requires
 cursors-fit-requires c κs = tt
@@ -66,8 +66,8 @@ returns-4 c =
     let e = f .before .before in
     let a = e .before .before .before .before .before .args in
     refused-as (a .self) (a .n) (a .rows) (a .table .now) (a .x .now) (a .grad .now) _ _ (c .refused4 .ensures)
-    (no-cursors (a .self) (a .n) (a .rows) (a .table .now) (a .x .now) (a .grad .now) (passed (e .before .is-dimension .ensures) (e .if1 .left)) (passed (ap (λ (t : Bool). t && eqb (length (a .grad .now)) (a .n)) (f .before .table-fits .ensures)) (f .if2 .left))
-    (passed (b .before .bands-fit .ensures) (b .if3 .left)) (failed (k .before .cursors-fit .ensures) (k .if4 .taken)))
+    (no-cursors (a .self) (a .n) (a .rows) (a .table .now) (a .x .now) (a .grad .now) (says-yes _ _ (e .before .is-dimension .ensures) (e .if1 .left)) (says-yes _ _ (ap (λ (t : Bool). t && eqb (length (a .grad .now)) (a .n)) (f .before .table-fits .ensures)) (f .if2 .left))
+    (says-yes _ _ (b .before .bands-fit .ensures) (b .if3 .left)) (says-no _ _ (k .before .cursors-fit .ensures) (k .if4 .taken)))
 
 assess-requires : tie.Need-assess-requires
 assess-requires c κs =
@@ -76,8 +76,8 @@ assess-requires c κs =
     let f = b .before .before in
     let e = f .before .before in
     let a = e .before .before .before .before .before .args in
-    all-scannable (a .self) (a .n) (a .rows) (a .table .now) (a .x .now) (a .grad .now) (passed (e .before .is-dimension .ensures) (e .if1 .left)) (passed (ap (λ (t : Bool). t && eqb (length (a .grad .now)) (a .n)) (f .before .table-fits .ensures)) (f .if2 .left))
-    (passed (b .before .bands-fit .ensures) (b .if3 .left)) (passed (k .before .cursors-fit .ensures) (k .if4 .left))
+    all-scannable (a .self) (a .n) (a .rows) (a .table .now) (a .x .now) (a .grad .now) (says-yes _ _ (e .before .is-dimension .ensures) (e .if1 .left)) (says-yes _ _ (ap (λ (t : Bool). t && eqb (length (a .grad .now)) (a .n)) (f .before .table-fits .ensures)) (f .if2 .left))
+    (says-yes _ _ (b .before .bands-fit .ensures) (b .if3 .left)) (says-yes _ _ (k .before .cursors-fit .ensures) (k .if4 .left))
 
 same-length : tie.Need-same-length
 same-length c = search needs
@@ -91,8 +91,8 @@ returns-5 c =
     let e = f .before .before in
     let a = e .before .before .before .before .before .args in
     with-rule (a .self) (a .n) (a .rows) (a .table .now) (a .x .now) (a .grad .now) _ _
-    (all-passed (a .self) (a .n) (a .rows) (a .table .now) (a .x .now) (a .grad .now) (passed (e .before .is-dimension .ensures) (e .if1 .left)) (passed (ap (λ (t : Bool). t && eqb (length (a .grad .now)) (a .n)) (f .before .table-fits .ensures)) (f .if2 .left))
-    (passed (b .before .bands-fit .ensures) (b .if3 .left)) (passed (k .before .cursors-fit .ensures) (k .if4 .left)) _ (s .assess .ensures))
+    (all-passed (a .self) (a .n) (a .rows) (a .table .now) (a .x .now) (a .grad .now) (says-yes _ _ (e .before .is-dimension .ensures) (e .if1 .left)) (says-yes _ _ (ap (λ (t : Bool). t && eqb (length (a .grad .now)) (a .n)) (f .before .table-fits .ensures)) (f .if2 .left))
+    (says-yes _ _ (b .before .bands-fit .ensures) (b .if3 .left)) (says-yes _ _ (k .before .cursors-fit .ensures) (k .if4 .left)) _ (s .assess .ensures))
 
 pub assess-feas-spec : {M : Type 1} → statement M
 assess-feas-spec =

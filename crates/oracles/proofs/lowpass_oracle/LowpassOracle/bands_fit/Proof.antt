@@ -13,10 +13,9 @@ use Rattle.oracles.specs.Scan.{isRows}
 use Rattle.oracles.specs.LowpassOracle.{isOf, bands-fit}
 use Rattle.oracles.specs.declared.lowpass_oracle.LowpassOracle.{LowpassOracle}
 use Rattle.oracles.proofs.Signed.{read, pos-fits}
-use Rattle.oracles.proofs.scan.Tests.{passed, failed}
 use Rattle.oracles.proofs.lowpass_oracle.LowpassOracle.bands_fit.Statement.{statement}
 use Rattle.oracles.proofs.lowpass_oracle.LowpassOracle.bands_fit.Tie as tie
-use Rattle.numbers.specs.laws.Pick.{and-parts}
+use Rattle.numbers.specs.laws.Pick.{and-parts, says-no, says-yes}
 
 rows-fit : (rows : ℕ) → isRows rows ≡ true → SFits w32 (pos rows)
 rows-fit rows h = pos-fits rows (leb-true rows 1024 (and-parts (leb 1 rows) (leb rows 1024) h .1))
@@ -35,10 +34,10 @@ is-rows-requires : tie.Need-is-rows-requires
 is-rows-requires c κs = tt
 
 returns : tie.Need-returns
-returns c = let a = c .before .before .args in no-rows (a .self) (a .rows) (failed (c .before .is-rows .ensures) (c .if1 .taken))
+returns c = let a = c .before .before .args in no-rows (a .self) (a .rows) (says-no _ _ (c .before .is-rows .ensures) (c .if1 .taken))
 
 cast-mdim : tie.Need-cast-mdim
-cast-mdim c = rows-fit (c .before .before .args .rows) (passed (c .before .is-rows .ensures) (c .if1 .left))
+cast-mdim c = rows-fit (c .before .before .args .rows) (says-yes _ _ (c .before .is-rows .ensures) (c .if1 .left))
 
 is-of-requires : tie.Need-is-of-requires
 is-of-requires c κs = tt
@@ -55,7 +54,7 @@ returns-2 c =
     let g = t .struct-told2 .given in
     let e = t .before .before in
     let a = e .before .before .args in
-    tests (a .self) (a .rows) (passed (e .before .is-rows .ensures) (e .if1 .left)) (record { sfits = g .1 .1 .0 .1 }) (record { sfits = g .1 .1 .1 .0 .1 })
+    tests (a .self) (a .rows) (says-yes _ _ (e .before .is-rows .ensures) (e .if1 .left)) (record { sfits = g .1 .1 .0 .1 }) (record { sfits = g .1 .1 .1 .0 .1 })
     (c .before .before .is-of .ensures) (c .before .is-of2 .ensures) (c .is-of3 .ensures)
 
 pub bands-fit-spec : {M : Type 1} → statement M

@@ -1,7 +1,6 @@
 -- `oracles::round_robin::RoundRobin::advance` meets its contract. Assumes nothing.
-use mathlib.Core.Path.{_≡_, refl, sym, ap, _∙_}
+use mathlib.Core.Path.{_≡_, refl, ap, _∙_}
 use mathlib.Core.Bool.{Bool, true, false, not, _&&_}
-use borrow.Author.Tests.{not-false}
 use lib.Signed.{ltZ}
 use mir.Syntax.{w32}
 use mir.Val.{SFits}
@@ -11,7 +10,8 @@ use Rattle.oracles.specs.laws.RoundRobin.{legal-of, Legal}
 use Rattle.oracles.specs.declared.round_robin.RoundRobin.{RoundRobin}
 use Rattle.oracles.specs.declared.round_robin.CursorAnswer.the-variants.{At, Refused}
 use Rattle.numbers.specs.declared.refusal.Refusal.the-variants.{Band, Cursor}
-use Rattle.numbers.specs.laws.Pick.{hit, skip, and-parts}
+use Rattle.numbers.specs.laws.Pick.{and-parts, says-no, says-yes}
+use Rattle.numbers.specs.laws.Refusal.{failed, held, at-first, at-next, refuses, accepts}
 use Rattle.oracles.proofs.Signed.{read}
 use Rattle.oracles.proofs.round_robin.RoundRobin.advance.Statement.{statement}
 use Rattle.oracles.proofs.round_robin.RoundRobin.advance.Tie as tie
@@ -32,19 +32,19 @@ module _ (self : RoundRobin) (fl : SFits w32 (self .lo)) (fh : SFits w32 (self .
   whole = λ i. (e ∙ (λ j. isBand (is-lo j) (is-hi j))) i && ltZ (is-lo i) (is-hi i)
 
   band : not tested ≡ false → isBand (self .lo) (self .hi) ≡ true
-  band h = and-parts (isBand (self .lo) (self .hi)) (ltZ (self .lo) (self .hi)) (sym whole ∙ not-false tested h) .0
+  band h = and-parts (isBand (self .lo) (self .hi)) (ltZ (self .lo) (self .hi)) (says-yes tested _ whole h) .0
 
   no-band : not tested ≡ true → Refused Band ≡ advance-answer self
   unfolding advance-answer
-  no-band h = hit _ _ _ _ (ap not (sym whole) ∙ h) refl
+  no-band h = refuses _ _ _ (at-first _ (failed (says-no tested _ whole h))) refl
 
   no-cursor : not tested ≡ false → {u : Bool} → u ≡ isAt self → not u ≡ true → Refused Cursor ≡ advance-answer self
   unfolding advance-answer
-  no-cursor h a k = skip _ _ _ _ (ap not (sym whole) ∙ h) (hit _ _ _ _ (ap not (sym a) ∙ k) refl)
+  no-cursor h a k = refuses _ _ _ (at-next (held _ _ (says-yes tested _ whole h)) (failed (says-no _ _ a k))) refl
 
   goes : not tested ≡ false → {u : Bool} → u ≡ isAt self → not u ≡ false → (r : RoundRobin) → r ≡ advanced self → At r ≡ advance-answer self
   unfolding advance-answer
-  goes h a k r q = skip _ _ _ _ (ap not (sym whole) ∙ h) (skip _ _ _ _ (ap not (sym a) ∙ k) (ap At q))
+  goes h a k r q = accepts _ _ _ (at-next (held _ _ (says-yes tested _ whole h)) (held _ _ (says-yes _ _ a k))) (ap At q)
 
 is-band-requires : tie.Need-is-band-requires
 is-band-requires c κs = tt
@@ -67,7 +67,7 @@ step-requires : tie.Need-step-requires
 step-requires c κs =
     let b = c .before .before in
     let g = b .before .before .struct-told2 .given in
-    legal-of _ (band (c .before .before .before .before .before .before .args .self) (record { sfits = g .1 .0 .1 }) (record { sfits = g .1 .1 .0 .1 }) (b .before .is-band .ensures) (b .if1 .left)) (sym (c .before .is-at .ensures) ∙ not-false _ (c .if2 .left))
+    legal-of _ (band (c .before .before .before .before .before .before .args .self) (record { sfits = g .1 .0 .1 }) (record { sfits = g .1 .1 .0 .1 }) (b .before .is-band .ensures) (b .if1 .left)) (says-yes _ _ (c .before .is-at .ensures) (c .if2 .left))
 
 returns-3 : tie.Need-returns-3
 returns-3 c =

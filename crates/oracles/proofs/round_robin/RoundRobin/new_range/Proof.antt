@@ -1,7 +1,6 @@
 -- `oracles::round_robin::RoundRobin::new_range` meets its contract. Assumes nothing.
-use mathlib.Core.Path.{_≡_, refl, sym, ap, _∙_}
+use mathlib.Core.Path.{_≡_, refl, _∙_}
 use mathlib.Core.Bool.{Bool, true, false, not, _&&_}
-use borrow.Author.Tests.{not-false}
 use lib.IntN.{ℤ, pos, _-ℤ_}
 use lib.Signed.{leZ}
 use mir.Syntax.{w32}
@@ -10,7 +9,8 @@ use mir.Facts.{toZ-ofZ}
 use Rattle.oracles.specs.RoundRobin.{isBand, new-range-answer}
 use Rattle.oracles.specs.declared.round_robin.CursorAnswer.the-variants.{At, Refused}
 use Rattle.numbers.specs.declared.refusal.Refusal.the-variants.{Band}
-use Rattle.numbers.specs.laws.Pick.{hit, skip, and-parts}
+use Rattle.numbers.specs.laws.Pick.{and-parts, says-no, says-yes}
+use Rattle.numbers.specs.laws.Refusal.{failed, held, refuses, accepts}
 use Rattle.oracles.proofs.Signed.{read, pred-fits}
 use Rattle.oracles.proofs.round_robin.RoundRobin.new_range.Statement.{statement}
 use Rattle.oracles.proofs.round_robin.RoundRobin.new_range.Tie as tie
@@ -20,19 +20,19 @@ is-band-requires c κs = tt
 
 -- both numbers fit, and are read back as they are
 module _ {lo hi : ℤ} (fl : SFits w32 lo) (fh : SFits w32 hi) {t : Bool} (e : t ≡ isBand (read lo) (read hi)) where
-  same : isBand lo hi ≡ t
-  same = sym (e ∙ (λ i. isBand (toZ-ofZ fl i) (toZ-ofZ fh i)))
+  same : t ≡ isBand lo hi
+  same = e ∙ (λ i. isBand (toZ-ofZ fl i) (toZ-ofZ fh i))
 
   before-fits : not t ≡ false → SFits w32 (read lo -ℤ pos 1)
-  before-fits h = rw (toZ-ofZ fl) (pred-fits lo (and-parts (leZ (pos 0) lo) (leZ lo hi) (and-parts (leZ (pos 0) lo && leZ lo hi) (leZ hi (pos 1024)) (same ∙ not-false t h) .0) .0) fl)
+  before-fits h = rw (toZ-ofZ fl) (pred-fits lo (and-parts (leZ (pos 0) lo) (leZ lo hi) (and-parts (leZ (pos 0) lo && leZ lo hi) (leZ hi (pos 1024)) (says-yes t _ same h) .0) .0) fl)
 
   refused : not t ≡ true → Refused Band ≡ new-range-answer lo hi
   unfolding new-range-answer
-  refused h = hit _ _ _ _ (ap not same ∙ h) refl
+  refused h = refuses _ _ _ (failed (says-no t _ same h)) refl
 
   made : not t ≡ false → At (record { cur = read (read lo -ℤ pos 1); lo = read lo; hi = read hi }) ≡ new-range-answer lo hi
   unfolding new-range-answer
-  made h = skip _ _ _ _ (ap not same ∙ h) (rw (toZ-ofZ (before-fits h), toZ-ofZ fl, toZ-ofZ fh))
+  made h = accepts _ _ _ (held _ _ (says-yes t _ same h)) (rw (toZ-ofZ (before-fits h), toZ-ofZ fl, toZ-ofZ fh))
 
 returns : tie.Need-returns
 returns c = refused (c .before .before .fits .lo) (c .before .before .fits .hi) (c .before .is-band .ensures) (c .if1 .taken)
