@@ -11,11 +11,7 @@ use lib.Dec.{leb, ltb, eqb}
 use lib.ListN.{length, drop, getD, List·getD-eq-default}
 use lib.Seq.{drop-cons}
 use Rattle.numbers.specs.Pick.{pick}
-use Rattle.numbers.specs.laws.Pick.{hit, skip, is-hit, is-skip, pick-cong, by-test}
-use Rattle.numbers.specs.Refusal.{is-fault, _⨾_, ask-at}
-use Rattle.numbers.specs.declared.refusal.Refusal.{Refusal}
-use Rattle.numbers.specs.declared.refusal.Fault.{Fault}
-use Rattle.numbers.specs.declared.refusal.Fault.the-variants.{Sound, At}
+use Rattle.numbers.specs.laws.Pick.{is-hit, is-skip, pick-cong, by-test}
 use Rattle.drivers.specs.Record.{no-rule, tags, is-of, rules, ruleAt, indexIn, indexOf, lengthAt, overruns, after, fields-from, fields-of}
 use Rattle.drivers.specs.declared.record.Rule.{Rule}
 use Rattle.drivers.specs.declared.record.Form.{Form}
@@ -92,32 +88,6 @@ is-of-listed form i h = go (ltb i tags) refl
     go false e =
         let p : ruleAt i .1 ≡ 0 = ap (λ (r : Rule). r .1) (List·getD-eq-default rules no-rule (ltb-false i tags e)) in
         absurd (true≢false (sym h ∙ ap (λ (k : ℕ). eqb (k / form .bit % 2) 1) p ∙ ap (λ (k : ℕ). eqb (k % 2) 1) (zero-div (form .bit))))
-
--- ---- a chain of tests: one that fails ends it, one that holds is passed; and the last
-
-module _ (place : ℕ) (t : Bool) (why : Refusal) where
-  module _ (g r : Fault) where
-    pub test-fails : t ≡ false → r ≡ At why place → r ≡ (ask-at place t why ⨾ g)
-    unfolding pick
-    test-fails h e = rw h e
-
-    pub test-holds : t ≡ true → r ≡ g → r ≡ (ask-at place t why ⨾ g)
-    unfolding pick
-    test-holds h e = rw h e
-
-  pub last-fails : t ≡ false → At why place ≡ ask-at place t why
-  last-fails h = skip _ _ _ _ h refl
-
-  pub last-holds : t ≡ true → Sound ≡ ask-at place t why
-  last-holds h = hit _ _ _ _ h refl
-
-  -- a test without a fault held
-  pub asked-holds : ask-at place t why ≡ Sound → t ≡ true
-  asked-holds e = go t refl
-    where
-      go : (s : Bool) → t ≡ s → t ≡ true
-      go true h = h
-      go false h = absurd (true≢false (ap is-fault (last-fails h ∙ e)))
 
 -- ---- the fields from `at` on
 

@@ -7,10 +7,11 @@ use native.Mathlib.Omega.{arith}
 use borrow.Author.Tests.{lt-ltb, le-ltb, lt-leb, le-leb, not-true, not-false}
 use lib.Dec.{eqb}
 use lib.ListN.{length}
+use Rattle.numbers.specs.laws.Refusal.{failed, held, at-first, at-next}
 use Rattle.numbers.specs.declared.refusal.Refusal.the-variants.{CutShort, ForeignTag, RepeatedTag}
 use Rattle.numbers.specs.declared.refusal.Fault.the-variants.{Sound, At}
 use Rattle.drivers.specs.Record.{many, ruleAt, is-of, indexOf, indexAt, lengthAt, place, field-fault}
-use Rattle.drivers.specs.laws.Record.{is-of-listed, test-fails, test-holds, last-fails, last-holds}
+use Rattle.drivers.specs.laws.Record.{is-of-listed}
 use Rattle.drivers.specs.declared.record.Rule.{Rule}
 use Rattle.drivers.specs.declared.record.Form.{Form}
 use borrow.Author.Needs.{needs}
@@ -28,7 +29,7 @@ module _ (bytes : List ℕ) (form : Form) (at i : ℕ) (e : i ≡ indexAt bytes 
 module _ (bytes : List ℕ) (form : Form) (places : List ℕ) (at : ℕ) where
   no-header : length bytes - at < 3 → At CutShort at ≡ field-fault bytes form places at
   unfolding field-fault
-  no-header h = test-fails _ _ _ _ _ (lt-leb 3 (length bytes - at) h) refl
+  no-header h = at-first _ (failed (lt-leb 3 (length bytes - at) h))
 
   module _ (h : 3 ≤ length bytes - at) (i : ℕ) (e : i ≡ indexAt bytes at) (r : Rule) (d : r ≡ ruleAt i) (t : Bool) (q : t ≡ eqb (r .1 / form .bit % 2) 1) where
     known : t ≡ is-of form (indexAt bytes at)
@@ -36,29 +37,29 @@ module _ (bytes : List ℕ) (form : Form) (places : List ℕ) (at : ℕ) where
 
     foreign : not t ≡ true → At ForeignTag at ≡ field-fault bytes form places at
     unfolding field-fault
-    foreign f = test-holds _ _ _ _ _ (le-leb 3 (length bytes - at) h) (test-fails _ _ _ _ _ (sym known ∙ not-true t f) refl)
+    foreign f = at-next (held _ _ (le-leb 3 (length bytes - at) h)) (at-first _ (failed (sym known ∙ not-true t f)))
 
     module _ (f : not t ≡ false) where
       again : (not (eqb (place places i) 0) && not (eqb (r .5) many)) ≡ true → At RepeatedTag at ≡ field-fault bytes form places at
       unfolding field-fault
       again g =
-          test-holds _ _ _ _ _ (le-leb 3 (length bytes - at) h)
-          (test-holds _ _ _ _ _ (sym known ∙ not-false t f) (test-fails _ _ _ _ _ (rw (← e, ← d) (ap not g)) refl))
+          at-next (held _ _ (le-leb 3 (length bytes - at) h))
+          (at-next (held _ _ (sym known ∙ not-false t f)) (at-first _ (failed (rw (← e, ← d) (ap not g)))))
 
       module _ (g : (not (eqb (place places i) 0) && not (eqb (r .5) many)) ≡ false) (l : ℕ) (k : l ≡ lengthAt bytes at) where
         no-content : length bytes - at - 3 < l → At CutShort at ≡ field-fault bytes form places at
         unfolding field-fault
         no-content x =
-            test-holds _ _ _ _ _ (le-leb 3 (length bytes - at) h)
-            (test-holds _ _ _ _ _ (sym known ∙ not-false t f)
-            (test-holds _ _ _ _ _ (rw (← e, ← d) (ap not g)) (last-fails _ _ _ (ap not (lt-ltb (length bytes - at) (3 + lengthAt bytes at) (omega arith))))))
+            at-next (held _ _ (le-leb 3 (length bytes - at) h))
+            (at-next (held _ _ (sym known ∙ not-false t f))
+            (at-next (held _ _ (rw (← e, ← d) (ap not g))) (failed (ap not (lt-ltb (length bytes - at) (3 + lengthAt bytes at) (omega arith))))))
 
         sound : l ≤ length bytes - at - 3 → Sound ≡ field-fault bytes form places at
         unfolding field-fault
         sound x =
-            test-holds _ _ _ _ _ (le-leb 3 (length bytes - at) h)
-            (test-holds _ _ _ _ _ (sym known ∙ not-false t f)
-            (test-holds _ _ _ _ _ (rw (← e, ← d) (ap not g)) (last-holds _ _ _ (ap not (le-ltb (length bytes - at) (3 + lengthAt bytes at) (omega arith))))))
+            at-next (held _ _ (le-leb 3 (length bytes - at) h))
+            (at-next (held _ _ (sym known ∙ not-false t f))
+            (at-next (held _ _ (rw (← e, ← d) (ap not g))) (held _ _ (ap not (le-ltb (length bytes - at) (3 + lengthAt bytes at) (omega arith))))))
 
 sub-if1 : tie.Need-sub-if1
 sub-if1 c = search needs

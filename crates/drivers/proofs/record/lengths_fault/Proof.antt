@@ -5,10 +5,11 @@ use Prim.Native.Nat.{ℕ, _<_, _≤_, _-_}
 use borrow.Author.Tests.{eq-eqb, ne-eqb}
 use lib.Dec.{eqb}
 use lib.ListN.{length}
+use Rattle.numbers.specs.laws.Refusal.{failed, held, at-first, at-next}
 use Rattle.numbers.specs.declared.refusal.Refusal.the-variants.{Length}
 use Rattle.numbers.specs.Refusal.{_⨾_, ask-at}
 use Rattle.drivers.specs.Record.{indexOf, indexAt, lengthAt, ruleLength, after, fields-of, lengths-fault}
-use Rattle.drivers.specs.laws.Record.{test-fails, test-holds, fields-after, fields-start, fields-turn, fields-end, left-less}
+use Rattle.drivers.specs.laws.Record.{fields-after, fields-start, fields-turn, fields-end, left-less}
 use Rattle.numbers.specs.declared.refusal.Fault.{Fault}
 use Rattle.numbers.specs.declared.refusal.Fault.the-variants.{Sound, At}
 use borrow.Author.Needs.{needs}
@@ -23,10 +24,10 @@ module _ (bytes : List ℕ) (n at : ℕ) (w : Fault) (left : lengths-fault n byt
     turn = rw (a, b) (sym (ap (λ (z : List ℕ). lengths-fault n bytes z) (fields-turn bytes at h)) ∙ left)
 
     stops : (l ≡ r → ⊥) → At Length at ≡ w
-    stops t = test-fails _ _ _ _ _ (ne-eqb l r t) refl ∙ turn
+    stops t = at-first _ (failed (ne-eqb l r t)) ∙ turn
 
     goes-on : l ≡ r → (next : ℕ) → next ≡ after bytes at → lengths-fault n bytes (fields-after bytes next) ≡ w
-    goes-on t next d = rw d (test-holds _ _ _ _ _ (eq-eqb l r t) refl ∙ turn)
+    goes-on t next d = rw d (at-next (held _ _ (eq-eqb l r t)) refl ∙ turn)
 
   ends : length bytes ≤ at → Sound ≡ w
   unfolding lengths-fault

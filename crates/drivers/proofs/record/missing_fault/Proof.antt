@@ -7,10 +7,10 @@ use Prim.Native.Nat.{ℕ, _<_, _≤_, _+_, _-_, _/_, _%_}
 use native.Mathlib.Nat.{eq-or-lt-of-le}
 use native.Mathlib.Omega.{arith}
 use lib.Dec.{eqb}
+use Rattle.numbers.specs.laws.Refusal.{failed, held}
 use Rattle.numbers.specs.declared.refusal.Refusal.the-variants.{MissingTag}
 use Rattle.numbers.specs.laws.Pick.{some-holds, none-some}
 use Rattle.drivers.specs.Record.{tags, maybe, ruleAt, place, is-missing, missing-fault}
-use Rattle.drivers.specs.laws.Record.{last-fails, last-holds}
 use Rattle.drivers.specs.declared.record.Form.{Form}
 use Rattle.drivers.specs.declared.record.Rule.{Rule}
 use Rattle.numbers.specs.declared.refusal.Fault.the-variants.{Sound, At}
@@ -25,7 +25,7 @@ module _ (end : ℕ) (form : Form) (places : List ℕ) (i : ℕ) where
 
     found : i < tags → (t && not (eqb (r .5) maybe) && eqb (place places i) 0) ≡ true → At MissingTag end ≡ missing-fault end form places
     unfolding missing-fault
-    found b h = last-fails _ _ _ (ap not (some-holds (is-missing form places) 0 tags i (omega arith) (omega arith) (sym test-is ∙ h)))
+    found b h = failed (ap not (some-holds (is-missing form places) 0 tags i (omega arith) (omega arith) (sym test-is ∙ h)))
 
     one-more : ((j : ℕ) → j < i → is-missing form places j ≡ false) → (t && not (eqb (r .5) maybe) && eqb (place places i) 0) ≡ false
         → (j : ℕ) → j < i + 1 → is-missing form places j ≡ false
@@ -33,7 +33,7 @@ module _ (end : ℕ) (form : Form) (places : List ℕ) (i : ℕ) where
 
   none : ((j : ℕ) → j < i → is-missing form places j ≡ false) → tags ≤ i → Sound ≡ missing-fault end form places
   unfolding missing-fault
-  none h l = last-holds _ _ _ (ap not (none-some (is-missing form places) 0 tags (λ j b m. h j (omega arith))))
+  none h l = held _ _ (ap not (none-some (is-missing form places) 0 tags (λ j b m. h j (omega arith))))
 
 abbrev Inv-loop : tie.InvT-loop
 Inv-loop end form places i₀ i = (i ≤ tags) × ((j : ℕ) → j < i → is-missing form places j ≡ false)

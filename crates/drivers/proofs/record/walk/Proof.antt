@@ -9,12 +9,12 @@ use lib.ListN.{length, set}
 use Rattle.numbers.specs.Pick.{pick}
 use Rattle.numbers.specs.Refusal.{is-fault, _⨾_, ask-at}
 use Rattle.numbers.specs.laws.Pick.{is-hit, is-skip}
-use Rattle.numbers.specs.laws.Refusal.{no-fault, both-sound}
+use Rattle.numbers.specs.laws.Refusal.{no-fault, both-sound, ask-sound}
 use Rattle.numbers.specs.declared.refusal.Refusal.the-variants.{CutShort, ForeignTag, RepeatedTag}
 use Rattle.numbers.specs.declared.refusal.Fault.{Fault}
 use Rattle.numbers.specs.declared.refusal.Fault.the-variants.{Sound}
 use Rattle.drivers.specs.Record.{is-of, repeats, is-met, overruns, indexOf, indexAt, contentOf, after, place, first-place, noted, field-fault, fields-of, walk-of}
-use Rattle.drivers.specs.laws.Record.{is-of-listed, asked-holds, fields-after, fields-start, fields-turn, fields-end, left-less}
+use Rattle.drivers.specs.laws.Record.{is-of-listed, fields-after, fields-start, fields-turn, fields-end, left-less}
 use Rattle.drivers.specs.declared.record.Form.{Form}
 use borrow.Author.Needs.{needs}
 use Rattle.drivers.proofs.record.walk.Statement.{statement}
@@ -29,7 +29,7 @@ module _ (bytes : List ℕ) (form : Form) where
       let of-form = ask-at at (is-of form i) ForeignTag in
       let rest = ask-at at (not (is-met places i && not (repeats i))) RepeatedTag ⨾ ask-at at (not (overruns bytes at)) CutShort in
       let e = both-sound (ask-at at (leb 3 (length bytes - at)) CutShort) (of-form ⨾ rest) (no-fault (field-fault bytes form places at) h) .1 in
-      is-of-listed form i (asked-holds at (is-of form i) ForeignTag (both-sound of-form rest e .0))
+      is-of-listed form i (ask-sound (is-of form i) ForeignTag at (both-sound of-form rest e .0))
 
   module _ (places : List ℕ) (at : ℕ) (f : Fault) (h : at < length bytes) (e : f ≡ field-fault bytes form places at) (w : Fault × List ℕ) (left : walk-of bytes form (fields-after bytes at) places ≡ w) where
     turn : walk-of bytes form (fields-after bytes at) places
