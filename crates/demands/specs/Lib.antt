@@ -1,2 +1,2 @@
--- The three demands
+pub mod Demand1
 pub mod Demand3
