@@ -6,11 +6,13 @@ use mathlib.Core.Path.{_≡_, refl, sym, ap, _∙_}
 use mathlib.Core.Bool.{Bool, true, false, not, true≢false, _&&_}
 use mathlib.Core.List.{List}
 use mathlib.Core.Logic.{_⊎_}
+use native.Mathlib.Omega.{arith}
+use borrow.Author.Tests.{eqb-true}
 use lib.Dec.{eqb}
 use lib.IntN.{ℤ}
 use lib.Ieee.{Float}
 use Rattle.numbers.specs.Pick.{pick}
-use Rattle.numbers.specs.Refusal.{refusalNumber, is-fault, unless}
+use Rattle.numbers.specs.Refusal.{refusalNumber, is-fault, _⨾_, unless, ask}
 use Rattle.numbers.specs.laws.Pick.{is-hit, is-skip, by-test}
 use Rattle.numbers.specs.laws.Refusal.{no-fault, both-sound}
 use Rattle.numbers.specs.Arr as arr
@@ -23,10 +25,10 @@ use Rattle.oracles.specs.LmiOracle as lmi
 use Rattle.oracles.specs.Ell as ell
 use Rattle.oracles.specs.EllStable as stable
 use Rattle.oracles.specs.Numbered.{cursor-number, scan-number, verdict-number, optim-verdict-number, factored-number, lmi-number, update-number, new-ell-number, new-ell-stable-number}
-use Rattle.oracles.specs.Verdict.{judgement, refused as unanswered, asked, is-accepted}
+use Rattle.oracles.specs.Verdict.{judgement, refused as unanswered, judge, asked, is-accepted, is-feasible, is-six, as-feas, no-stop-value}
 use Rattle.oracles.specs.laws.Judge.{judge-answers}
 use Rattle.oracles.specs.laws.Assess.{accepted-is}
-use Rattle.oracles.specs.laws.CursorRule.{feas-rule}
+use Rattle.oracles.specs.laws.CursorRule.{feas-rule, optim-rule}
 use Rattle.oracles.specs.declared.lowpass_oracle.Verdict.{Verdict}
 use Rattle.oracles.specs.declared.lowpass_oracle.Verdict.the-variants.{Feasible, Cut, Refused as NotAssessed}
 use Rattle.oracles.specs.declared.lmi_oracle.LmiVerdict.{LmiVerdict}
@@ -42,8 +44,14 @@ use Rattle.oracles.specs.declared.ell_stable.EllStable.{EllStable}
 use Rattle.numbers.specs.declared.cut.CutChoice.{CutChoice}
 use Rattle.numbers.specs.Numbered.{value-number, written-number, new-calc-number}
 use Rattle.numbers.specs.declared.refusal.Refusal.{Refusal}
+use Rattle.numbers.specs.declared.refusal.Refusal.the-variants.{Dimension, Length, Band, Cursor, Position, NoStopValue, CutShort, ForeignTag, RepeatedTag, MissingTag, Room, Outcome}
 use Rattle.numbers.specs.declared.refusal.Fault.{Fault}
 use Rattle.numbers.specs.declared.refusal.Fault.the-variants.{Sound, At}
+use Rattle.oracles.specs.declared.lowpass_oracle.OptimVerdict.{OptimVerdict}
+use Rattle.oracles.specs.declared.lowpass_oracle.OptimVerdict.the-variants.{Improved, Cut as CutOptim, Refused as NotOptim}
+use Rattle.demands.specs.UntouchedTmp.{is-improved, untouched}
+use Rattle.oracles.specs.laws.OracleAfter.{is-refusal, optim-left}
+use Rattle.oracles.specs.declared.lowpass_oracle.AssessedOptim.{AssessedOptim}
 
 -- ---- what is said of a call
 
@@ -174,3 +182,83 @@ stable-updated e s grad beta b =
 pub ell-stable-update : (e : EllStable) (s : CutStrategy) (grad : List Float) (beta : CutChoice) (b : stable.StableBuffers) → Refuses {L = EllStable × stable.StableBuffers} (stable.stable-tests (e .ndim) grad b) (λ r. update-number (r .0 .answer)) (λ r. (r .0 .ell, r .1)) (e, b) (stable.stable-update-answer e s grad beta b)
 ell-stable-update e s grad beta b = refuses _ _ _ _ _ _ (λ why place. refl) (λ why place. refl) (λ h. stable-updated e s grad beta b)
 
+-- `assess_optim`: 6 comes out of the work, where the point is feasible and no stop row compares
+abbrev pub improves : LowpassOracle → Float → ℕ → ℕ → List Float → List Float → Bool
+improves o gamma n rows table x = let q = asked o gamma n rows table x in not (is-feasible (judge q) && no-stop-value q)
+
+abbrev pub assess-optim-tests : LowpassOracle → Float → ℕ → ℕ → List Float → List Float → List Float → Fault
+assess-optim-tests o gamma n rows table x grad = lowpass.assess-tests o n rows table x grad ⨾ ask (improves o gamma n rows table x) NoStopValue
+
+-- an answer that counts as one about the point is a refusal only by 6
+six-or-none : (v : OptimVerdict) → (judgement (as-feas v) ≡ unanswered → ⊥) → optim-verdict-number v ≡ pick (is-six v) 6 0
+six-or-none (Improved beta) h = sym (is-skip _ _ _ refl)
+six-or-none (CutOptim group beta) h = sym (is-skip _ _ _ refl)
+six-or-none (NotOptim why) h = go (eqb (refusalNumber why) 6) refl h
+  where
+    go : (t : Bool) → eqb (refusalNumber why) 6 ≡ t → (judgement (pick t Feasible (NotAssessed why)) ≡ unanswered → ⊥) → refusalNumber why ≡ pick (eqb (refusalNumber why) 6) 6 0
+    go true e h = eqb-true (refusalNumber why) 6 e ∙ sym (is-hit _ _ _ e)
+    go false e h = absurd (h (ap judgement (is-skip false Feasible (NotAssessed why) refl)))
+
+by-six : (t : Bool) → pick t 6 0 ≡ fault-number (ask (not t) NoStopValue)
+unfolding pick
+by-six true = refl
+by-six false = refl
+
+unimproved : (v : OptimVerdict) → is-refusal v ≡ true → is-improved v ≡ false
+unimproved (Improved beta) h = absurd (true≢false (sym h))
+unimproved (CutOptim group beta) h = refl
+unimproved (NotOptim why) h = refl
+
+-- and an answer with a number is a refusal
+numbered-refusal : (v : OptimVerdict) → (optim-verdict-number v ≡ 0 → ⊥) → is-refusal v ≡ true
+numbered-refusal (Improved beta) h = absurd (h refl)
+numbered-refusal (CutOptim group beta) h = absurd (h refl)
+numbered-refusal (NotOptim why) h = refl
+
+-- every refusal has a number
+pub numbered : (f : Fault) → is-fault f ≡ true → fault-number f ≡ 0 → ⊥
+numbered Sound h e = true≢false (sym h)
+numbered (At Dimension place) h e = omega arith
+numbered (At Length place) h e = omega arith
+numbered (At Band place) h e = omega arith
+numbered (At Cursor place) h e = omega arith
+numbered (At Position place) h e = omega arith
+numbered (At NoStopValue place) h e = omega arith
+numbered (At CutShort place) h e = omega arith
+numbered (At ForeignTag place) h e = omega arith
+numbered (At RepeatedTag place) h e = omega arith
+numbered (At MissingTag place) h e = omega arith
+numbered (At Room place) h e = omega arith
+numbered (At Outcome place) h e = omega arith
+
+module _ (o : LowpassOracle) (gamma : Float) (n rows : ℕ) (table x grad : List Float) where
+  abbrev answer : AssessedOptim × List Float
+  answer = lowpass.assess-optim-answer o gamma n rows table x grad
+
+  optim-by-number : optim-verdict-number (answer .0 .verdict) ≡ fault-number (assess-optim-tests o gamma n rows table x grad)
+  unfolding lowpass.assess-feas-answer
+  optim-by-number = go (lowpass.assess-tests o n rows table x grad) refl
+    where
+      worked : lowpass.assess-tests o n rows table x grad ≡ Sound → optim-verdict-number (answer .0 .verdict) ≡ fault-number (ask (improves o gamma n rows table x) NoStopValue)
+      worked e =
+          let r = optim-rule o gamma n rows table x grad (accepted o n rows table x grad e) in
+          let v = answer .0 .verdict in
+          six-or-none v (λ h. judge-answers (asked o gamma n rows table x) (sym (r .verdict-is) ∙ h))
+          ∙ ap (λ (t : Bool). pick t 6 0) (r .six-is)
+          ∙ by-six (is-feasible (judge (asked o gamma n rows table x)) && no-stop-value (asked o gamma n rows table x))
+
+      go : (f : Fault) → lowpass.assess-tests o n rows table x grad ≡ f → optim-verdict-number (answer .0 .verdict) ≡ fault-number (f ⨾ ask (improves o gamma n rows table x) NoStopValue)
+      go Sound e = worked e ∙ ap fault-number (sym (is-skip _ _ _ refl))
+      go (At why place) e =
+          ap (λ (f : Fault). let a = unless f (λ w p. (lowpass.refusedOf (lowpass.offered o gamma) w, grad)) (lowpass.assessOf (lowpass.offered o gamma) n table x grad) in
+          optim-verdict-number (lowpass.optim-of o gamma n table (a .0 .oracle) (a .0 .verdict) (a .1) .0 .verdict)) e
+          ∙ ap fault-number (sym (is-hit _ _ _ refl))
+
+  pub assess-optim : Refuses {L = LowpassOracle × Float × List Float} (assess-optim-tests o gamma n rows table x grad) (λ r. optim-verdict-number (r .0 .verdict)) (λ r. (r .0 .oracle, r .0 .gamma, r .1)) (o, gamma, grad) answer
+  assess-optim = record {
+    by-number = optim-by-number;
+    writes-nothing = λ h.
+    let t = numbered-refusal (answer .0 .verdict) (λ e. numbered (assess-optim-tests o gamma n rows table x grad) h (sym optim-by-number ∙ e)) in
+    let u = untouched o gamma n rows table x grad in
+    rw (optim-left o gamma n rows table x grad .as-it-came t, u .gamma-stays (unimproved (answer .0 .verdict) t), u .grad-stays t);
+  }

@@ -1,2 +1,3 @@
+pub mod UntouchedTmp
 pub mod Demand1
 pub mod Demand3
