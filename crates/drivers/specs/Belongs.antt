@@ -12,6 +12,7 @@ use Rattle.oracles.specs.LowpassOracle.{bands-fit, cursors-fit, assess-feas-ans
 use Rattle.oracles.specs.Verdict.{asked, judge, is-feasible}
 use Rattle.oracles.specs.declared.lowpass_oracle.Verdict.{Verdict}
 use Rattle.oracles.specs.declared.lowpass_oracle.Verdict.the-variants.{Feasible, Cut, Refused as NotAssessed}
+use Rattle.drivers.specs.Job.{job-oracle}
 use Rattle.drivers.specs.declared.answer.Answer.{Answer}
 use Rattle.drivers.specs.declared.job.Job.{Job}
 use Rattle.drivers.specs.declared.belongs.Belonging.{Belonging}
@@ -28,7 +29,7 @@ said-by (NotAssessed why) found = Refused why
 
 -- a point is feasible for a job: nothing of the job's cursors is asked
 abbrev pub feasible-for : Job → List Float → List Float → Bool
-feasible-for j table x = is-feasible (judge (asked (j .oracle) (j .oracle .«sp_sq») (j .n) (j .rows) table x))
+feasible-for j table x = is-feasible (judge (asked (job-oracle j) (job-oracle j .«sp_sq») (j .n) (j .rows) table x))
 
 -- the point that is asked about: the answer's, or the job's own where it has none
 abbrev pub asked-point : Answer → List Float → List Float → List Float
@@ -42,6 +43,6 @@ is-of j table x a point = pick (a .found) (feasible-for j table point) (not (fea
 unfoldable pub belongs-answer : Job → List Float → List Float → Answer → List Float → List Float → Belonging × List Float
 belongs-answer j table x a point grad =
     tested (j .n) (table-fits (j .n) (j .rows) table x && eqb (length point) (j .n) && eqb (length grad) (j .n)) (Refused Dimension, grad) (Refused Length, grad)
-    (pick (not (bands-fit (j .oracle) (j .rows))) (Refused Band, grad)
-    (pick (not (cursors-fit (j .oracle))) (Refused Cursor, grad)
-    (yes-if (is-of j table x a point), assess-feas-answer (j .oracle) (j .n) (j .rows) table (asked-point a x point) grad .1)))
+    (pick (not (bands-fit (job-oracle j) (j .rows))) (Refused Band, grad)
+    (pick (not (cursors-fit (job-oracle j))) (Refused Cursor, grad)
+    (yes-if (is-of j table x a point), assess-feas-answer (job-oracle j) (j .n) (j .rows) table (asked-point a x point) grad .1)))

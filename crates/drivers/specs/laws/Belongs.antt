@@ -20,6 +20,7 @@ use Rattle.oracles.specs.declared.lowpass_oracle.Assessed.{Assessed}
 use Rattle.oracles.specs.declared.lowpass_oracle.Group.the-variants.{Pass, Stop, Middle, Sign}
 use Rattle.oracles.specs.declared.lowpass_oracle.Verdict.{Verdict}
 use Rattle.oracles.specs.declared.lowpass_oracle.Verdict.the-variants.{Feasible, Cut, Refused as NotAssessed}
+use Rattle.drivers.specs.Job.{job-oracle}
 use Rattle.drivers.specs.Belongs.{yes-if, said-by, feasible-for, is-of, asked-point, belongs-answer}
 use Rattle.drivers.specs.declared.answer.Answer.{Answer}
 use Rattle.drivers.specs.declared.job.Job.{Job}
@@ -69,7 +70,7 @@ module _ (j : Job) (table x : List Float) (a : Answer) (point grad : List Float)
       pick-cong (a .found) (λ t. ap (feasible-for j table) (sym (is-hit (a .found) point x t))) (λ t. ap (λ l. not (feasible-for j table l)) (sym (is-skip (a .found) point x t)))
 
   abbrev assessed : Assessed × List Float
-  assessed = assess-feas-answer (j .oracle) (j .n) (j .rows) table (asked-point a x point) grad
+  assessed = assess-feas-answer (job-oracle j) (j .n) (j .rows) table (asked-point a x point) grad
 
   -- what the assessment of that point makes of the answer
   abbrev says : Assessed × List Float → Belonging × List Float
@@ -84,9 +85,9 @@ module _ (j : Job) (table x : List Float) (a : Answer) (point grad : List Float)
       (ap (λ (t : Bool). t && eqb (length grad) (j .n)) (sym (and-true (eqb (length table) (j .rows * j .n) && true))))
 
   -- an accepted assessment decides
-  accepted-says : is-accepted (j .oracle) (j .n) (j .rows) table (asked-point a x point) grad ≡ true → said-by (assessed .0 .verdict) (a .found) ≡ yes-if (is-of j table x a point)
+  accepted-says : is-accepted (job-oracle j) (j .n) (j .rows) table (asked-point a x point) grad ≡ true → said-by (assessed .0 .verdict) (a .found) ≡ yes-if (is-of j table x a point)
   accepted-says h =
-      let r = feas-rule (j .oracle) (j .n) (j .rows) table (asked-point a x point) grad h in
+      let r = feas-rule (job-oracle j) (j .n) (j .rows) table (asked-point a x point) grad h in
       let v = r .verdict-is in
       decided (assessed .0 .verdict) (a .found) (ap is-refused v ∙ judged _)
       ∙ ap (λ (w : Judgement). yes-if (pick (a .found) (is-feasible w) (not (is-feasible w)))) v
@@ -97,7 +98,7 @@ module _ (j : Job) (table x : List Float) (a : Answer) (point grad : List Float)
   belongs-is d hx hp = go _ _ _ (fits hx hp) refl refl refl
     where
       go : (f b k : Bool) → (table-fits (j .n) (j .rows) table (asked-point a x point) && eqb (length grad) (j .n)) ≡ f
-          → (table-fits (j .n) (j .rows) table x && eqb (length point) (j .n) && eqb (length grad) (j .n)) ≡ f → bands-fit (j .oracle) (j .rows) ≡ b → cursors-fit (j .oracle) ≡ k
+          → (table-fits (j .n) (j .rows) table x && eqb (length point) (j .n) && eqb (length grad) (j .n)) ≡ f → bands-fit (job-oracle j) (j .rows) ≡ b → cursors-fit (job-oracle j) ≡ k
           → says assessed ≡ belongs-answer j table x a point grad
       go false b k ea eb hb hk = ap says (sym (wrong-length (j .n) _ _ _ _ d ea)) ∙ wrong-length (j .n) _ _ _ _ d eb
       go true false k ea eb hb hk =
@@ -128,9 +129,9 @@ module _ (j : Job) (table x : List Float) (a : Answer) (point grad : List Float)
       neither false u v w e = refl
 
   pub belongs-said : isDimension (j .n) ≡ true → (eqb (length x) (j .n) && eqb (length point) (j .n)) ≡ true → (p : List Float) → p ≡ asked-point a x point → (r : Assessed) (g : List Float)
-      → (r, g) ≡ assess-feas-answer (j .oracle) (j .n) (j .rows) table p grad → (b : Belonging) → b ≡ said-by (r .verdict) (a .found) → (b, g) ≡ belongs-answer j table x a point grad
+      → (r, g) ≡ assess-feas-answer (job-oracle j) (j .n) (j .rows) table p grad → (b : Belonging) → b ≡ said-by (r .verdict) (a .found) → (b, g) ≡ belongs-answer j table x a point grad
   belongs-said d h p ep r g e b eb =
       let w = and-parts (eqb (length x) (j .n)) (eqb (length point) (j .n)) h in
       ap (λ (z : Belonging). (z, g)) eb
-      ∙ ap says (e ∙ ap (λ (l : List Float). assess-feas-answer (j .oracle) (j .n) (j .rows) table l grad) ep)
+      ∙ ap says (e ∙ ap (λ (l : List Float). assess-feas-answer (job-oracle j) (j .n) (j .rows) table l grad) ep)
       ∙ belongs-is d (eqb-true (length x) (j .n) (w .0)) (eqb-true (length point) (j .n) (w .1))
