@@ -143,13 +143,12 @@ room-fault j table xc mq = ask (has-room j table xc mq) Room
 
 -- ---- the reader
 
--- a job put to the fronts of three slices; a fault leaves them
+-- a job put to the fronts of three slices, if nothing is at fault and they have room; else they stay
 abbrev pub read-into : FullJob → Fault → List Float → List Float → List Float → JobAnswer × List Float × List Float × List Float
 read-into f fault table xc mq =
-    unless fault (λ why place. (Refused why place, table, xc, mq)) (Read (f .job), fronted (f .table) table, fronted (f .point) xc, fronted (f .matrix) mq)
+    unless (fault ⨾ room-fault (f .job) (length table) (length xc) (length mq)) (λ why place. (Refused why place, table, xc, mq))
+    (Read (f .job), fronted (f .table) table, fronted (f .point) xc, fronted (f .matrix) mq)
 
 -- `read_job`
 unfoldable pub read-job-answer : List ℕ → List Float → List Float → List Float → JobAnswer × List Float × List Float × List Float
-read-job-answer bytes table xc mq =
-    let f = full-job bytes in
-    read-into f (job-fault bytes ⨾ room-fault (f .job) (length table) (length xc) (length mq)) table xc mq
+read-job-answer bytes table xc mq = read-into (full-job bytes) (job-fault bytes) table xc mq

@@ -23,7 +23,8 @@ ghost use mathlib.Core.Path.{_≡_};
 ghost use Prim.Native.Nat.{_*_, _+_, _≤_, _<_};
 ghost use lib.ListN.{length};
 ghost use Rattle.drivers.specs.Record.{fields-of, no-places, numbersAt, row-count, rows-in, rows-of, row-filled, fronted};
-ghost use Rattle.drivers.specs.Job.{signed, partOf, row-end, job-oracle, at-point, at-matrix, optionsOf, job-at, full-job-at, job-walk, size-fault, job-fault, has-room, room-fault, read-into, read-job-answer};
+ghost use Rattle.drivers.specs.Job.{signed, partOf, row-end, job-oracle, at-point, at-matrix, optionsOf, job-at, full-job-at, job-walk, size-fault, job-fault, has-room, read-into, read-job-answer};
+ghost use Rattle.numbers.specs.declared.refusal.Fault.the-variants.{Sound};
 
 // What a job record keeps, beside its row table, its point and its matrix, which the reader writes into slices.
 pub struct Job {
@@ -251,7 +252,7 @@ fn read_sound(
     mq: &mut [f64],
 ) -> JobAnswer
     requires { ⌜ (job-at (now bytes) (now places) .n ≤ 32) × (job-at (now bytes) (now places) .rows ≤ 1024) ⌝ }
-    ensures { λ r. ⌜ (r, now (table .exit), now (xc .exit), now (mq .exit)) ≡ read-into (full-job-at (now (bytes .entry)) (now (places .entry))) (room-fault (job-at (now (bytes .entry)) (now (places .entry))) (length (now (table .entry))) (length (now (xc .entry))) (length (now (mq .entry)))) (now (table .entry)) (now (xc .entry)) (now (mq .entry)) ⌝ }
+    ensures { λ r. ⌜ (r, now (table .exit), now (xc .exit), now (mq .exit)) ≡ read-into (full-job-at (now (bytes .entry)) (now (places .entry))) Sound (now (table .entry)) (now (xc .entry)) (now (mq .entry)) ⌝ }
 {
     let job = job_at(bytes, places);
     if !has_room(job, table.len(), xc.len(), mq.len()) {

@@ -15,13 +15,13 @@ use Rattle.numbers.specs.Pick.{pick}
 use Rattle.numbers.specs.laws.Arr.{length-tab}
 use Rattle.numbers.specs.EllCalc.{made}
 use Rattle.numbers.specs.laws.Pick.{and-parts}
-use Rattle.numbers.specs.Refusal.{_⨾_}
+use Rattle.numbers.specs.Refusal.{_⨾_, unless}
 use Rattle.numbers.specs.laws.Refusal.{both-sound}
 use Rattle.oracles.specs.Ell.{EllBuffers}
 use Rattle.oracles.specs.laws.EllCalls.{EllLong, ell-makes}
 use Rattle.drivers.specs.Record.{numberAt, numbersAt, fields-of, row-count, rows-of, is-row, rows-in, contentOf, fronted}
 use Rattle.drivers.specs.CuttingPlane.{Space, check-space, feas-run}
-use Rattle.drivers.specs.Job.{FullJob, job-oracle, at-point, at-matrix, job-at, full-job-at, job-walk, full-job, job-fault, has-room, room-fault, read-into, read-job-answer}
+use Rattle.drivers.specs.Job.{FullJob, job-oracle, at-point, at-matrix, job-at, full-job-at, job-walk, full-job, job-fault, has-room, room-fault, read-job-answer}
 use Rattle.drivers.specs.laws.Job.{JobSound, ask-sound, sound-job}
 use Rattle.drivers.specs.Trace.{run-of, new-run-answer, space-of}
 use Rattle.drivers.specs.laws.StepRight.{fits-right}
@@ -31,6 +31,7 @@ use Rattle.numbers.specs.declared.refusal.Fault.{Fault}
 use Rattle.numbers.specs.declared.refusal.Fault.the-variants.{Sound, At}
 use Rattle.drivers.specs.declared.cutting_plane.Checked.the-variants.{Right}
 use Rattle.drivers.specs.declared.job.Job.{Job}
+use Rattle.drivers.specs.declared.job.JobAnswer.{JobAnswer}
 use Rattle.drivers.specs.declared.job.JobAnswer.the-variants.{Read, Refused}
 use Rattle.drivers.specs.declared.trace.Run.{Run}
 use Rattle.drivers.specs.declared.trace.NewRun.the-variants.{Made}
@@ -102,7 +103,9 @@ module _ (bytes : List ℕ) (table xc mq : List Float) where
       (sound-job bytes (s .0), room-held f table xc mq (full-long bytes (job-walk bytes .1)) (ask-sound 0 (has-room (f .job) (length table) (length xc) (length mq)) Room (s .1))))
     where
       go : (f : FullJob) (fault : Fault) → (fault ≡ Sound → JobSound (f .job) × JobHeld (f .job) (fronted (f .table) table) (fronted (f .point) xc) (fronted (f .matrix) mq))
-          → read-into f fault table xc mq ≡ (Read j, table′, xc′, mq′) → JobSound j × JobHeld j table′ xc′ mq′
+          → _≡_ {A = JobAnswer × List Float × List Float × List Float}
+          (unless fault (λ why place. (Refused why place, table, xc, mq)) (Read (f .job), fronted (f .table) table, fronted (f .point) xc, fronted (f .matrix) mq)) (Read j, table′, xc′, mq′)
+          → JobSound j × JobHeld j table′ xc′ mq′
       go f Sound h e =
           let e₀ : Read (f .job) ≡ Read j = ap (λ z. z .0) e in
           let j-is : f .job ≡ j = cc in

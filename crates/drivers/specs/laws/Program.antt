@@ -106,7 +106,7 @@ module _ (calls : ℕ) (enough : 65536 ≤ calls) (bytes : List ℕ) (out : List
       f = full-job bytes
 
       go : (fault : Fault) → job-fault bytes ≡ fault
-          → let r = read-into f (fault ⨾ room-fault (f .job) (length table) (length xc) (length mq)) table xc mq in
+          → let r = read-into f fault table xc mq in
           calls-text calls (with-slices (r .1) (r .2) (r .3) (opened-read out (r .0))) ≡ unless fault refused-text (job-text f)
       go Sound e =
           let h = sound-job bytes e in

@@ -31,20 +31,14 @@ module _ (bytes : List ℕ) (table xc mq : List Float) (fault : Fault) (e : faul
   refused : (why : Refusal) (place : ℕ) → fault ≡ At why place → (Refused why place, table, xc, mq) ≡ read-job-answer bytes table xc mq
   unfolding read-job-answer
   refused why place d =
-      let f = full-job bytes in
-      let g = room-fault (f .job) (length table) (length xc) (length mq) in
+      let g = room-fault (full-job bytes .job) (length table) (length xc) (length mq) in
       let h : (job-fault bytes ⨾ g) ≡ At why place = rw (← e, d) (is-hit true (At why place) g refl) in
       rw h refl
 
-  read : fault ≡ Sound → (places : List ℕ) → places ≡ job-walk bytes .1 → (a : JobAnswer) (table′ xc′ mq′ : List Float)
-      → (a, table′, xc′, mq′) ≡ read-into (full-job-at bytes places) (room-fault (job-at bytes places) (length table) (length xc) (length mq)) table xc mq
-      → (a, table′, xc′, mq′) ≡ read-job-answer bytes table xc mq
-  unfolding read-job-answer full-job-at
-  read d places p a table′ xc′ mq′ h =
-      let f = full-job bytes in
-      let g = room-fault (f .job) (length table) (length xc) (length mq) in
-      let k : (job-fault bytes ⨾ g) ≡ g = rw (← e, d) (is-skip false Sound g refl) in
-      rw k (rw (← p) h)
+  read : fault ≡ Sound → (places : List ℕ) → places ≡ job-walk bytes .1 → (r : JobAnswer × List Float × List Float × List Float)
+      → r ≡ read-into (full-job-at bytes places) Sound table xc mq → r ≡ read-job-answer bytes table xc mq
+  unfolding read-job-answer
+  read d places p r h = rw (← e, d, ← p) h
 
 small : (bytes : List ℕ) (fault : Fault) → fault ≡ job-fault bytes → fault ≡ Sound → (places : List ℕ) → places ≡ job-walk bytes .1
     → (job-at bytes places .n ≤ 32) × (job-at bytes places .rows ≤ 1024)
@@ -82,7 +76,7 @@ returns-2 c =
     let fj = c .before .before .before .before .before .before in
     let m = fj .before .before .before .before .before .before in
     let jf = m .before in
-    read _ _ _ _ _ (jf .job-fault .ensures .0) (sound _ (m .match .keys2)) _ (jf .job-fault .ensures .1) _ _ _ _ (fj .read-sound .ensures)
+    read _ _ _ _ _ (jf .job-fault .ensures .0) (sound _ (m .match .keys2)) _ (jf .job-fault .ensures .1) _ (fj .read-sound .ensures)
 
 pub read-job-spec : {M : Type 1} → statement M
 read-job-spec =

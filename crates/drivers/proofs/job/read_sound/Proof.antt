@@ -10,6 +10,7 @@ use lib.Ieee.{Float}
 use Rattle.numbers.specs.declared.refusal.Refusal.the-variants.{Room}
 use Rattle.numbers.specs.declared.refusal.Fault.{Fault}
 use Rattle.numbers.specs.declared.refusal.Fault.the-variants.{Sound, At}
+use Rattle.numbers.specs.Refusal.{_⨾_}
 use Rattle.numbers.specs.laws.Pick.{is-hit, is-skip, and-parts}
 use Rattle.drivers.specs.Record.{numbersAt, fields-of, row-count, rows-of, fronted}
 use Rattle.drivers.specs.Job.{at-point, at-matrix, job-at, full-job-at, has-room, room-fault, read-into}
@@ -28,23 +29,24 @@ module _ (bytes places : List ℕ) (table xc mq : List Float) (j : Job) (d : j �
   abbrev Answer : Type 0
   Answer = JobAnswer × List Float × List Float × List Float
 
-  abbrev fault : Fault
-  fault = room-fault (job-at bytes places) (length table) (length xc) (length mq)
-
   has : has-room (job-at bytes places) (length table) (length xc) (length mq) ≡ t
   has = rw (← d) (sym e)
 
-  refused : not t ≡ true → _≡_ {A = Answer} (Refused Room 0, table, xc, mq) (read-into (full-job-at bytes places) fault table xc mq)
+  abbrev fault : Fault
+  fault = room-fault (job-at bytes places) (length table) (length xc) (length mq)
+
+  refused : not t ≡ true → _≡_ {A = Answer} (Refused Room 0, table, xc, mq) (read-into (full-job-at bytes places) Sound table xc mq)
+  unfolding full-job-at
   refused h =
-      let f : fault ≡ At Room 0 = is-skip _ _ _ (has ∙ not-true t h) in
+      let f : (Sound ⨾ fault) ≡ At Room 0 = is-skip false Sound fault refl ∙ is-skip _ _ _ (has ∙ not-true t h) in
       rw f refl
 
   module _ (h : not t ≡ false) where
     read : (table′ xc′ mq′ : List Float) → table′ ≡ fronted (rows-of (j .n) bytes (fields-of bytes)) table → xc′ ≡ fronted (numbersAt bytes (at-point places) (j .n)) xc
-        → mq′ ≡ fronted (numbersAt bytes (at-matrix places) (j .n * j .n)) mq → _≡_ {A = Answer} (Read j, table′, xc′, mq′) (read-into (full-job-at bytes places) fault table xc mq)
+        → mq′ ≡ fronted (numbersAt bytes (at-matrix places) (j .n * j .n)) mq → _≡_ {A = Answer} (Read j, table′, xc′, mq′) (read-into (full-job-at bytes places) Sound table xc mq)
     unfolding full-job-at
     read table′ xc′ mq′ a b c =
-        let f : fault ≡ Sound = is-hit _ _ _ (has ∙ not-false t h) in
+        let f : (Sound ⨾ fault) ≡ Sound = is-skip false Sound fault refl ∙ is-hit _ _ _ (has ∙ not-false t h) in
         rw (f, a, b, c, d) refl
 
     room : j .n ≤ 32 → (j .n ≤ 32) × (row-count bytes (fields-of bytes) * j .n ≤ length table) × (j .n ≤ length xc) × (j .n * j .n ≤ length mq)
