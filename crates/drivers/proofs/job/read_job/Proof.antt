@@ -1,6 +1,6 @@
 -- `drivers::job::read_job` meets its contract. Assumes nothing.
 use mathlib.Core.Path.{_≡_, refl, sym, _∙_}
-use mathlib.Core.Bool.{true, false}
+use mathlib.Core.Bool.{true}
 use mathlib.Core.List.{List, [], _∷_}
 use Prim.Native.Nat.{ℕ, _≤_}
 use native.Mathlib.Omega.{arith}
@@ -10,7 +10,7 @@ use types.Run.{OneOf}
 use denote.Enum.Declared.{tagOf}
 use Rattle.numbers.specs.declared.refusal.Refusal.{Refusal}
 use Rattle.numbers.specs.Refusal.{_⨾_}
-use Rattle.numbers.specs.laws.Pick.{is-hit, is-skip}
+use Rattle.numbers.specs.laws.Pick.{is-hit}
 use Rattle.drivers.specs.Job.{job-at, full-job-at, job-walk, full-job, job-fault, room-fault, read-into, read-job-answer}
 use Rattle.drivers.specs.laws.Job.{n-to, rows-to, sound-job}
 use Rattle.numbers.specs.declared.refusal.Fault.{Fault}
