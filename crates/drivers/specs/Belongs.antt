@@ -12,6 +12,7 @@ use Rattle.oracles.specs.LowpassOracle.{oracle-tests, assess-feas-answer}
 use Rattle.oracles.specs.Verdict.{asked, judge, is-feasible}
 use Rattle.oracles.specs.declared.lowpass_oracle.Verdict.{Verdict}
 use Rattle.oracles.specs.declared.lowpass_oracle.Verdict.the-variants.{Feasible, Cut, Refused as NotAssessed}
+use Rattle.drivers.specs.Job.{job-oracle}
 use Rattle.drivers.specs.declared.answer.Answer.{Answer}
 use Rattle.drivers.specs.declared.job.Job.{Job}
 use Rattle.drivers.specs.declared.belongs.Belonging.{Belonging}
@@ -28,7 +29,7 @@ said-by (NotAssessed why) found = Refused why
 
 -- a point is feasible for a job: nothing of the job's cursors is asked
 abbrev pub feasible-for : Job → List Float → List Float → Bool
-feasible-for j table x = is-feasible (judge (asked (j .oracle) (j .oracle .«sp_sq») (j .n) (j .rows) table x))
+feasible-for j table x = is-feasible (judge (asked (job-oracle j) (job-oracle j .«sp_sq») (j .n) (j .rows) table x))
 
 -- the point that is asked about: the answer's, or the job's own where it has none
 abbrev pub asked-point : Answer → List Float → List Float → List Float
@@ -41,9 +42,9 @@ is-of j table x a point = pick (a .found) (feasible-for j table point) (not (fea
 -- `belongs`: refusals 1 to 4; grad is left as the assessment of the point that is asked about leaves it
 abbrev pub belongs-tests : Job → List Float → List Float → List Float → List Float → Fault
 belongs-tests j table x point grad =
-    oracle-tests (j .oracle) (j .n) (j .rows) (table-fits (j .n) (j .rows) table x && eqb (length point) (j .n) && eqb (length grad) (j .n))
+    oracle-tests (job-oracle j) (j .n) (j .rows) (table-fits (j .n) (j .rows) table x && eqb (length point) (j .n) && eqb (length grad) (j .n))
 
 unfoldable pub belongs-answer : Job → List Float → List Float → Answer → List Float → List Float → Belonging × List Float
 belongs-answer j table x a point grad =
     unless (belongs-tests j table x point grad) (λ why place. (Refused why, grad))
-    (yes-if (is-of j table x a point), assess-feas-answer (j .oracle) (j .n) (j .rows) table (asked-point a x point) grad .1)
+    (yes-if (is-of j table x a point), assess-feas-answer (job-oracle j) (j .n) (j .rows) table (asked-point a x point) grad .1)

@@ -1,6 +1,6 @@
 -- The job record (document 01, "Job and answer records"): what its reader refuses, and what it reads. Definitions only.
-use Prim.Native.Nat.{ℕ, _+_, _*_, _/_, _%_, _^_}
-use mathlib.Core.Bool.{Bool, true, not, _&&_}
+use Prim.Native.Nat.{ℕ, _*_, _/_, _%_, _^_}
+use mathlib.Core.Bool.{Bool, _&&_}
 use mathlib.Core.List.{List}
 use lib.Dec.{leb, ltb, eqb}
 use lib.ListN.{length, drop, getD}
@@ -8,16 +8,13 @@ use lib.IntN.{ℤ, pos, _-ℤ_}
 use lib.Ieee.{Float}
 use Rattle.numbers.specs.Pick.{pick}
 use Rattle.numbers.specs.Bits.{floatOf, wordAt}
-use Rattle.numbers.specs.Arr.{isDimension}
 use Rattle.numbers.specs.declared.refusal.Refusal.the-variants.{Dimension, Length, Band, Cursor, Room}
-use Rattle.numbers.specs.Refusal.{_⨾_, unless}
-use Rattle.oracles.specs.Scan.{−∞, none, isRows}
-use Rattle.oracles.specs.LowpassOracle.{cursors-fit}
-use Rattle.oracles.specs.declared.round_robin.RoundRobin.{RoundRobin}
+use Rattle.numbers.specs.Refusal.{_⨾_, unless, ask-at, ask}
+use Rattle.oracles.specs.Scan.{none, isRows}
+use Rattle.oracles.specs.LowpassOracle.{start-oracle, bands-fit, cursors-fit}
 use Rattle.oracles.specs.declared.lowpass_oracle.LowpassOracle.{LowpassOracle}
-use Rattle.drivers.specs.Record.{ruleLength, lengthAt, startOf, halfAt, numberAt, numbersAt, fields-of, no-places, job-form, record-fault, lengths-fault, row-count, rows-of, fronted}
+use Rattle.drivers.specs.Record.{ruleLength, lengthAt, startOf, halfAt, numberAt, numbersAt, n-tag, bands-tag, limits-tag, point-tag, cursors-tag, kappa-tag, matrix-tag, settings-tag, fields-of, no-places, place, job-form, record-fault, lengths-fault, row-count, rows-of, fronted}
 use Rattle.numbers.specs.declared.refusal.Fault.{Fault}
-use Rattle.numbers.specs.declared.refusal.Fault.the-variants.{Sound, At}
 use Rattle.drivers.specs.declared.cutting_plane.Options.{Options}
 use Rattle.drivers.specs.declared.job.Job.{Job}
 use Rattle.drivers.specs.declared.job.JobAnswer.{JobAnswer}
@@ -31,98 +28,103 @@ partOf w k = w / 65536 ^ k % 65536
 unfoldable pub signed : ℕ → ℤ
 signed h = pick (ltb h 32768) (pos h) (pos h -ℤ pos 65536)
 
--- ---- the contents; `places` has where they begin, tag 01's first
+-- ---- the job
 
--- the oracle of a job of so many rows: tags 02, 03 and 06, each idx at its band's lo − 1, no largest value yet
-unfoldable pub job-oracle : List ℕ → List ℕ → ℕ → LowpassOracle
-job-oracle bytes places rows =
-    let bands = wordAt bytes (getD places 1 0) in
-    let nwpass = pos (partOf bands 0) in
-    let nwstop = pos (partOf bands 1) in
-    let limits = getD places 2 0 in
-    let curs = wordAt bytes (getD places 5 0) in
-    record {
-      «more_alt» = true;
-      idx1 = none;
-      nwpass = nwpass;
-      nwstop = nwstop;
-      «lp_sq» = numberAt bytes limits 0;
-      «up_sq» = numberAt bytes limits 1;
-      «sp_sq» = numberAt bytes limits 2;
-      idx2 = nwpass -ℤ pos 1;
-      idx3 = nwstop -ℤ pos 1;
-      fmax = −∞;
-      kmax = none;
-      rr1 = record { cur = signed (partOf curs 0); lo = pos 0; hi = nwpass };
-      rr2 = record { cur = signed (partOf curs 1); lo = nwpass; hi = nwstop };
-      rr3 = record { cur = signed (partOf curs 2); lo = nwstop; hi = pos rows };
-    }
+-- the end of the stop rows; −1 where no table has so many rows, and every call refuses the job
+abbrev pub row-end : ℕ → ℤ
+row-end rows = pick (isRows rows) (pos rows) none
+
+-- `Job::oracle`: what a job's oracle starts with
+abbrev pub job-oracle : Job → LowpassOracle
+job-oracle j = start-oracle (j .nwpass) (j .nwstop) (row-end (j .rows)) (j .cur1) (j .cur2) (j .cur3) (j .«lp_sq») (j .«up_sq») (j .«sp_sq»)
+
+-- a job with its numbers: the rows one after the other, the point, and the matrix row by row
+pub record FullJob : Type 0 where
+  pub job : Job
+  pub table : List Float
+  pub point : List Float
+  pub matrix : List Float
+
+-- ---- what a record says; `places` has where the contents begin, tag 01's first
 
 -- the step limit, and the tolerance two bytes on
 unfoldable pub optionsOf : List ℕ → ℕ → Options
-optionsOf bytes p = record { «max_iters» = wordAt (drop p bytes) 0 % 65536; tolerance = floatOf (wordAt (drop p bytes) 2) }
+optionsOf bytes p = record { «max_iters» = halfAt (drop p bytes) 0; tolerance = floatOf (wordAt (drop p bytes) 2) }
+
+-- the job, beside its three lists
+unfoldable pub job-at : List ℕ → List ℕ → Job
+job-at bytes places =
+    let bands = wordAt bytes (place places bands-tag) in
+    let limits = place places limits-tag in
+    let curs = wordAt bytes (place places cursors-tag) in
+    record {
+      n = halfAt bytes (place places n-tag);
+      rows = row-count bytes (fields-of bytes);
+      nwpass = pos (partOf bands 0);
+      nwstop = pos (partOf bands 1);
+      «lp_sq» = numberAt bytes limits 0;
+      «up_sq» = numberAt bytes limits 1;
+      «sp_sq» = numberAt bytes limits 2;
+      cur1 = signed (partOf curs 0);
+      cur2 = signed (partOf curs 1);
+      cur3 = signed (partOf curs 2);
+      kappa = numberAt bytes (place places kappa-tag) 0;
+      options = optionsOf bytes (place places settings-tag);
+    }
+
+-- with them
+unfoldable pub full-job-at : List ℕ → List ℕ → FullJob
+full-job-at bytes places =
+    let j = job-at bytes places in
+    record {
+      job = j;
+      table = rows-of (j .n) bytes (fields-of bytes);
+      point = numbersAt bytes (place places point-tag) (j .n);
+      matrix = numbersAt bytes (place places matrix-tag) (j .n * j .n);
+    }
+
+-- the walk over tags 01 to 09, and 10, with the places that it notes
+abbrev pub job-walk : List ℕ → Fault × List ℕ
+job-walk bytes = record-fault bytes job-form no-places
+
+-- what the bytes of a record say
+abbrev pub full-job : List ℕ → FullJob
+full-job bytes = full-job-at bytes (job-walk bytes .1)
 
 -- ---- the tests
 
--- tag 01's length, then its range
-unfoldable pub dimension-fault : List ℕ → ℕ → Fault
-dimension-fault bytes p =
-    pick (not (eqb (lengthAt bytes (startOf p)) (ruleLength 0 0))) (At Length (startOf p))
-    (pick (not (isDimension (halfAt bytes p))) (At Dimension (startOf p))
-    Sound)
+-- a tag that gives a dimension, by its rule and the least value: its own length, then its range
+unfoldable pub size-fault : ℕ → ℕ → List ℕ → ℕ → Fault
+size-fault rule least bytes p =
+    ask-at (startOf p) (eqb (lengthAt bytes (startOf p)) (ruleLength rule 0)) Length
+    ⨾ ask-at (startOf p) (leb least (halfAt bytes p) && leb (halfAt bytes p) 32) Dimension
 
--- 3, at tag 02: 1 to 1,024 rows, and nwpass ≤ nwstop ≤ rows
-unfoldable pub band-fault : ℕ → ℕ → ℕ → ℕ → Fault
-band-fault p rows nwpass nwstop = pick (not (isRows rows && leb nwpass nwstop && leb nwstop rows)) (At Band (startOf p)) Sound
+-- the first fault of a record, in document 01's order: the walk and 10, tag 01, the other lengths, 3 at tag 02, 4 at tag 06
+unfoldable pub job-fault : List ℕ → Fault
+job-fault bytes =
+    let places = job-walk bytes .1 in
+    let j = job-at bytes places in
+    job-walk bytes .0
+    ⨾ size-fault n-tag 2 bytes (place places n-tag)
+    ⨾ lengths-fault (j .n) bytes (fields-of bytes)
+    ⨾ ask-at (startOf (place places bands-tag)) (bands-fit (job-oracle j) (j .rows)) Band
+    ⨾ ask-at (startOf (place places cursors-tag)) (cursors-fit (job-oracle j)) Cursor
 
--- 4, at tag 06
-unfoldable pub cursor-fault : ℕ → LowpassOracle → Fault
-cursor-fault p o = pick (not (cursors-fit o)) (At Cursor (startOf p)) Sound
+-- 11, behind them: what the outputs for rows, point and matrix must hold
+abbrev pub has-room : Job → ℕ → ℕ → ℕ → Bool
+has-room j table xc mq = leb (j .rows * j .n) table && leb (j .n) xc && leb (j .n * j .n) mq
 
--- 11: what the outputs for rows, point and matrix must hold
-unfoldable pub room-fault : ℕ → ℕ → ℕ → ℕ → ℕ → Fault
-room-fault n rows table xc mq = pick (not (leb (rows * n) table && leb n xc && leb (n * n) mq)) (At Room 0) Sound
+abbrev pub room-fault : Job → ℕ → ℕ → ℕ → Fault
+room-fault j table xc mq = ask (has-room j table xc mq) Room
 
--- the first fault, in document 01's order, with the places that the walk notes: the walk and 10, tag 01, the lengths, 3, 4, 11
-unfoldable pub job-fault : List ℕ → List ℕ → ℕ → ℕ → ℕ → Fault × List ℕ
-job-fault bytes places₀ table xc mq =
-    let w = record-fault bytes job-form places₀ in
-    let places = w .1 in
-    let n = halfAt bytes (getD places 0 0) in
-    let rows = row-count bytes (fields-of bytes) in
-    let bands = wordAt bytes (getD places 1 0) in (
-      w .0
-          ⨾ dimension-fault bytes (getD places 0 0)
-          ⨾ lengths-fault n bytes (fields-of bytes)
-          ⨾ band-fault (getD places 1 0) rows (partOf bands 0) (partOf bands 1)
-          ⨾ cursor-fault (getD places 5 0) (job-oracle bytes places rows)
-          ⨾ room-fault n rows table xc mq,
-      places,
-    )
+-- ---- the reader
 
--- the room that a record's numbers need is there
-abbrev pub has-room : List ℕ → List ℕ → ℕ → ℕ → ℕ → Bool
-has-room bytes places table xc mq =
-    let n = halfAt bytes (getD places 0 0) in
-    let rows = row-count bytes (fields-of bytes) in
-    leb n 32 && leb rows 1024 && (leb (rows * n) table && leb n xc && leb (n * n) mq)
+-- a job put to the fronts of three slices, if nothing is at fault and they have room; else they stay
+abbrev pub read-into : FullJob → Fault → List Float → List Float → List Float → JobAnswer × List Float × List Float × List Float
+read-into f fault table xc mq =
+    unless (fault ⨾ room-fault (f .job) (length table) (length xc) (length mq)) (λ why place. (Refused why place, table, xc, mq))
+    (Read (f .job), fronted (f .table) table, fronted (f .point) xc, fronted (f .matrix) mq)
 
--- ---- the job
-
--- what a sound record says: the job, and the three slices with its numbers at the front
-unfoldable pub jobOf : List ℕ → List ℕ → List Float → List Float → List Float → Job × List Float × List Float × List Float
-jobOf bytes places table xc mq =
-    let n = halfAt bytes (getD places 0 0) in
-    let rows = row-count bytes (fields-of bytes) in (
-      record { n = n; rows = rows; oracle = job-oracle bytes places rows; kappa = numberAt bytes (getD places 6 0) 0; options = optionsOf bytes (getD places 8 0) },
-      fronted (rows-of n bytes (fields-of bytes)) table,
-      fronted (numbersAt bytes (getD places 4 0) n) xc,
-      fronted (numbersAt bytes (getD places 7 0) (n * n)) mq,
-    )
-
--- `read_job`: the answer, and the three slices; a refusal leaves them
+-- `read_job`
 unfoldable pub read-job-answer : List ℕ → List Float → List Float → List Float → JobAnswer × List Float × List Float × List Float
-read-job-answer bytes table xc mq =
-    let f = job-fault bytes no-places (length table) (length xc) (length mq) in
-    let j = jobOf bytes (f .1) table xc mq in
-    unless (f .0) (λ why place. (Refused why place, table, xc, mq)) (Read (j .0), j .1, j .2, j .3)
+read-job-answer bytes table xc mq = read-into (full-job bytes) (job-fault bytes) table xc mq

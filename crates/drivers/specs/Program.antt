@@ -1,16 +1,15 @@
 -- The program `filterrun` (document 01): all that it prints, as one function of its input. Definitions only.
 use Prim.Native.Nat.{ℕ, _*_, _≤_}
 use mathlib.Core.List.{List}
-use lib.ListN.{take, getD, replicate}
+use lib.ListN.{take, replicate}
 use lib.Ieee.{Float}
 use Rattle.numbers.specs.F64.{0ᶠ}
 use Rattle.numbers.specs.EllCalc.{made}
 use Rattle.numbers.specs.declared.refusal.Refusal.{Refusal}
 use Rattle.numbers.specs.Refusal.{_⨾_, unless}
 use Rattle.drivers.specs.Text.{joined}
-use Rattle.drivers.specs.Record.{numbersAt, halfAt, numberAt, fields-of, row-count, rows-of, no-places}
 use Rattle.drivers.specs.CuttingPlane.{Space}
-use Rattle.drivers.specs.Job.{job-oracle, optionsOf, job-fault}
+use Rattle.drivers.specs.Job.{FullJob, job-oracle, full-job, job-fault}
 use Rattle.drivers.specs.Trace.{refused-pieces, input-tests, run-text, text-in, printed-by}
 use Rattle.drivers.specs.declared.trace.Run.{Run}
 use Rattle.drivers.specs.declared.trace.Opened.{Opened}
@@ -20,29 +19,25 @@ use Rattle.drivers.specs.declared.trace.Opened.the-variants.{Going, Over
 abbrev pub refused-text : Refusal → ℕ → List ℕ
 refused-text why place = joined (refused-pieces why place)
 
--- what the run of a sound record begins with: its oracle, a new ellipsoid with its matrix and point, and scratch of zeros; `places` has where the contents begin
-unfoldable pub first-space : List ℕ → List ℕ → Space
-first-space bytes places =
-    let n = halfAt bytes (getD places 0 0) in
+-- what the run of a job begins with: its oracle, a new ellipsoid with its matrix and point, and scratch of zeros
+unfoldable pub first-space : FullJob → Space
+first-space f =
+    let n = f .job .n in
     record {
-      oracle = job-oracle bytes places (row-count bytes (fields-of bytes));
-      ell = record { ndim = n; kappa = numberAt bytes (getD places 6 0) 0; helper = made n; tsq = 0ᶠ };
-      buffers = record { mq = numbersAt bytes (getD places 7 0) (n * n); xc = numbersAt bytes (getD places 4 0) n; grad-t = replicate n 0ᶠ };
+      oracle = job-oracle (f .job);
+      ell = record { ndim = n; kappa = f .job .kappa; helper = made n; tsq = 0ᶠ };
+      buffers = record { mq = f .matrix; xc = f .point; grad-t = replicate n 0ᶠ };
       grad = replicate n 0ᶠ;
     }
 
 -- the text of its run, from step 0 on
-unfoldable pub job-text : List ℕ → List ℕ → List ℕ
-job-text bytes places =
-    let n = halfAt bytes (getD places 0 0) in
-    let options = optionsOf bytes (getD places 8 0) in
-    run-text (row-count bytes (fields-of bytes)) (rows-of n bytes (fields-of bytes)) (options .tolerance) (options .«max_iters») 0 (first-space bytes places)
+unfoldable pub job-text : FullJob → List ℕ
+job-text f = run-text (f .job .rows) (f .table) (f .job .options .tolerance) (f .job .options .«max_iters») 0 (first-space f)
 
--- a long input is refused before all else; then a job's first fault, in a program with room for 1,024 rows of 32; else the job is run
+-- a long input is refused before all else; then a job's first fault; else the job is run, since a program with room for 1,024 rows of 32 has room for every job
 unfoldable pub program-text : List ℕ → List ℕ
 program-text bytes =
-    let f = job-fault bytes no-places 32768 32 1024 in
-    unless (input-tests bytes ⨾ f .0) refused-text (job-text bytes (f .1))
+    unless (input-tests bytes ⨾ job-fault bytes) refused-text (job-text (full-job bytes))
 
 -- ---- the calls that print it: `open`, then, if a run goes, `Run::next` while there is more, over the fronts of the slices and scratch of zeros
 

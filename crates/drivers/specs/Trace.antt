@@ -23,7 +23,7 @@ use Rattle.oracles.specs.declared.ell.NewEll.{NewEll}
 use Rattle.oracles.specs.declared.ell.NewEll.the-variants.{Made, Refused as NoEll}
 use Rattle.drivers.specs.Text.{over, joined, decimal, hex}
 use Rattle.drivers.specs.CuttingPlane.{Space, check-space, feas-step, goes-on, feas-ended}
-use Rattle.drivers.specs.Job.{read-job-answer}
+use Rattle.drivers.specs.Job.{job-oracle, read-job-answer}
 use Rattle.drivers.specs.declared.answer.Answer.{Answer}
 use Rattle.drivers.specs.declared.cutting_plane.Said.{Said}
 use Rattle.drivers.specs.declared.cutting_plane.Said.the-variants.{Feasible, Cut, Refused as NotStepped}
@@ -113,7 +113,7 @@ refused-line-answer why place out = printed (joined (refused-pieces why place)) 
 
 -- before its first step; n has been tested by the reader, and is again
 abbrev pub run-of : Job → NewEll → NewRun
-run-of j (Made e) = MadeRun (record { oracle = j .oracle; ell = e; options = j .options; rows = j .rows; niter = 0 })
+run-of j (Made e) = MadeRun (record { oracle = job-oracle j; ell = e; options = j .options; rows = j .rows; niter = 0 })
 run-of j (NoEll why) = NoRun why
 
 abbrev pub new-run-answer : Job → NewRun

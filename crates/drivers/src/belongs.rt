@@ -45,7 +45,7 @@ pub fn belongs(
     ensures { λ r. ⌜ (r, now (grad .exit)) ≡ belongs-answer job (now (table .entry)) (now (x .entry)) answer (now (point .entry)) (now (grad .entry)) ⌝ }
 {
     let n = job.n;
-    let oracle = job.oracle;
+    let oracle = job.oracle();
     if !is_dimension(n) {
         return Belonging::Refused(Refusal::Dimension);
     }

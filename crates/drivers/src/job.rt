@@ -1,6 +1,14 @@
 // The job record: tags 01 to 09, in any order.
 use crate::cutting_plane::Options;
+use crate::record::BANDS;
+use crate::record::CURSORS;
 use crate::record::JOB;
+use crate::record::KAPPA;
+use crate::record::LIMITS;
+use crate::record::MATRIX;
+use crate::record::N;
+use crate::record::POINT;
+use crate::record::SETTINGS;
 use crate::record::content_at;
 use crate::record::count_rows;
 use crate::record::half_at;
@@ -13,27 +21,32 @@ use crate::record::numbers_into;
 use crate::record::record_fault;
 use crate::record::rule_length;
 use crate::record::start_of;
-use numbers::arr::is_dimension;
 use numbers::bits::of_bits;
 use numbers::bits::word_at;
 use numbers::refusal::Fault;
 use numbers::refusal::Refusal;
 use numbers::refusal::is_fault;
 use oracles::lowpass_oracle::LowpassOracle;
-use oracles::round_robin::RoundRobin;
 use oracles::scan::is_rows;
 ghost use mathlib.Core.Path.{_≡_};
-ghost use mathlib.Core.Bool.{true};
 ghost use Prim.Native.Nat.{_*_, _+_, _≤_, _<_};
 ghost use lib.ListN.{length};
-ghost use Rattle.drivers.specs.Record.{fields-of, row-count, rows-in, rows-of, row-filled, fronted};
-ghost use Rattle.drivers.specs.Job.{signed, partOf, dimension-fault, band-fault, cursor-fault, room-fault, optionsOf, job-oracle, job-fault, has-room, jobOf, read-job-answer};
+ghost use Rattle.drivers.specs.Record.{fields-of, no-places, numbersAt, row-count, rows-in, rows-of, row-filled, fronted, matrix-tag, point-tag, place};
+ghost use Rattle.drivers.specs.Job.{signed, partOf, row-end, job-oracle, optionsOf, job-at, full-job-at, job-walk, size-fault, job-fault, has-room, read-into, read-job-answer};
+ghost use Rattle.numbers.specs.declared.refusal.Fault.the-variants.{Sound};
 
-// A job, beside its row table, its point and its matrix, which the reader writes into slices.
+// What a job record keeps, beside its row table, its point and its matrix, which the reader writes into slices.
 pub struct Job {
     pub n: usize,
     pub rows: usize,
-    pub oracle: LowpassOracle,
+    pub nwpass: i32,
+    pub nwstop: i32,
+    pub lp_sq: f64,
+    pub up_sq: f64,
+    pub sp_sq: f64,
+    pub cur1: i32,
+    pub cur2: i32,
+    pub cur3: i32,
     pub kappa: f64,
     pub options: Options,
 }
@@ -43,50 +56,36 @@ pub enum JobAnswer {
     Refused(Refusal, usize),
 }
 
-// Tag 01's length, then its range.
-fn dimension_fault(bytes: &[u8], p: usize) -> Fault
-    ensures { λ r. ⌜ r ≡ dimension-fault (now (bytes .entry)) p ⌝ }
+// The end of the stop rows. A count of rows that no table has is refused by every call, whatever stands here.
+fn row_end(rows: usize) -> i32
+    ensures { λ r. ⌜ r ≡ row-end rows ⌝ }
 {
-    let place = start_of(p);
-    if length_at(bytes, place) != rule_length(0, 0) {
-        return Fault::At(Refusal::Length, place);
+    if is_rows(rows) {
+        return rows as i32;
     }
-    if !is_dimension(half_at(bytes, p)) {
-        return Fault::At(Refusal::Dimension, place);
-    }
-    Fault::Sound
+    -1
 }
 
-// Refusal 3, at tag 02.
-fn band_fault(p: usize, rows: usize, nwpass: usize, nwstop: usize) -> Fault
-    ensures { λ r. ⌜ r ≡ band-fault p rows nwpass nwstop ⌝ }
-{
-    if !(is_rows(rows) & (nwpass <= nwstop) & (nwstop <= rows)) {
-        return Fault::At(Refusal::Band, start_of(p));
+impl Job {
+    // The oracle that the job starts with.
+    pub fn oracle(self) -> LowpassOracle
+        ensures { λ r. ⌜ r ≡ job-oracle self ⌝ }
+    {
+        LowpassOracle::start(
+            self.nwpass,
+            self.nwstop,
+            row_end(self.rows),
+            self.cur1,
+            self.cur2,
+            self.cur3,
+            self.lp_sq,
+            self.up_sq,
+            self.sp_sq,
+        )
     }
-    Fault::Sound
 }
 
-// Refusal 4, at tag 06.
-fn cursor_fault(p: usize, oracle: LowpassOracle) -> Fault
-    ensures { λ r. ⌜ r ≡ cursor-fault p oracle ⌝ }
-{
-    if !oracle.cursors_fit() {
-        return Fault::At(Refusal::Cursor, start_of(p));
-    }
-    Fault::Sound
-}
-
-// Refusal 11: what the three outputs must hold.
-fn room_fault(n: usize, rows: usize, table: usize, xc: usize, mq: usize) -> Fault
-    requires { ⌜ (n ≤ 32) × (rows ≤ 1024) ⌝ }
-    ensures { λ r. ⌜ r ≡ room-fault n rows table xc mq ⌝ }
-{
-    if !((rows * n <= table) & (n <= xc) & (n * n <= mq)) {
-        return Fault::At(Refusal::Room, 0);
-    }
-    Fault::Sound
-}
+// ---- what a record says; `places` has where the contents begin, tag 01's first
 
 // Part k of a word of four 16-bit numbers, the lowest first.
 fn part(w: u64, k: usize) -> usize
@@ -113,46 +112,6 @@ fn signed(h: usize) -> i32
     h as i32 - 65536
 }
 
-// The oracle of a job of so many rows, which has assessed nothing yet: tags 02, 03 and 06.
-fn job_oracle(bytes: &[u8], places: &[usize; 12], rows: usize) -> LowpassOracle
-    requires { ⌜ rows ≤ 1024 ⌝ }
-    ensures { λ r. ⌜ r ≡ job-oracle (now (bytes .entry)) (now (places .entry)) rows ⌝ }
-{
-    let bands = word_at(bytes, places[1]);
-    let p = places[2];
-    let curs = word_at(bytes, places[5]);
-    let nwpass = part(bands, 0) as i32;
-    let nwstop = part(bands, 1) as i32;
-    LowpassOracle {
-        more_alt: true,
-        idx1: -1,
-        nwpass: nwpass,
-        nwstop: nwstop,
-        lp_sq: number_at(bytes, p, 0),
-        up_sq: number_at(bytes, p, 1),
-        sp_sq: number_at(bytes, p, 2),
-        idx2: nwpass - 1,
-        idx3: nwstop - 1,
-        fmax: -1.0 / 0.0,
-        kmax: -1,
-        rr1: RoundRobin {
-            cur: signed(part(curs, 0)),
-            lo: 0,
-            hi: nwpass,
-        },
-        rr2: RoundRobin {
-            cur: signed(part(curs, 1)),
-            lo: nwpass,
-            hi: nwstop,
-        },
-        rr3: RoundRobin {
-            cur: signed(part(curs, 2)),
-            lo: nwstop,
-            hi: rows as i32,
-        },
-    }
-}
-
 // The step limit, and the tolerance two bytes on.
 fn job_options(bytes: &[u8], p: usize) -> Options
     ensures { λ r. ⌜ r ≡ optionsOf (now (bytes .entry)) p ⌝ }
@@ -167,35 +126,85 @@ fn job_options(bytes: &[u8], p: usize) -> Options
     )
 }
 
+// The job, beside its three lists.
+fn job_at(bytes: &[u8], places: &[usize; 12]) -> Job
+    ensures { λ r. ⌜ r ≡ job-at (now (bytes .entry)) (now (places .entry)) ⌝ }
+{
+    let bands = word_at(bytes, places[BANDS]);
+    let limits = places[LIMITS];
+    let curs = word_at(bytes, places[CURSORS]);
+    Job {
+        n: half_at(bytes, places[N]),
+        rows: count_rows(bytes),
+        nwpass: part(bands, 0) as i32,
+        nwstop: part(bands, 1) as i32,
+        lp_sq: number_at(bytes, limits, 0),
+        up_sq: number_at(bytes, limits, 1),
+        sp_sq: number_at(bytes, limits, 2),
+        cur1: signed(part(curs, 0)),
+        cur2: signed(part(curs, 1)),
+        cur3: signed(part(curs, 2)),
+        kappa: number_at(bytes, places[KAPPA], 0),
+        options: job_options(bytes, places[SETTINGS]),
+    }
+}
+
+// ---- the tests
+
+// Of a tag that gives a dimension: its own length, then its range.
+pub(crate) fn size_fault(bytes: &[u8], rule: usize, least: usize, p: usize) -> Fault
+    ensures { λ r. ⌜ r ≡ size-fault rule least (now (bytes .entry)) p ⌝ }
+{
+    let place = start_of(p);
+    if length_at(bytes, place) != rule_length(rule, 0) {
+        return Fault::At(Refusal::Length, place);
+    }
+    let size = half_at(bytes, p);
+    if !((least <= size) & (size <= 32)) {
+        return Fault::At(Refusal::Dimension, place);
+    }
+    Fault::Sound
+}
+
 // The first fault of a job record, in document 01's order; `places` becomes where the contents of its tags begin.
-fn job_fault(bytes: &[u8], places: &mut [usize; 12], table: usize, xc: usize, mq: usize) -> Fault
-    ensures { λ r. ⌜ (r, now (places .exit)) ≡ job-fault (now (bytes .entry)) (now (places .entry)) table xc mq ⌝ }
+fn job_fault(bytes: &[u8], places: &mut [usize; 12]) -> Fault
+    requires { ⌜ now places ≡ no-places ⌝ }
+    ensures { λ r. ⌜ r ≡ job-fault (now (bytes .entry)) ⌝ }
+    ensures { λ r. ⌜ now (places .exit) ≡ job-walk (now (bytes .entry)) .1 ⌝ }
 {
     let fault = record_fault(bytes, JOB, places);
     if is_fault(fault) {
         return fault;
     }
-    let fault = dimension_fault(bytes, places[0]);
+    let fault = size_fault(bytes, N, 2, places[N]);
     if is_fault(fault) {
         return fault;
     }
-    let n = half_at(bytes, places[0]);
-    let fault = lengths_fault(bytes, n);
+    let fault = lengths_fault(bytes, half_at(bytes, places[N]));
     if is_fault(fault) {
         return fault;
     }
-    let rows = count_rows(bytes);
-    let bands = word_at(bytes, places[1]);
-    let fault = band_fault(places[1], rows, part(bands, 0), part(bands, 1));
-    if is_fault(fault) {
-        return fault;
+    let job = job_at(bytes, places);
+    let oracle = job.oracle();
+    if !oracle.bands_fit(job.rows) {
+        return Fault::At(Refusal::Band, start_of(places[BANDS]));
     }
-    let fault = cursor_fault(places[5], job_oracle(bytes, places, rows));
-    if is_fault(fault) {
-        return fault;
+    if !oracle.cursors_fit() {
+        return Fault::At(Refusal::Cursor, start_of(places[CURSORS]));
     }
-    room_fault(n, rows, table, xc, mq)
+    Fault::Sound
 }
+
+// Refusal 11: whether the three outputs hold a sound job's numbers.
+fn has_room(job: Job, table: usize, xc: usize, mq: usize) -> bool
+    requires { ⌜ (job .n ≤ 32) × (job .rows ≤ 1024) ⌝ }
+    ensures { λ r. ⌜ r ≡ has-room job table xc mq ⌝ }
+{
+    let n = job.n;
+    (job.rows * n <= table) & (n <= xc) & (n * n <= mq)
+}
+
+// ---- the reader
 
 // A field's numbers from table[k] on, if it is a row; where the next row is to stand.
 fn fill_row(bytes: &[u8], at: usize, n: usize, k: usize, table: &mut [f64]) -> usize
@@ -223,30 +232,43 @@ fn fill_table(bytes: &[u8], n: usize, table: &mut [f64])
     }
 }
 
-// What a sound record says, its numbers in the three slices.
+// The rows, the point and the matrix to the fronts of the three slices.
 fn fill_job(
+    bytes: &[u8],
+    places: &[usize; 12],
+    n: usize,
+    table: &mut [f64],
+    xc: &mut [f64],
+    mq: &mut [f64],
+)
+    requires { ⌜ (n ≤ 32) × (row-count (now bytes) (fields-of (now bytes)) * n ≤ length (now table)) × (n ≤ length (now xc)) × (n * n ≤ length (now mq)) ⌝ }
+    ensures { λ _. ⌜ now (table .exit) ≡ fronted (rows-of n (now (bytes .entry)) (fields-of (now (bytes .entry)))) (now (table .entry)) ⌝ }
+    ensures { λ _. ⌜ now (xc .exit) ≡ fronted (numbersAt (now (bytes .entry)) (place (now (places .entry)) point-tag) n) (now (xc .entry)) ⌝ }
+    ensures { λ _. ⌜ now (mq .exit) ≡ fronted (numbersAt (now (bytes .entry)) (place (now (places .entry)) matrix-tag) (n * n)) (now (mq .entry)) ⌝ }
+{
+    let nn = n * n;
+    fill_table(bytes, n, table);
+    numbers_into(bytes, places[POINT], &mut xc[..n]);
+    numbers_into(bytes, places[MATRIX], &mut mq[..nn]);
+}
+
+// Reads a sound record, unless there is no room.
+fn read_sound(
     bytes: &[u8],
     places: &[usize; 12],
     table: &mut [f64],
     xc: &mut [f64],
     mq: &mut [f64],
-) -> Job
-    requires { ⌜ has-room (now bytes) (now places) (length (now table)) (length (now xc)) (length (now mq)) ≡ true ⌝ }
-    ensures { λ r. ⌜ (r, now (table .exit), now (xc .exit), now (mq .exit)) ≡ jobOf (now (bytes .entry)) (now (places .entry)) (now (table .entry)) (now (xc .entry)) (now (mq .entry)) ⌝ }
+) -> JobAnswer
+    requires { ⌜ (job-at (now bytes) (now places) .n ≤ 32) × (job-at (now bytes) (now places) .rows ≤ 1024) ⌝ }
+    ensures { λ r. ⌜ (r, now (table .exit), now (xc .exit), now (mq .exit)) ≡ read-into (full-job-at (now (bytes .entry)) (now (places .entry))) Sound (now (table .entry)) (now (xc .entry)) (now (mq .entry)) ⌝ }
 {
-    let n = half_at(bytes, places[0]);
-    let nn = n * n;
-    let rows = count_rows(bytes);
-    fill_table(bytes, n, table);
-    numbers_into(bytes, places[4], &mut xc[..n]);
-    numbers_into(bytes, places[7], &mut mq[..nn]);
-    Job {
-        n: n,
-        rows: rows,
-        oracle: job_oracle(bytes, places, rows),
-        kappa: number_at(bytes, places[6], 0),
-        options: job_options(bytes, places[8]),
+    let job = job_at(bytes, places);
+    if !has_room(job, table.len(), xc.len(), mq.len()) {
+        return JobAnswer::Refused(Refusal::Room, 0);
     }
+    fill_job(bytes, places, job.n, table, xc, mq);
+    JobAnswer::Read(job)
 }
 
 // Reads a job record: its rows to the front of `table`, its point to that of xc, its matrix to that of mq.
@@ -254,9 +276,9 @@ pub fn read_job(bytes: &[u8], table: &mut [f64], xc: &mut [f64], mq: &mut [f64])
     ensures { λ r. ⌜ (r, now (table .exit), now (xc .exit), now (mq .exit)) ≡ read-job-answer (now (bytes .entry)) (now (table .entry)) (now (xc .entry)) (now (mq .entry)) ⌝ }
 {
     let mut places = [0usize; 12];
-    let fault = job_fault(bytes, &mut places, table.len(), xc.len(), mq.len());
+    let fault = job_fault(bytes, &mut places);
     match fault {
         Fault::At(why, place) => JobAnswer::Refused(why, place),
-        Fault::Sound => JobAnswer::Read(fill_job(bytes, &places, table, xc, mq)),
+        Fault::Sound => read_sound(bytes, &places, table, xc, mq),
     }
 }

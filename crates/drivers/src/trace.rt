@@ -209,7 +209,7 @@ impl Run {
     pub(crate) fn new(job: Job) -> NewRun
         ensures { λ r. ⌜ r ≡ new-run-answer job ⌝ }
     {
-        let oracle = job.oracle;
+        let oracle = job.oracle();
         let options = job.options;
         match Ell::new_with_matrix(job.n, job.kappa) {
             NewEll::Made(ell) => NewRun::Made(Run {

@@ -17,13 +17,34 @@ use lists::rooms::part;
 use lists::rooms::plus;
 use lists::tally::Replayed;
 use lists::words::word;
+use oracles::lowpass_oracle::LowpassOracle;
+
+// A case can tell cursors of other bands than its groups', which no job has: −1, which is refused by the same number, stands for them.
+fn nwpass_of(told: LowpassOracle, rows: usize) -> i32 {
+    if told.bands_fit(rows) {
+        return told.nwpass;
+    }
+    -1
+}
 
 // A job with its numbers in words 0, 1 and 6 on; kappa and the options are not asked for.
 fn job_of(inputs: &[u8]) -> Job {
+    let rows = word(inputs, 1) as usize;
+    let told = oracle_of(inputs, state_told(6));
+    let rr1 = told.rr1;
+    let rr2 = told.rr2;
+    let rr3 = told.rr3;
     Job {
         n: word(inputs, 0) as usize,
-        rows: word(inputs, 1) as usize,
-        oracle: oracle_of(inputs, state_told(6)),
+        rows: rows,
+        nwpass: nwpass_of(told, rows),
+        nwstop: told.nwstop,
+        lp_sq: told.lp_sq,
+        up_sq: told.up_sq,
+        sp_sq: told.sp_sq,
+        cur1: rr1.cur,
+        cur2: rr2.cur,
+        cur3: rr3.cur,
         kappa: 0.0,
         options: Options::default(),
     }

@@ -31,17 +31,17 @@ use numbers::bits::to_bits;
 
 // What a job has beside its slices, with all that its oracle starts with.
 fn push_job(got: &mut Bytes, number: u64, job: Job) -> usize {
-    let oracle = job.oracle;
+    let oracle = job.oracle();
     let options = job.options;
     let words = [
         number,
         0,
         job.n as u64,
         job.rows as u64,
-        word_of(oracle.nwpass),
-        word_of(oracle.nwstop),
-        to_bits(oracle.lp_sq),
-        to_bits(oracle.up_sq),
+        word_of(job.nwpass),
+        word_of(job.nwstop),
+        to_bits(job.lp_sq),
+        to_bits(job.up_sq),
     ];
     let k = push_words(got, 0, &words);
     let k = push_state(got, k, oracle);

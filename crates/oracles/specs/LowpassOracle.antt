@@ -16,9 +16,11 @@ use Rattle.numbers.specs.declared.refusal.Refusal.{Refusal}
 use Rattle.numbers.specs.declared.refusal.Refusal.the-variants.{Band, Cursor, NoStopValue}
 use Rattle.numbers.specs.declared.refusal.Fault.{Fault}
 use Rattle.numbers.specs.declared.cut.CutChoice.the-variants.{Single, Parallel}
-use Rattle.oracles.specs.RoundRobin.{isAt, eqZ, moved}
+use Rattle.oracles.specs.RoundRobin.{isAt, eqZ, moved, new-range-answer}
 use Rattle.oracles.specs.Scan.{−∞, none, isRows, table-fits, scanOf, violated, band-beta, band-gradient}
 use Rattle.oracles.specs.declared.round_robin.RoundRobin.{RoundRobin}
+use Rattle.oracles.specs.declared.round_robin.CursorAnswer.{CursorAnswer}
+use Rattle.oracles.specs.declared.round_robin.CursorAnswer.the-variants.{At as Fresh, Refused as NoBand}
 use Rattle.oracles.specs.declared.scan.Upper.the-variants.{Absent, At}
 use Rattle.oracles.specs.declared.scan.Scan.{Scan}
 use Rattle.oracles.specs.declared.lowpass_oracle.Group.{Group}
@@ -47,6 +49,32 @@ groupSide (Pass row over) = over
 groupSide (Stop row over) = over
 groupSide (Middle row) = false
 groupSide Sign = false
+
+-- ---- the start
+
+-- where a fresh cursor stands, before its band's first row; an oracle over what is no band is refused, whatever stands here
+abbrev pub fresh-cur : CursorAnswer → ℤ
+fresh-cur (Fresh rr) = rr .cur
+fresh-cur (NoBand why) = none
+
+-- `start`, an oracle that has assessed nothing yet: each idx before its band, no largest value, the cursors anywhere
+unfoldable pub start-oracle : ℤ → ℤ → ℤ → ℤ → ℤ → ℤ → Float → Float → Float → LowpassOracle
+start-oracle nwpass nwstop mdim cur1 cur2 cur3 lp-sq up-sq sp-sq = record {
+  «more_alt» = true;
+  idx1 = fresh-cur (new-range-answer (pos 0) nwpass);
+  nwpass = nwpass;
+  nwstop = nwstop;
+  «lp_sq» = lp-sq;
+  «up_sq» = up-sq;
+  «sp_sq» = sp-sq;
+  idx2 = fresh-cur (new-range-answer nwpass nwstop);
+  idx3 = fresh-cur (new-range-answer nwstop mdim);
+  fmax = −∞;
+  kmax = none;
+  rr1 = record { cur = cur1; lo = pos 0; hi = nwpass };
+  rr2 = record { cur = cur2; lo = nwpass; hi = nwstop };
+  rr3 = record { cur = cur3; lo = nwstop; hi = mdim };
+}
 
 -- ---- the assessment of a point, with `grad` as it is left
 

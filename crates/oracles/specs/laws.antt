@@ -3,6 +3,7 @@ pub mod FloatOrder
 pub mod Scan
 pub mod ScanRun
 pub mod Assess
+pub mod Start
 pub mod Judge
 pub mod CursorRule
 pub mod TwoOracles

@@ -1,4 +1,5 @@
 // The lowpass oracle (lowpass_oracle.rs): what a point breaks, and the cut that follows.
+use crate::round_robin::CursorAnswer;
 use crate::round_robin::RoundRobin;
 use crate::scan::Scan;
 use crate::scan::Upper;
@@ -21,7 +22,7 @@ ghost use lib.IntN.{pos, natAbs};
 ghost use lib.Signed.{ltZ};
 ghost use mathlib.Core.Bool.{true, false};
 ghost use Rattle.oracles.specs.Verdict.{is-accepted, asked, FeasRule, OptimRule};
-ghost use Rattle.oracles.specs.LowpassOracle.{bands-fit, cursors-fit, isOf, groupNumber, groupSide, after-pass, after-stop, after-middle, offered, improvedOf, refusedOf, assess-sign, assess-middle, assess-stop, assessOf, assess-feas-answer, assess-optim-answer};
+ghost use Rattle.oracles.specs.LowpassOracle.{fresh-cur, start-oracle, bands-fit, cursors-fit, isOf, groupNumber, groupSide, after-pass, after-stop, after-middle, offered, improvedOf, refusedOf, assess-sign, assess-middle, assess-stop, assessOf, assess-feas-answer, assess-optim-answer};
 ghost use Rattle.oracles.specs.laws.Scan.{Scannable};
 
 // The state of an oracle over a row table that the caller lends: pass rows are 0 to nwpass − 1, middle rows reach nwstop − 1, stop rows the end.
@@ -151,7 +152,64 @@ fn is_of(rr: RoundRobin, lo: i32, hi: i32) -> bool
     (rr.lo == lo) & (rr.hi == hi)
 }
 
+// Where a fresh cursor stands. What is no band is refused by every call, whatever stands here.
+fn fresh_cur(fresh: CursorAnswer) -> i32
+    ensures { λ r. ⌜ r ≡ fresh-cur fresh ⌝ }
+{
+    match fresh {
+        CursorAnswer::At(rr) => rr.cur,
+        CursorAnswer::Refused(_) => -1,
+    }
+}
+
 impl LowpassOracle {
+    // An oracle that has assessed nothing yet, over the rows 0 to mdim − 1: each idx before its band, the cursors where they are told to stand.
+    pub fn start(
+        nwpass: i32,
+        nwstop: i32,
+        mdim: i32,
+        cur1: i32,
+        cur2: i32,
+        cur3: i32,
+        lp_sq: f64,
+        up_sq: f64,
+        sp_sq: f64,
+    ) -> LowpassOracle
+        ensures { λ r. ⌜ r ≡ start-oracle nwpass nwstop mdim cur1 cur2 cur3 «lp_sq» «up_sq» «sp_sq» ⌝ }
+    {
+        let fresh1 = RoundRobin::new_range(0, nwpass);
+        let fresh2 = RoundRobin::new_range(nwpass, nwstop);
+        let fresh3 = RoundRobin::new_range(nwstop, mdim);
+        LowpassOracle {
+            more_alt: true,
+            idx1: fresh_cur(fresh1),
+            nwpass: nwpass,
+            nwstop: nwstop,
+            lp_sq: lp_sq,
+            up_sq: up_sq,
+            sp_sq: sp_sq,
+            idx2: fresh_cur(fresh2),
+            idx3: fresh_cur(fresh3),
+            fmax: -1.0 / 0.0,
+            kmax: -1,
+            rr1: RoundRobin {
+                cur: cur1,
+                lo: 0,
+                hi: nwpass,
+            },
+            rr2: RoundRobin {
+                cur: cur2,
+                lo: nwpass,
+                hi: nwstop,
+            },
+            rr3: RoundRobin {
+                cur: cur3,
+                lo: nwstop,
+                hi: mdim,
+            },
+        }
+    }
+
     // Refusal 3: the row count, the bands, and the cursors' lo and hi.
     pub fn bands_fit(self, rows: usize) -> bool
         ensures { λ r. ⌜ r ≡ bands-fit self rows ⌝ }

@@ -1,15 +1,11 @@
 -- What the exported drivers and the exported reader answer. Definitions only.
 use Prim.Native.Nat.{ℕ}
-use mathlib.Core.Bool.{Bool, true, false}
+use mathlib.Core.Bool.{Bool, false}
 use mathlib.Core.List.{List, [], _∷_}
-use lib.IntN.{ℤ, pos}
+use lib.IntN.{ℤ}
 use lib.Ieee.{Float}
 use Rattle.numbers.specs.Pick.{pick}
 use Rattle.numbers.specs.Refusal.{refusalNumber}
-use Rattle.oracles.specs.RoundRobin.{new-range-answer}
-use Rattle.oracles.specs.Scan.{−∞, none}
-use Rattle.oracles.specs.declared.round_robin.CursorAnswer.{CursorAnswer}
-use Rattle.oracles.specs.declared.round_robin.CursorAnswer.the-variants.{At as Fresh, Refused as NoBand}
 use Rattle.oracles.specs.Ell.{EllBuffers}
 use Rattle.oracles.specs.declared.ell.Ell.{Ell}
 use Rattle.oracles.specs.declared.ell.NewEll.{NewEll}
@@ -17,6 +13,7 @@ use Rattle.oracles.specs.declared.ell.NewEll.the-variants.{Made, Refused as Not
 use Rattle.oracles.specs.declared.lowpass_oracle.LowpassOracle.{LowpassOracle}
 use Rattle.drivers.specs.CuttingPlane.{Space, OptimLeft, feas-answer, optim-answer}
 use Rattle.drivers.specs.Numbered.{feas-number, optim-number, job-number}
+use Rattle.drivers.specs.Job.{job-oracle}
 use Rattle.drivers.specs.declared.answer.Answer.{Answer}
 use Rattle.drivers.specs.declared.cutting_plane.Options.{Options}
 use Rattle.drivers.specs.declared.cutting_plane.FeasAnswer.{FeasAnswer}
@@ -26,31 +23,6 @@ use Rattle.drivers.specs.declared.cutting_plane.OptimAnswer.the-variants.{Ended
 use Rattle.drivers.specs.declared.job.Job.{Job}
 use Rattle.drivers.specs.declared.job.JobAnswer.{JobAnswer}
 use Rattle.drivers.specs.declared.job.JobAnswer.the-variants.{Read, Refused as NotRead}
-
--- where a fresh cursor stands, before its band's first row; a run over what is no band is refused, whatever stands here
-abbrev pub fresh-cur : CursorAnswer → ℤ
-fresh-cur (Fresh rr) = rr .cur
-fresh-cur (NoBand why) = none
-
--- an oracle that has assessed nothing yet, as a job's: each idx before its band, its cursors anywhere
-unfoldable pub oracle-of : ℤ → ℤ → ℤ → ℤ → ℤ → ℤ → Float → Float → Float → LowpassOracle
-oracle-of nwpass nwstop mdim cur1 cur2 cur3 lp-sq up-sq sp-sq =
-    record {
-      «more_alt» = true;
-      idx1 = fresh-cur (new-range-answer (pos 0) nwpass);
-      nwpass = nwpass;
-      nwstop = nwstop;
-      «lp_sq» = lp-sq;
-      «up_sq» = up-sq;
-      «sp_sq» = sp-sq;
-      idx2 = fresh-cur (new-range-answer nwpass nwstop);
-      idx3 = fresh-cur (new-range-answer nwstop mdim);
-      fmax = −∞;
-      kmax = none;
-      rr1 = record { cur = cur1; lo = pos 0; hi = nwpass };
-      rr2 = record { cur = cur2; lo = nwpass; hi = nwstop };
-      rr3 = record { cur = cur3; lo = nwstop; hi = mdim };
-    }
 
 -- what an oracle was left with: cur of the cursors of pass, middle and stop, idx1 to idx3, kmax
 unfoldable pub marks-of : LowpassOracle → List ℤ
@@ -125,19 +97,19 @@ pub record JobLeft : Type 0 where
   pub marks : List ℤ
   pub numbers : List Float
 
-abbrev pub bands-of : LowpassOracle → List ℤ
-bands-of o = o .nwpass ∷ o .nwstop ∷ []
+abbrev pub bands-of : Job → List ℤ
+bands-of j = j .nwpass ∷ j .nwstop ∷ []
 
-abbrev pub numbers-of : LowpassOracle → Float → Float → List Float
-numbers-of o kappa tolerance = o .«lp_sq» ∷ o .«up_sq» ∷ o .«sp_sq» ∷ kappa ∷ tolerance ∷ []
+abbrev pub numbers-of : Job → List Float
+numbers-of j = j .«lp_sq» ∷ j .«up_sq» ∷ j .«sp_sq» ∷ j .kappa ∷ j .options .tolerance ∷ []
 
 unfoldable pub job-left : Job → JobLeft
 job-left j =
     record {
       sizes = j .n ∷ j .rows ∷ j .options .«max_iters» ∷ [];
-      bands = bands-of (j .oracle);
-      marks = marks-of (j .oracle);
-      numbers = numbers-of (j .oracle) (j .kappa) (j .options .tolerance);
+      bands = bands-of j;
+      marks = marks-of (job-oracle j);
+      numbers = numbers-of j;
     }
 
 -- the place of a refusal, and what was read

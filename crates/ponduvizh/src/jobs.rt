@@ -3,22 +3,28 @@ use crate::runs::put_marks;
 use drivers::job::Job;
 use drivers::job::JobAnswer;
 use drivers::job::read_job;
-use oracles::lowpass_oracle::LowpassOracle;
 ghost use mathlib.Core.Path.{_≡_};
 ghost use Prim.Native.Nat.{ℕ};
 ghost use Rattle.drivers.specs.Job.{read-job-answer};
 ghost use Rattle.ponduvizh.specs.ToldRuns.{JobLeft, bands-of, numbers-of, job-left, place-or, job-said, read-told};
 
-fn put_bands(oracle: LowpassOracle, bands: &mut [i32; 2])
-    ensures { λ _. ⌜ now (bands .exit) ≡ bands-of oracle ⌝ }
+fn put_bands(job: Job, bands: &mut [i32; 2])
+    ensures { λ _. ⌜ now (bands .exit) ≡ bands-of job ⌝ }
 {
-    *bands = [oracle.nwpass, oracle.nwstop];
+    *bands = [job.nwpass, job.nwstop];
 }
 
-fn put_numbers(oracle: LowpassOracle, kappa: f64, tolerance: f64, numbers: &mut [f64; 5])
-    ensures { λ _. ⌜ now (numbers .exit) ≡ numbers-of oracle kappa tolerance ⌝ }
+fn put_numbers(job: Job, numbers: &mut [f64; 5])
+    ensures { λ _. ⌜ now (numbers .exit) ≡ numbers-of job ⌝ }
 {
-    *numbers = [oracle.lp_sq, oracle.up_sq, oracle.sp_sq, kappa, tolerance];
+    let options = job.options;
+    *numbers = [
+        job.lp_sq,
+        job.up_sq,
+        job.sp_sq,
+        job.kappa,
+        options.tolerance,
+    ];
 }
 
 fn put_job(
@@ -30,12 +36,11 @@ fn put_job(
 )
     ensures { λ _. ⌜ record { sizes = now (sizes .exit); bands = now (bands .exit); marks = now (marks .exit); numbers = now (numbers .exit) } ≡ job-left job ⌝ }
 {
-    let oracle = job.oracle;
     let options = job.options;
     *sizes = [job.n, job.rows, options.max_iters as usize];
-    put_bands(oracle, bands);
-    put_marks(oracle, marks);
-    put_numbers(oracle, job.kappa, options.tolerance, numbers);
+    put_bands(job, bands);
+    put_marks(job.oracle(), marks);
+    put_numbers(job, numbers);
 }
 
 // What an answer says, in numbers.

@@ -9,72 +9,14 @@ use drivers::cutting_plane::cutting_plane_optim;
 use oracles::ell::Ell;
 use oracles::ell::NewEll;
 use oracles::lowpass_oracle::LowpassOracle;
-use oracles::round_robin::CursorAnswer;
-use oracles::round_robin::RoundRobin;
 ghost use mathlib.Core.Path.{_≡_};
 ghost use lib.Dec.{eqb};
 ghost use lib.Ieee.{Float};
+ghost use Rattle.oracles.specs.LowpassOracle.{start-oracle};
 ghost use Rattle.oracles.specs.Ell.{new-ell-answer};
 ghost use Rattle.drivers.specs.CuttingPlane.{feas-answer, optim-answer};
 ghost use mathlib.Core.Bool.{false};
-ghost use Rattle.ponduvizh.specs.ToldRuns.{RunLeft, fresh-cur, oracle-of, marks-of, values-of, flagOf, answer-of, numbers-after, feas-said, optim-said, feas-left, feas-told, optim-left-told, optim-told};
-
-// Where a fresh cursor stands. A run over what is no band is refused, whatever stands here.
-fn fresh_cur(fresh: CursorAnswer) -> i32
-    ensures { λ r. ⌜ r ≡ fresh-cur fresh ⌝ }
-{
-    match fresh {
-        CursorAnswer::At(rr) => rr.cur,
-        CursorAnswer::Refused(_) => -1,
-    }
-}
-
-// An oracle that has assessed nothing yet.
-fn oracle_of(
-    nwpass: i32,
-    nwstop: i32,
-    mdim: i32,
-    cur1: i32,
-    cur2: i32,
-    cur3: i32,
-    lp_sq: f64,
-    up_sq: f64,
-    sp_sq: f64,
-) -> LowpassOracle
-    ensures { λ r. ⌜ r ≡ oracle-of nwpass nwstop mdim cur1 cur2 cur3 «lp_sq» «up_sq» «sp_sq» ⌝ }
-{
-    let fresh1 = RoundRobin::new_range(0, nwpass);
-    let fresh2 = RoundRobin::new_range(nwpass, nwstop);
-    let fresh3 = RoundRobin::new_range(nwstop, mdim);
-    LowpassOracle {
-        more_alt: true,
-        idx1: fresh_cur(fresh1),
-        nwpass: nwpass,
-        nwstop: nwstop,
-        lp_sq: lp_sq,
-        up_sq: up_sq,
-        sp_sq: sp_sq,
-        idx2: fresh_cur(fresh2),
-        idx3: fresh_cur(fresh3),
-        fmax: -1.0 / 0.0,
-        kmax: -1,
-        rr1: RoundRobin {
-            cur: cur1,
-            lo: 0,
-            hi: nwpass,
-        },
-        rr2: RoundRobin {
-            cur: cur2,
-            lo: nwpass,
-            hi: nwstop,
-        },
-        rr3: RoundRobin {
-            cur: cur3,
-            lo: nwstop,
-            hi: mdim,
-        },
-    }
-}
+ghost use Rattle.ponduvizh.specs.ToldRuns.{RunLeft, marks-of, values-of, flagOf, answer-of, numbers-after, feas-said, optim-said, feas-left, feas-told, optim-left-told, optim-told};
 
 pub(crate) fn put_marks(oracle: LowpassOracle, marks: &mut [i32; 7])
     ensures { λ _. ⌜ now (marks .exit) ≡ marks-of oracle ⌝ }
@@ -309,11 +251,11 @@ pub extern "C" fn ponduvizh_cutting_plane_feas(
     grad_t: &mut [f64],
     x_best: &mut [f64],
 ) -> u64
-    ensures { λ r. ⌜ record { code = r; numbers = record { answer = now (answer .exit); marks = now (marks .exit); values = now (values .exit) }; buffers = record { mq = now (mq .exit); xc = now (xc .exit); grad-t = now («grad_t» .exit) }; grad = now (grad .exit); best = now («x_best» .exit) } ≡ feas-told (new-ell-answer n kappa) (oracle-of nwpass nwstop mdim cur1 cur2 cur3 «lp_sq» «up_sq» «sp_sq») (record { «max_iters» = «max_iters»; tolerance = tolerance }) rows (now (table .entry)) (record { code = 0; numbers = record { answer = now (answer .entry); marks = now (marks .entry); values = now (values .entry) }; buffers = record { mq = now (mq .entry); xc = now (xc .entry); grad-t = now («grad_t» .entry) }; grad = now (grad .entry); best = now («x_best» .entry) }) ⌝ }
+    ensures { λ r. ⌜ record { code = r; numbers = record { answer = now (answer .exit); marks = now (marks .exit); values = now (values .exit) }; buffers = record { mq = now (mq .exit); xc = now (xc .exit); grad-t = now («grad_t» .exit) }; grad = now (grad .exit); best = now («x_best» .exit) } ≡ feas-told (new-ell-answer n kappa) (start-oracle nwpass nwstop mdim cur1 cur2 cur3 «lp_sq» «up_sq» «sp_sq») (record { «max_iters» = «max_iters»; tolerance = tolerance }) rows (now (table .entry)) (record { code = 0; numbers = record { answer = now (answer .entry); marks = now (marks .entry); values = now (values .entry) }; buffers = record { mq = now (mq .entry); xc = now (xc .entry); grad-t = now («grad_t» .entry) }; grad = now (grad .entry); best = now («x_best» .entry) }) ⌝ }
     ensures { λ r. ⌜ (eqb r 0 ≡ false → _≡_ {A = RunLeft} (record { code = r; numbers = record { answer = now (answer .exit); marks = now (marks .exit); values = now (values .exit) }; buffers = record { mq = now (mq .exit); xc = now (xc .exit); grad-t = now («grad_t» .exit) }; grad = now (grad .exit); best = now («x_best» .exit) }) (record { code = r; numbers = record { answer = now (answer .entry); marks = now (marks .entry); values = now (values .entry) }; buffers = record { mq = now (mq .entry); xc = now (xc .entry); grad-t = now («grad_t» .entry) }; grad = now (grad .entry); best = now («x_best» .entry) })) ⌝ }
 {
     let new = Ell::new_with_matrix(n, kappa);
-    let oracle = oracle_of(nwpass, nwstop, mdim, cur1, cur2, cur3, lp_sq, up_sq, sp_sq);
+    let oracle = LowpassOracle::start(nwpass, nwstop, mdim, cur1, cur2, cur3, lp_sq, up_sq, sp_sq);
     let options = Options::new(max_iters, tolerance);
     feas_of(
         new,
@@ -399,11 +341,11 @@ pub extern "C" fn ponduvizh_cutting_plane_optim(
     grad_t: &mut [f64],
     x_best: &mut [f64],
 ) -> u64
-    ensures { λ r. ⌜ (record { code = r; numbers = record { answer = now (answer .exit); marks = now (marks .exit); values = now (values .exit) }; buffers = record { mq = now (mq .exit); xc = now (xc .exit); grad-t = now («grad_t» .exit) }; grad = now (grad .exit); best = now («x_best» .exit) }, now (gamma .exit)) ≡ optim-told (new-ell-answer n kappa) (oracle-of nwpass nwstop mdim cur1 cur2 cur3 «lp_sq» «up_sq» «sp_sq») (record { «max_iters» = «max_iters»; tolerance = tolerance }) rows (now (table .entry)) (now (gamma .entry)) (record { code = 0; numbers = record { answer = now (answer .entry); marks = now (marks .entry); values = now (values .entry) }; buffers = record { mq = now (mq .entry); xc = now (xc .entry); grad-t = now («grad_t» .entry) }; grad = now (grad .entry); best = now («x_best» .entry) }) ⌝ }
+    ensures { λ r. ⌜ (record { code = r; numbers = record { answer = now (answer .exit); marks = now (marks .exit); values = now (values .exit) }; buffers = record { mq = now (mq .exit); xc = now (xc .exit); grad-t = now («grad_t» .exit) }; grad = now (grad .exit); best = now («x_best» .exit) }, now (gamma .exit)) ≡ optim-told (new-ell-answer n kappa) (start-oracle nwpass nwstop mdim cur1 cur2 cur3 «lp_sq» «up_sq» «sp_sq») (record { «max_iters» = «max_iters»; tolerance = tolerance }) rows (now (table .entry)) (now (gamma .entry)) (record { code = 0; numbers = record { answer = now (answer .entry); marks = now (marks .entry); values = now (values .entry) }; buffers = record { mq = now (mq .entry); xc = now (xc .entry); grad-t = now («grad_t» .entry) }; grad = now (grad .entry); best = now («x_best» .entry) }) ⌝ }
     ensures { λ r. ⌜ (eqb r 0 ≡ false → eqb r 6 ≡ false → _≡_ {A = RunLeft × Float} (record { code = r; numbers = record { answer = now (answer .exit); marks = now (marks .exit); values = now (values .exit) }; buffers = record { mq = now (mq .exit); xc = now (xc .exit); grad-t = now («grad_t» .exit) }; grad = now (grad .exit); best = now («x_best» .exit) }, now (gamma .exit)) (record { code = r; numbers = record { answer = now (answer .entry); marks = now (marks .entry); values = now (values .entry) }; buffers = record { mq = now (mq .entry); xc = now (xc .entry); grad-t = now («grad_t» .entry) }; grad = now (grad .entry); best = now («x_best» .entry) }, now (gamma .entry))) ⌝ }
 {
     let new = Ell::new_with_matrix(n, kappa);
-    let oracle = oracle_of(nwpass, nwstop, mdim, cur1, cur2, cur3, lp_sq, up_sq, sp_sq);
+    let oracle = LowpassOracle::start(nwpass, nwstop, mdim, cur1, cur2, cur3, lp_sq, up_sq, sp_sq);
     let options = Options::new(max_iters, tolerance);
     optim_of(
         new,

@@ -23,6 +23,7 @@ use Rattle.oracles.specs.declared.lowpass_oracle.Group.the-variants.{Pass, Stop
 use Rattle.oracles.specs.declared.lowpass_oracle.Verdict.{Verdict}
 use Rattle.oracles.specs.declared.lowpass_oracle.Verdict.the-variants.{Feasible, Cut, Refused as NotAssessed}
 use Rattle.drivers.specs.Belongs.{yes-if, said-by, feasible-for, is-of, asked-point, belongs-tests, belongs-answer}
+use Rattle.drivers.specs.Job.{job-oracle}
 use Rattle.drivers.specs.declared.answer.Answer.{Answer}
 use Rattle.drivers.specs.declared.job.Job.{Job}
 use Rattle.drivers.specs.declared.belongs.Belonging.{Belonging}
@@ -71,7 +72,7 @@ module _ (j : Job) (table x : List Float) (a : Answer) (point grad : List Float)
       pick-cong (a .found) (λ t. ap (feasible-for j table) (sym (is-hit (a .found) point x t))) (λ t. ap (λ l. not (feasible-for j table l)) (sym (is-skip (a .found) point x t)))
 
   abbrev assessed : Assessed × List Float
-  assessed = assess-feas-answer (j .oracle) (j .n) (j .rows) table (asked-point a x point) grad
+  assessed = assess-feas-answer (job-oracle j) (j .n) (j .rows) table (asked-point a x point) grad
 
   -- what the assessment of that point makes of the answer
   abbrev says : Assessed × List Float → Belonging × List Float
@@ -86,9 +87,9 @@ module _ (j : Job) (table x : List Float) (a : Answer) (point grad : List Float)
       (ap (λ (t : Bool). t && eqb (length grad) (j .n)) (sym (and-true (eqb (length table) (j .rows * j .n) && true))))
 
   -- an accepted assessment decides
-  accepted-says : is-accepted (j .oracle) (j .n) (j .rows) table (asked-point a x point) grad ≡ true → said-by (assessed .0 .verdict) (a .found) ≡ yes-if (is-of j table x a point)
+  accepted-says : is-accepted (job-oracle j) (j .n) (j .rows) table (asked-point a x point) grad ≡ true → said-by (assessed .0 .verdict) (a .found) ≡ yes-if (is-of j table x a point)
   accepted-says h =
-      let r = feas-rule (j .oracle) (j .n) (j .rows) table (asked-point a x point) grad h in
+      let r = feas-rule (job-oracle j) (j .n) (j .rows) table (asked-point a x point) grad h in
       let v = r .verdict-is in
       decided (assessed .0 .verdict) (a .found) (ap is-refused v ∙ judged _)
       ∙ ap (λ (w : Judgement). yes-if (pick (a .found) (is-feasible w) (not (is-feasible w)))) v
@@ -97,9 +98,9 @@ module _ (j : Job) (table x : List Float) (a : Answer) (point grad : List Float)
   belongs-is : length x ≡ j .n → length point ≡ j .n → says assessed ≡ belongs-answer j table x a point grad
   unfolding belongs-answer assess-feas-answer
   belongs-is hx hp =
-      let same : assess-tests (j .oracle) (j .n) (j .rows) table (asked-point a x point) grad ≡ belongs-tests j table x point grad = ap (oracle-tests (j .oracle) (j .n) (j .rows)) (fits hx hp) in
+      let same : assess-tests (job-oracle j) (j .n) (j .rows) table (asked-point a x point) grad ≡ belongs-tests j table x point grad = ap (oracle-tests (job-oracle j) (j .n) (j .rows)) (fits hx hp) in
       by-tests (λ (r : Belonging × List Float). says assessed ≡ r) (belongs-tests j table x point grad) _ _
-      (λ why place e. ap says (sym (refuses _ _ (assess-tests (j .oracle) (j .n) (j .rows) table (asked-point a x point) grad) (sym (same ∙ e)) refl)))
+      (λ why place e. ap says (sym (refuses _ _ (assess-tests (job-oracle j) (j .n) (j .rows) table (asked-point a x point) grad) (sym (same ∙ e)) refl)))
       (λ e. ap (λ (w : Belonging). (w, assessed .1)) (accepted-says (ap (λ (f : Fault). not (is-fault f)) (same ∙ e))))
 
   -- ---- the answer, from what the code's tests and its assessment r of the point p said, which left the gradient g
@@ -120,9 +121,9 @@ module _ (j : Job) (table x : List Float) (a : Answer) (point grad : List Float)
       neither false u v w e = refl
 
   pub belongs-said : (eqb (length x) (j .n) && eqb (length point) (j .n)) ≡ true → (p : List Float) → p ≡ asked-point a x point → (r : Assessed) (g : List Float)
-      → (r, g) ≡ assess-feas-answer (j .oracle) (j .n) (j .rows) table p grad → (b : Belonging) → b ≡ said-by (r .verdict) (a .found) → (b, g) ≡ belongs-answer j table x a point grad
+      → (r, g) ≡ assess-feas-answer (job-oracle j) (j .n) (j .rows) table p grad → (b : Belonging) → b ≡ said-by (r .verdict) (a .found) → (b, g) ≡ belongs-answer j table x a point grad
   belongs-said h p ep r g e b eb =
       let w = and-parts (eqb (length x) (j .n)) (eqb (length point) (j .n)) h in
       ap (λ (z : Belonging). (z, g)) eb
-      ∙ ap says (e ∙ ap (λ (l : List Float). assess-feas-answer (j .oracle) (j .n) (j .rows) table l grad) ep)
+      ∙ ap says (e ∙ ap (λ (l : List Float). assess-feas-answer (job-oracle j) (j .n) (j .rows) table l grad) ep)
       ∙ belongs-is (eqb-true (length x) (j .n) (w .0)) (eqb-true (length point) (j .n) (w .1))

@@ -17,7 +17,8 @@ use Rattle.drivers.specs.Job.{read-job-answer}
 use Rattle.drivers.specs.Belongs.{feasible-for, is-of}
 use Rattle.drivers.specs.laws.StepRight.{right-fits}
 use Rattle.drivers.specs.laws.RunEnds.{RunEnded, asked-again}
-use Rattle.drivers.specs.laws.JobRuns.{JobSound, JobSlices, job-sound, held-slices, job-space, job-right, job-ends}
+use Rattle.drivers.specs.laws.Job.{JobSound}
+use Rattle.drivers.specs.laws.JobRuns.{JobSlices, job-sound, held-slices, job-space, job-right, job-ends}
 use Rattle.drivers.specs.declared.answer.Answer.{Answer}
 use Rattle.drivers.specs.declared.cutting_plane.FeasAnswer.{FeasAnswer}
 use Rattle.drivers.specs.declared.cutting_plane.FeasAnswer.the-variants.{Ended}

@@ -1,83 +1,96 @@
 -- Laws of jobs: what a record without a fault has. Assumes nothing.
-use mathlib.Core.Path.{_≡_, refl, sym, ap, _∙_}
-use mathlib.Core.Bool.{Bool, true, false, not, _&&_, true≢false}
+use mathlib.Core.Path.{_≡_, refl, sym, ap, subst, _∙_}
+use mathlib.Core.Bool.{Bool, true, false, _&&_, true≢false}
 use mathlib.Core.List.{List}
-use Prim.Native.Nat.{ℕ, _≤_, _*_}
-use borrow.Author.Tests.{leb-true, le-leb}
+use Prim.Native.Nat.{ℕ, _≤_}
+use borrow.Author.Tests.{leb-true}
 use lib.Dec.{leb, eqb}
-use lib.ListN.{getD}
-use Rattle.numbers.specs.Pick.{pick}
+use lib.IntN.{ℤ, pos, _-ℤ_}
+use lib.Signed.{leZ}
 use Rattle.numbers.specs.Arr.{isDimension}
-use Rattle.numbers.specs.Bits.{wordAt}
 use Rattle.numbers.specs.laws.Arr.{dimension-most}
 use Rattle.numbers.specs.declared.refusal.Refusal.{Refusal}
-use Rattle.numbers.specs.declared.refusal.Refusal.the-variants.{Dimension, Length}
-use Rattle.numbers.specs.laws.Pick.{hit, skip, is-hit, is-skip, and-parts}
-use Rattle.numbers.specs.Refusal.{is-fault, _⨾_}
-use Rattle.numbers.specs.laws.Refusal.{no-fault, both-sound, test-sound}
-use Rattle.oracles.specs.Scan.{isRows}
-use Rattle.drivers.specs.Record.{ruleLength, lengthAt, startOf, halfAt, fields-of, record-fault, lengths-fault, row-count, job-form}
-use Rattle.drivers.specs.Job.{partOf, job-oracle, dimension-fault, band-fault, cursor-fault, room-fault, job-fault, has-room}
+use Rattle.numbers.specs.declared.refusal.Refusal.the-variants.{Dimension, Length, Band, Cursor}
 use Rattle.numbers.specs.declared.refusal.Fault.{Fault}
 use Rattle.numbers.specs.declared.refusal.Fault.the-variants.{Sound, At}
+use Rattle.numbers.specs.laws.Pick.{is-hit, is-skip, and-parts}
+use Rattle.numbers.specs.Refusal.{is-fault, _⨾_, ask-at}
+use Rattle.numbers.specs.laws.Refusal.{no-fault, both-sound}
+use Rattle.oracles.specs.Scan.{none, isRows}
+use Rattle.oracles.specs.LowpassOracle.{start-oracle, isOf, bands-fit, cursors-fit}
+use Rattle.oracles.specs.laws.Start.{start-before}
+use Rattle.oracles.specs.declared.lowpass_oracle.LowpassOracle.{LowpassOracle}
+use Rattle.drivers.specs.Record.{ruleLength, lengthAt, startOf, halfAt, fields-of, lengths-fault, bands-tag, cursors-tag, n-tag, place}
+use Rattle.drivers.specs.Job.{row-end, job-oracle, job-at, job-walk, size-fault, job-fault}
+use Rattle.drivers.specs.declared.job.Job.{Job}
 
--- ---- what the tests of a job leave
+-- a test that no fault comes from
+pub ask-sound : (place : ℕ) (t : Bool) (why : Refusal) → ask-at place t why ≡ Sound → t ≡ true
+ask-sound place true why e = refl
+ask-sound place false why e = absurd (true≢false (ap is-fault (sym (is-skip false Sound (At why place) refl) ∙ e)))
 
-pub dimension-sound : (bytes : List ℕ) (p : ℕ) → dimension-fault bytes p ≡ Sound → isDimension (halfAt bytes p) ≡ true
-unfolding dimension-fault
-dimension-sound bytes p e =
-    let a = test-sound (eqb (lengthAt bytes (startOf p)) (ruleLength 0 0)) Length (startOf p) (pick (not (isDimension (halfAt bytes p))) (At Dimension (startOf p)) Sound) e in
-    test-sound (isDimension (halfAt bytes p)) Dimension (startOf p) Sound (a .1) .0
+-- the range of a dimension that no fault comes from
+pub size-sound : (rule least : ℕ) (bytes : List ℕ) (p : ℕ) → size-fault rule least bytes p ≡ Sound → (leb least (halfAt bytes p) && leb (halfAt bytes p) 32) ≡ true
+unfolding size-fault
+size-sound rule least bytes p e =
+    let own = ask-at (startOf p) (eqb (lengthAt bytes (startOf p)) (ruleLength rule 0)) Length in
+    let range = ask-at (startOf p) (leb least (halfAt bytes p) && leb (halfAt bytes p) 32) Dimension in
+    ask-sound (startOf p) _ Dimension (both-sound own range e .1)
 
-pub band-sound : (p rows nwpass nwstop : ℕ) → band-fault p rows nwpass nwstop ≡ Sound → (isRows rows && leb nwpass nwstop && leb nwstop rows) ≡ true
-unfolding band-fault
-band-sound p rows nwpass nwstop e = test-sound _ _ _ _ e .0
+pub size-small : (rule least : ℕ) (bytes : List ℕ) (p : ℕ) (f : Fault) → f ≡ size-fault rule least bytes p → is-fault f ≡ false → halfAt bytes p ≤ 32
+size-small rule least bytes p f e t = leb-true (halfAt bytes p) 32 (and-parts (leb least (halfAt bytes p)) _ (size-sound rule least bytes p (sym e ∙ no-fault f t)) .1)
 
-pub room-sound : (n rows table xc mq : ℕ) → room-fault n rows table xc mq ≡ Sound → (leb (rows * n) table && leb n xc && leb (n * n) mq) ≡ true
-unfolding room-fault
-room-sound n rows table xc mq e = test-sound _ _ _ _ e .0
+-- ---- what a job has that is read
 
-pub dimension-small : (bytes : List ℕ) (p n : ℕ) (f : Fault) → f ≡ dimension-fault bytes p → is-fault f ≡ false → n ≡ halfAt bytes p → n ≤ 32
-dimension-small bytes p n f e t d = rw d (dimension-most (halfAt bytes p) (dimension-sound bytes p (sym e ∙ no-fault f t)))
+pub record JobSound (j : Job) : Type 0 where
+  pub dimension : isDimension (j .n) ≡ true
+  pub bands : bands-fit (job-oracle j) (j .rows) ≡ true
+  pub cursors : cursors-fit (job-oracle j) ≡ true
 
-pub rows-small : (p rows nwpass nwstop : ℕ) (f : Fault) → f ≡ band-fault p rows nwpass nwstop → is-fault f ≡ false → rows ≤ 1024
-rows-small p rows nwpass nwstop f e t =
-    let a = and-parts (isRows rows && leb nwpass nwstop) (leb nwstop rows) (band-sound p rows nwpass nwstop (sym e ∙ no-fault f t)) in
-    let b = and-parts (isRows rows) (leb nwpass nwstop) (a .0) in
-    leb-true rows 1024 (and-parts (leb 1 rows) (leb rows 1024) (b .0) .1)
+-- a count of rows that a table can have
+pub sound-rows : (j : Job) → JobSound j → isRows (j .rows) ≡ true
+sound-rows j h =
+    let o = job-oracle j in
+    let b₃ = and-parts _ (isOf (o .rr3) (o .nwstop) (pos (j .rows))) (h .bands) in
+    let b₂ = and-parts _ (isOf (o .rr2) (o .nwpass) (o .nwstop)) (b₃ .0) in
+    let b₁ = and-parts _ (isOf (o .rr1) (pos 0) (o .nwpass)) (b₂ .0) in
+    let h₃ = and-parts _ (leZ (o .nwstop) (pos (j .rows))) (b₁ .0) in
+    let h₂ = and-parts _ (leZ (o .nwpass) (o .nwstop)) (h₃ .0) in
+    and-parts (isRows (j .rows)) (leZ (pos 0) (o .nwpass)) (h₂ .0) .0
 
--- the outputs of a sound record have room
-module _ (bytes places : List ℕ) (table xc mq : ℕ) where
-  pub room-of : (places₀ : List ℕ) (f : Fault) → (f, places) ≡ job-fault bytes places₀ table xc mq → f ≡ Sound → has-room bytes places table xc mq ≡ true
-  unfolding job-fault
-  room-of places₀ f e s =
-      let w = record-fault bytes job-form places₀ in
-      let n = halfAt bytes (getD (w .1) 0 0) in
-      let rows = row-count bytes (fields-of bytes) in
-      let bands = wordAt bytes (getD (w .1) 1 0) in
-      let r₅ = room-fault n rows table xc mq in
-      let r₄ = cursor-fault (getD (w .1) 5 0) (job-oracle bytes (w .1) rows) ⨾ r₅ in
-      let b = band-fault (getD (w .1) 1 0) rows (partOf bands 0) (partOf bands 1) in
-      let r₂ = lengths-fault n bytes (fields-of bytes) ⨾ b ⨾ r₄ in
-      let d = dimension-fault bytes (getD (w .1) 0 0) in
-      let p : places ≡ w .1 = ap (λ z. z .1) e in
-      let a : (w .0 ⨾ d ⨾ r₂) ≡ Sound = sym (ap (λ z. z .0) e) ∙ s in
-      let a₁ = both-sound d r₂ (both-sound (w .0) (d ⨾ r₂) a .1) in
-      let a₂ = both-sound b r₄ (both-sound (lengths-fault n bytes (fields-of bytes)) (b ⨾ r₄) (a₁ .1) .1) in
-      let a₃ = both-sound (cursor-fault (getD (w .1) 5 0) (job-oracle bytes (w .1) rows)) r₅ (a₂ .1) in
-      let n-ok : leb n 32 ≡ true = le-leb n 32 (dimension-most n (dimension-sound bytes (getD (w .1) 0 0) (a₁ .0))) in
-      let rows-ok : leb rows 1024 ≡ true = le-leb rows 1024 (rows-small _ rows _ _ b refl (ap is-fault (a₂ .0))) in
-      rw (p, n-ok, rows-ok) (room-sound n rows table xc mq (a₃ .1))
+pub rows-from : (j : Job) → JobSound j → 1 ≤ j .rows
+rows-from j h = leb-true 1 (j .rows) (and-parts (leb 1 (j .rows)) (leb (j .rows) 1024) (sound-rows j h) .0)
 
-  pub room-parts : has-room bytes places table xc mq ≡ true
-      → (halfAt bytes (getD places 0 0) ≤ 32) × (row-count bytes (fields-of bytes) ≤ 1024)
-      × (row-count bytes (fields-of bytes) * halfAt bytes (getD places 0 0) ≤ table) × (halfAt bytes (getD places 0 0) ≤ xc)
-      × (halfAt bytes (getD places 0 0) * halfAt bytes (getD places 0 0) ≤ mq)
-  room-parts h =
-      let n = halfAt bytes (getD places 0 0) in
-      let rows = row-count bytes (fields-of bytes) in
-      let a = and-parts (leb n 32 && leb rows 1024) (leb (rows * n) table && leb n xc && leb (n * n) mq) h in
-      let b = and-parts (leb n 32) (leb rows 1024) (a .0) in
-      let d = and-parts (leb (rows * n) table && leb n xc) (leb (n * n) mq) (a .1) in
-      let f = and-parts (leb (rows * n) table) (leb n xc) (d .0) in
-      (leb-true n 32 (b .0), leb-true rows 1024 (b .1), leb-true (rows * n) table (f .0), leb-true n xc (f .1), leb-true (n * n) mq (d .1))
+pub rows-to : (j : Job) → JobSound j → j .rows ≤ 1024
+rows-to j h = leb-true (j .rows) 1024 (and-parts (leb 1 (j .rows)) (leb (j .rows) 1024) (sound-rows j h) .1)
+
+-- Document 01: each idx of its oracle starts at its band's lo − 1.
+pub job-starts : (j : Job) → JobSound j → (job-oracle j .idx1 ≡ none) × (job-oracle j .idx2 ≡ j .nwpass -ℤ pos 1) × (job-oracle j .idx3 ≡ j .nwstop -ℤ pos 1)
+job-starts j h =
+    let end : row-end (j .rows) ≡ pos (j .rows) = is-hit _ _ _ (sound-rows j h) in
+    subst (λ (z : ℤ). let o = oracle-to z in bands-fit o (j .rows) ≡ true → (o .idx1 ≡ none) × (o .idx2 ≡ j .nwpass -ℤ pos 1) × (o .idx3 ≡ j .nwstop -ℤ pos 1)) (sym end)
+    (start-before (j .nwpass) (j .nwstop) (j .cur1) (j .cur2) (j .cur3) (j .«lp_sq») (j .«up_sq») (j .«sp_sq») (j .rows)) (h .bands)
+  where
+    oracle-to : ℤ → LowpassOracle
+    oracle-to z = start-oracle (j .nwpass) (j .nwstop) z (j .cur1) (j .cur2) (j .cur3) (j .«lp_sq») (j .«up_sq») (j .«sp_sq»)
+
+pub n-to : (j : Job) → JobSound j → j .n ≤ 32
+n-to j h = dimension-most (j .n) (h .dimension)
+
+-- A record without a fault says a job that passes the tests of every run.
+pub sound-job : (bytes : List ℕ) → job-fault bytes ≡ Sound → JobSound (job-at bytes (job-walk bytes .1))
+unfolding job-fault job-at
+sound-job bytes e =
+    let places = job-walk bytes .1 in
+    let j = job-at bytes places in
+    let f₁ = size-fault n-tag 2 bytes (place places n-tag) in
+    let f₂ = lengths-fault (j .n) bytes (fields-of bytes) in
+    let f₃ = ask-at (startOf (place places bands-tag)) (bands-fit (job-oracle j) (j .rows)) Band in
+    let f₄ = ask-at (startOf (place places cursors-tag)) (cursors-fit (job-oracle j)) Cursor in
+    let s₁ = both-sound f₁ (f₂ ⨾ f₃ ⨾ f₄) (both-sound (job-walk bytes .0) (f₁ ⨾ f₂ ⨾ f₃ ⨾ f₄) e .1) in
+    let s₃ = both-sound f₃ f₄ (both-sound f₂ (f₃ ⨾ f₄) (s₁ .1) .1) in
+    record {
+      dimension = size-sound n-tag 2 bytes (place places n-tag) (s₁ .0);
+      bands = ask-sound _ _ Band (s₃ .0);
+      cursors = ask-sound _ _ Cursor (s₃ .1);
+    }

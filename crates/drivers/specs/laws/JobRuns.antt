@@ -5,31 +5,28 @@ use mathlib.Core.Bool.{Bool, true, false, _&&_}
 use mathlib.Core.List.{List, [], _∷_}
 use native.Mathlib.Nat.{zero-mul, one-mul, add-mul}
 use native.Mathlib.Omega.{arith}
-use borrow.Author.Tests.{leb-true, le-leb, eq-eqb}
+use borrow.Author.Tests.{leb-true}
 use lib.Dec.{leb}
-use lib.ListN.{length, take, drop, getD, length-append, length-drop}
+use lib.ListN.{length, take, drop, length-append, length-drop}
 use lib.Seq.{length-take-le}
 use lib.Ieee.{Float}
 use Rattle.numbers.specs.F64.{0ᶠ}
 use Rattle.numbers.specs.Pick.{pick}
-use Rattle.numbers.specs.Arr.{isDimension}
 use Rattle.numbers.specs.laws.Arr.{length-tab}
-use Rattle.numbers.specs.Bits.{wordAt}
 use Rattle.numbers.specs.EllCalc.{made}
 use Rattle.numbers.specs.laws.Pick.{and-parts}
 use Rattle.numbers.specs.Refusal.{_⨾_, unless}
-use Rattle.numbers.specs.laws.Refusal.{both-sound, test-sound}
-use Rattle.oracles.specs.Scan.{isRows}
-use Rattle.oracles.specs.LowpassOracle.{bands-fit, cursors-fit}
+use Rattle.numbers.specs.laws.Refusal.{both-sound}
 use Rattle.oracles.specs.Ell.{EllBuffers}
 use Rattle.oracles.specs.laws.EllCalls.{EllLong, ell-makes}
-use Rattle.drivers.specs.Record.{halfAt, numberAt, numbersAt, fields-of, no-places, record-fault, lengths-fault, row-count, rows-of, is-row, rows-in, contentOf, fronted, job-form}
+use Rattle.drivers.specs.Record.{numberAt, numbersAt, fields-of, row-count, rows-of, is-row, rows-in, contentOf, fronted, matrix-tag, point-tag, place}
 use Rattle.drivers.specs.CuttingPlane.{Space, check-space, feas-run}
-use Rattle.drivers.specs.Job.{partOf, job-oracle, dimension-fault, band-fault, cursor-fault, room-fault, job-fault, jobOf, read-job-answer}
-use Rattle.drivers.specs.laws.Job.{dimension-sound, band-sound, room-of, room-parts}
+use Rattle.drivers.specs.Job.{FullJob, job-oracle, job-at, full-job-at, job-walk, full-job, job-fault, has-room, room-fault, read-job-answer}
+use Rattle.drivers.specs.laws.Job.{JobSound, ask-sound, sound-job}
 use Rattle.drivers.specs.Trace.{run-of, new-run-answer, space-of}
 use Rattle.drivers.specs.laws.StepRight.{fits-right}
 use Rattle.drivers.specs.laws.RunEnds.{RunEnded, run-ends}
+use Rattle.numbers.specs.declared.refusal.Refusal.the-variants.{Room}
 use Rattle.numbers.specs.declared.refusal.Fault.{Fault}
 use Rattle.numbers.specs.declared.refusal.Fault.the-variants.{Sound, At}
 use Rattle.drivers.specs.declared.job.Job.{Job}
@@ -38,31 +35,11 @@ use Rattle.drivers.specs.declared.job.JobAnswer.the-variants.{Read, Refu
 use Rattle.drivers.specs.declared.trace.Run.{Run}
 use Rattle.drivers.specs.declared.trace.NewRun.the-variants.{Made}
 
--- ---- what a job has that is read
-
-pub record JobSound (j : Job) : Type 0 where
-  pub dimension : isDimension (j .n) ≡ true
-  pub rows-from : 1 ≤ j .rows
-  pub rows-to : j .rows ≤ 1024
-  pub bands : bands-fit (j .oracle) (j .rows) ≡ true
-  pub cursors : cursors-fit (j .oracle) ≡ true
-
--- and the slices that its numbers are read into
+-- the slices that a job's numbers are read into
 pub record JobHeld (j : Job) (table xc mq : List Float) : Type 0 where
   pub table-long : j .rows * j .n ≤ length table
   pub xc-long : j .n ≤ length xc
   pub mq-long : j .n * j .n ≤ length mq
-
--- the bands of a job's oracle are those that its tests compare
-bands-sound : (bytes places : List ℕ) (rows : ℕ)
-    → (isRows rows && leb (partOf (wordAt bytes (getD places 1 0)) 0) (partOf (wordAt bytes (getD places 1 0)) 1) && leb (partOf (wordAt bytes (getD places 1 0)) 1) rows) ≡ true
-    → bands-fit (job-oracle bytes places rows) rows ≡ true
-unfolding job-oracle
-bands-sound bytes places rows h =
-    let w = wordAt bytes (getD places 1 0) in
-    let a = and-parts (isRows rows && leb (partOf w 0) (partOf w 1)) (leb (partOf w 1) rows) h in
-    let b = and-parts (isRows rows) (leb (partOf w 0) (partOf w 1)) (a .0) in
-    rw (b .0, le-leb 0 (partOf w 0) (omega arith), b .1, a .1, eq-eqb (partOf w 0) (partOf w 0) refl, eq-eqb (partOf w 1) (partOf w 1) refl, eq-eqb rows rows refl)
 
 row-long : (t : Bool) (n : ℕ) (row : List Float) → length row ≡ n → length (pick t row []) ≡ pick t 1 0 * n
 unfolding pick
@@ -81,62 +58,61 @@ rows-long n bytes (at ∷ rest) =
 length-fronted : (xs out : List Float) → length xs ≤ length out → length (fronted xs out) ≡ length out
 length-fronted xs out h = length-append xs (drop (length xs) out) ∙ omega (arith, length-drop (length xs) out)
 
-module _ (bytes : List ℕ) (table xc mq : List Float) where
-  -- what a record without a fault says
-  pub sound-held : let f = job-fault bytes no-places (length table) (length xc) (length mq) in
-      let j = jobOf bytes (f .1) table xc mq in
-      f .0 ≡ Sound → JobSound (j .0) × JobHeld (j .0) (j .1) (j .2) (j .3)
-  unfolding job-fault cursor-fault jobOf
-  sound-held e =
-      let w = record-fault bytes job-form no-places in
-      let n = halfAt bytes (getD (w .1) 0 0) in
-      let rows = row-count bytes (fields-of bytes) in
-      let bands = wordAt bytes (getD (w .1) 1 0) in
-      let o = job-oracle bytes (w .1) rows in
-      let f₅ = room-fault n rows (length table) (length xc) (length mq) in
-      let f₄ = cursor-fault (getD (w .1) 5 0) o in
-      let f₃ = band-fault (getD (w .1) 1 0) rows (partOf bands 0) (partOf bands 1) in
-      let f₂ = lengths-fault n bytes (fields-of bytes) in
-      let f₁ = dimension-fault bytes (getD (w .1) 0 0) in
-      let s₁ = both-sound f₁ (f₂ ⨾ f₃ ⨾ f₄ ⨾ f₅) (both-sound (w .0) (f₁ ⨾ f₂ ⨾ f₃ ⨾ f₄ ⨾ f₅) e .1) in
-      let s₃ = both-sound f₃ (f₄ ⨾ f₅) (both-sound f₂ (f₃ ⨾ f₄ ⨾ f₅) (s₁ .1) .1) in
-      let s₄ = both-sound f₄ f₅ (s₃ .1) in
-      let band = band-sound (getD (w .1) 1 0) rows (partOf bands 0) (partOf bands 1) (s₃ .0) in
-      let in-rows = and-parts (leb 1 rows) (leb rows 1024) (and-parts _ (leb (partOf bands 0) (partOf bands 1)) (and-parts _ (leb (partOf bands 1) rows) band .0) .0) in
-      let f = job-fault bytes no-places (length table) (length xc) (length mq) in
-      let room = room-parts bytes (w .1) (length table) (length xc) (length mq) (room-of bytes (w .1) (length table) (length xc) (length mq) no-places (f .0) refl e) in (
-        record {
-          dimension = dimension-sound bytes (getD (w .1) 0 0) (s₁ .0);
-          rows-from = leb-true 1 rows (in-rows .0);
-          rows-to = leb-true rows 1024 (in-rows .1);
-          bands = bands-sound bytes (w .1) rows band;
-          cursors = test-sound _ _ _ _ (s₄ .0) .0;
-        },
-        record {
-          table-long = rw (length-fronted (rows-of n bytes (fields-of bytes)) table (rw (rows-long n bytes (fields-of bytes)) (room .2))) (room .2);
-          xc-long = rw (length-fronted (numbersAt bytes (getD (w .1) 4 0) n) xc (rw (length-tab (λ k. numberAt bytes (getD (w .1) 4 0) k) n) (room .3))) (room .3);
-          mq-long = rw (length-fronted (numbersAt bytes (getD (w .1) 7 0) (n * n)) mq (rw (length-tab (λ k. numberAt bytes (getD (w .1) 7 0) k) (n * n)) (room .4))) (room .4);
-        },
-      )
+-- the numbers of a job are as many as it says
+pub record FullLong (f : FullJob) : Type 0 where
+  pub table-is : length (f .table) ≡ f .job .rows * f .job .n
+  pub point-is : length (f .point) ≡ f .job .n
+  pub matrix-is : length (f .matrix) ≡ f .job .n * f .job .n
 
+pub full-long : (bytes places : List ℕ) → FullLong (full-job-at bytes places)
+unfolding full-job-at job-at
+full-long bytes places =
+    let n = job-at bytes places .n in
+    record {
+      table-is = rows-long n bytes (fields-of bytes);
+      point-is = length-tab (λ k. numberAt bytes (place places point-tag) k) n;
+      matrix-is = length-tab (λ k. numberAt bytes (place places matrix-tag) k) (n * n);
+    }
+
+-- what has room holds them
+pub room-held : (f : FullJob) (table xc mq : List Float) → FullLong f → has-room (f .job) (length table) (length xc) (length mq) ≡ true
+    → JobHeld (f .job) (fronted (f .table) table) (fronted (f .point) xc) (fronted (f .matrix) mq)
+room-held f table xc mq l h =
+    let j = f .job in
+    let a = and-parts (leb (j .rows * j .n) (length table) && leb (j .n) (length xc)) (leb (j .n * j .n) (length mq)) h in
+    let b = and-parts (leb (j .rows * j .n) (length table)) (leb (j .n) (length xc)) (a .0) in
+    let t = leb-true (j .rows * j .n) (length table) (b .0) in
+    let x = leb-true (j .n) (length xc) (b .1) in
+    let m = leb-true (j .n * j .n) (length mq) (a .1) in
+    record {
+      table-long = rw (length-fronted (f .table) table (rw (l .table-is) t)) t;
+      xc-long = rw (length-fronted (f .point) xc (rw (l .point-is) x)) x;
+      mq-long = rw (length-fronted (f .matrix) mq (rw (l .matrix-is) m)) m;
+    }
+
+module _ (bytes : List ℕ) (table xc mq : List Float) where
   -- A job that is read passes every test of a run, and the slices are long enough for its numbers.
   pub job-sound : (j : Job) (table′ xc′ mq′ : List Float) → read-job-answer bytes table xc mq ≡ (Read j, table′, xc′, mq′) → JobSound j × JobHeld j table′ xc′ mq′
-  unfolding read-job-answer
+  unfolding read-job-answer full-job-at
   job-sound j table′ xc′ mq′ =
-      let f = job-fault bytes no-places (length table) (length xc) (length mq) in
-      go (f .0) (jobOf bytes (f .1) table xc mq) sound-held
+      let f = full-job bytes in
+      let g = room-fault (f .job) (length table) (length xc) (length mq) in
+      go f (job-fault bytes ⨾ g)
+      (λ e. let s = both-sound (job-fault bytes) g e in
+      (sound-job bytes (s .0), room-held f table xc mq (full-long bytes (job-walk bytes .1)) (ask-sound 0 (has-room (f .job) (length table) (length xc) (length mq)) Room (s .1))))
     where
-      go : (f : Fault) (r : Job × List Float × List Float × List Float) → (f ≡ Sound → JobSound (r .0) × JobHeld (r .0) (r .1) (r .2) (r .3))
-          → _≡_ {A = JobAnswer × List Float × List Float × List Float} (unless f (λ why place. (Refused why place, table, xc, mq)) (Read (r .0), r .1, r .2, r .3)) (Read j, table′, xc′, mq′)
+      go : (f : FullJob) (fault : Fault) → (fault ≡ Sound → JobSound (f .job) × JobHeld (f .job) (fronted (f .table) table) (fronted (f .point) xc) (fronted (f .matrix) mq))
+          → _≡_ {A = JobAnswer × List Float × List Float × List Float}
+          (unless fault (λ why place. (Refused why place, table, xc, mq)) (Read (f .job), fronted (f .table) table, fronted (f .point) xc, fronted (f .matrix) mq)) (Read j, table′, xc′, mq′)
           → JobSound j × JobHeld j table′ xc′ mq′
-      go Sound r h e =
-          let e₀ : Read (r .0) ≡ Read j = ap (λ z. z .0) e in
-          let j-is : r .0 ≡ j = cc in
-          let t-is : r .1 ≡ table′ = ap (λ z. z .1) e in
-          let x-is : r .2 ≡ xc′ = ap (λ z. z .2) e in
-          let m-is : r .3 ≡ mq′ = ap (λ z. z .3) e in
+      go f Sound h e =
+          let e₀ : Read (f .job) ≡ Read j = ap (λ z. z .0) e in
+          let j-is : f .job ≡ j = cc in
+          let t-is : fronted (f .table) table ≡ table′ = ap (λ z. z .1) e in
+          let x-is : fronted (f .point) xc ≡ xc′ = ap (λ z. z .2) e in
+          let m-is : fronted (f .matrix) mq ≡ mq′ = ap (λ z. z .3) e in
           rw (← j-is, ← t-is, ← x-is, ← m-is) (h refl)
-      go (At why place) r h e =
+      go f (At why place) h e =
           let e₀ : Refused why place ≡ Read j = ap (λ z. z .0) e in
           absurd (let z : _≡_ {A = ℕ} 0 1 = cc in omega arith)
 
@@ -145,7 +121,7 @@ module _ (bytes : List ℕ) (table xc mq : List Float) where
 -- the run that is made of a job, and all that it moves, with the slices that it is lent
 abbrev pub job-run : Job → Run
 job-run j =
-    record { oracle = j .oracle; ell = record { ndim = j .n; kappa = j .kappa; helper = made (j .n); tsq = 0ᶠ }; options = j .options; rows = j .rows; niter = 0 }
+    record { oracle = job-oracle j; ell = record { ndim = j .n; kappa = j .kappa; helper = made (j .n); tsq = 0ᶠ }; options = j .options; rows = j .rows; niter = 0 }
 
 abbrev pub job-space : Job → EllBuffers → List Float → Space
 job-space j b grad = space-of (job-run j) b grad

@@ -1,29 +1,32 @@
 -- The calls that the program `filterrun` makes print what its definition says. Assumes nothing.
 use Prim.Native.Nat.{ℕ, suc, _+_, _*_, _-_, _≤_, _<_}
 use mathlib.Core.Path.{_≡_, refl, sym, ap, _∙_, subst}
+use mathlib.Core.Bool.{true, false}
 use mathlib.Core.List.{List}
+use native.Mathlib.Nat.{mul-le-mul}
 use native.Mathlib.Omega.{arith}
 use borrow.Author.Tests.{le-leb}
-use lib.ListN.{length, take, drop, getD, replicate, length-replicate}
+use lib.ListN.{length, take, drop, replicate, length-replicate}
 use lib.Seq.{take-at}
 use lib.Ieee.{Float}
 use Rattle.numbers.specs.F64.{0ᶠ}
-use Rattle.numbers.specs.laws.Arr.{length-tab}
 use Rattle.numbers.specs.declared.refusal.Refusal.{Refusal}
 use Rattle.numbers.specs.Refusal.{_⨾_, unless}
 use Rattle.numbers.specs.laws.Refusal.{held, at-first, at-next, refuses, accepts, by-tests}
 use Rattle.oracles.specs.Ell.{EllBuffers}
-use Rattle.drivers.specs.Record.{halfAt, numbersAt, numberAt, fields-of, rows-of, fronted, no-places}
-use Rattle.drivers.specs.Job.{optionsOf, job-fault, jobOf, read-job-answer}
+use Rattle.drivers.specs.Record.{fronted}
+use Rattle.drivers.specs.Job.{FullJob, job-oracle, optionsOf, job-at, full-job-at, job-walk, full-job, job-fault, has-room, room-fault, read-into, read-job-answer}
+use Rattle.drivers.specs.laws.Job.{JobSound, n-to, rows-to, sound-job}
 use Rattle.drivers.specs.Trace.{text-room, printed, input-tests, new-run-answer, opened-run, opened-read, with-slices, run-text, text-in, printed-by, open-answer}
 use Rattle.drivers.specs.laws.Text.{front-over}
 use Rattle.drivers.specs.laws.Trace.{calls-print}
 use Rattle.drivers.specs.Calls.{run-all-text}
 use Rattle.drivers.specs.laws.Calls.{calls-enough}
-use Rattle.drivers.specs.laws.JobRuns.{JobSound, JobHeld, sound-held, job-sound, rows-long, held-slices, job-run, job-right, run-made}
+use Rattle.drivers.specs.laws.JobRuns.{JobHeld, FullLong, full-long, room-held, job-sound, held-slices, job-run, job-right, run-made}
 use Rattle.drivers.specs.Program.{refused-text, first-space, job-text, program-text, opened-text, calls-text}
 use Rattle.numbers.specs.declared.refusal.Fault.{Fault}
 use Rattle.numbers.specs.declared.refusal.Fault.the-variants.{Sound, At}
+use Rattle.drivers.specs.declared.job.Job.{Job}
 use Rattle.drivers.specs.declared.job.JobAnswer.{JobAnswer}
 use Rattle.drivers.specs.declared.job.JobAnswer.the-variants.{Read, Refused}
 use Rattle.drivers.specs.declared.trace.Run.{Run}
@@ -33,6 +36,7 @@ use Rattle.drivers.specs.declared.trace.Opened.{Opened}
 use Rattle.drivers.specs.declared.trace.Opened.the-variants.{Going, Over}
 use Rattle.drivers.specs.declared.trace.Text.{Text}
 use Rattle.drivers.specs.declared.trace.Text.the-variants.{Bytes, Refused as NoLine}
+use Rattle.numbers.specs.laws.Pick.{is-skip, is-hit}
 
 -- a run's numbers stand at the fronts of the slices that they were read into
 pub record RunHeld (run : Run) (table xc mq : List Float) : Type 0 where
@@ -47,9 +51,9 @@ printed-front text out h =
     ap (λ (r : Text × List ℕ). text-in (r .0) (r .1)) (sym (accepts _ _ (text-room out) (held _ _ (le-leb 128 (length out) h)) refl)) ∙ front-over out text
 
 -- the step limit has 16 bits
-limit-small : (bytes : List ℕ) (p : ℕ) → optionsOf bytes p .«max_iters» < 65536
-unfolding optionsOf
-limit-small bytes p = omega arith
+limit-small : (bytes places : List ℕ) → job-at bytes places .options .«max_iters» < 65536
+unfolding optionsOf job-at
+limit-small bytes places = omega arith
 
 -- numbers at the front of a list are its front
 front-is : (xs out : List Float) (n : ℕ) → length xs ≡ n → take n (fronted xs out) ≡ xs
@@ -63,44 +67,55 @@ run-text-is rows o e tolerance m grad grad-t t q x =
     let z : m - 0 ≡ m = omega arith in
     λ i. run-text rows (t i) tolerance (z i) 0 (record { oracle = o; ell = e; buffers = record { mq = q i; xc = x i; grad-t = grad-t }; grad = grad })
 
+-- a sound job fits into the program's slices
+room-enough : (j : Job) → JobSound j → has-room j 32768 32 1024 ≡ true
+room-enough j h =
+    let n = n-to j h in
+    let rows = rows-to j h in
+    let t : j .rows * j .n ≤ 1024 * 32 = mul-le-mul rows n in
+    let m : j .n * j .n ≤ 32 * 32 = mul-le-mul n n in
+    rw (le-leb (j .rows * j .n) 32768 t, le-leb (j .n) 32 n, le-leb (j .n * j .n) 1024 m)
+
 module _ (calls : ℕ) (enough : 65536 ≤ calls) (bytes : List ℕ) (out : List ℕ) (room : 128 ≤ length out) where
   -- the run of a sound job
-  sound-prints : (places : List ℕ) (table xc mq : List Float) → let j = jobOf bytes places table xc mq in
-      JobSound (j .0) × JobHeld (j .0) (j .1) (j .2) (j .3) → opened-text calls (Going (job-run (j .0))) (j .1) (j .2) (j .3) out ≡ job-text bytes places
-  unfolding jobOf first-space job-text
-  sound-prints places table xc mq h =
-      let r = jobOf bytes places table xc mq in
-      let j = r .0 in
-      let n = halfAt bytes (getD places 0 0) in
+  sound-prints : (f : FullJob) (table xc mq : List Float) → FullLong f → f .job .options .«max_iters» < 65536
+      → JobSound (f .job) → JobHeld (f .job) (fronted (f .table) table) (fronted (f .point) xc) (fronted (f .matrix) mq)
+      → opened-text calls (Going (job-run (f .job))) (fronted (f .table) table) (fronted (f .point) xc) (fronted (f .matrix) mq) out ≡ job-text f
+  unfolding first-space job-text
+  sound-prints f table xc mq l small h held =
+      let j = f .job in
+      let n = j .n in
       let zeros : List Float = replicate n 0ᶠ in
-      let rows = take (j .rows * n) (r .1) in
-      let b : EllBuffers = record { mq = take (n * n) (r .3); xc = take n (r .2); grad-t = zeros } in
+      let rows = take (j .rows * n) (fronted (f .table) table) in
+      let b : EllBuffers = record { mq = take (n * n) (fronted (f .matrix) mq); xc = take n (fronted (f .point) xc); grad-t = zeros } in
       let long : length zeros ≡ n = length-replicate n 0ᶠ in
-      let right = job-right j (h .0) rows b zeros (held-slices j (r .1) (r .2) (r .3) zeros zeros (h .1) long long) in
-      calls-print calls (job-run j) rows b zeros out right room (omega (arith, limit-small bytes (getD places 8 0)))
-      ∙ run-text-is (j .rows) (j .oracle) (job-run j .ell) (j .options .tolerance) (j .options .«max_iters») zeros zeros
-      (front-is (rows-of n bytes (fields-of bytes)) table (j .rows * n) (rows-long n bytes (fields-of bytes)))
-      (front-is (numbersAt bytes (getD places 7 0) (n * n)) mq (n * n) (length-tab (λ k. numberAt bytes (getD places 7 0) k) (n * n)))
-      (front-is (numbersAt bytes (getD places 4 0) n) xc n (length-tab (λ k. numberAt bytes (getD places 4 0) k) n))
+      let right = job-right j h rows b zeros (held-slices j _ _ _ zeros zeros held long long) in
+      calls-print calls (job-run j) rows b zeros out right room (omega arith)
+      ∙ run-text-is (j .rows) (job-oracle j) (job-run j .ell) (j .options .tolerance) (j .options .«max_iters») zeros zeros
+      (front-is (f .table) table (j .rows * n) (l .table-is)) (front-is (f .matrix) mq (n * n) (l .matrix-is)) (front-is (f .point) xc n (l .point-is))
 
   -- what is read into slices of the program's lengths has the faults that its definition names
   read-prints : (table xc mq : List Float) → length table ≡ 32768 → length xc ≡ 32 → length mq ≡ 1024
       → let j = read-job-answer bytes table xc mq in
-      let f = job-fault bytes no-places 32768 32 1024 in
-      calls-text calls (with-slices (j .1) (j .2) (j .3) (opened-read out (j .0))) ≡ unless (f .0) refused-text (job-text bytes (f .1))
-  unfolding read-job-answer
-  read-prints table xc mq t x m =
-      let f = job-fault bytes no-places (length table) (length xc) (length mq) in
-      go (f .0) (f .1) (sound-held bytes table xc mq) ∙ (λ i. let g = job-fault bytes no-places (t i) (x i) (m i) in unless (g .0) refused-text (job-text bytes (g .1)))
+      calls-text calls (with-slices (j .1) (j .2) (j .3) (opened-read out (j .0))) ≡ unless (job-fault bytes) refused-text (job-text (full-job bytes))
+  unfolding read-job-answer full-job-at
+  read-prints table xc mq t x m = go (job-fault bytes) refl
     where
-      go : (f : Fault) (places : List ℕ) → let j = jobOf bytes places table xc mq in
-          (f ≡ Sound → JobSound (j .0) × JobHeld (j .0) (j .1) (j .2) (j .3))
-          → let r : JobAnswer × List Float × List Float × List Float = unless f (λ why place. (Refused why place, table, xc, mq)) (Read (j .0), j .1, j .2, j .3) in
-          calls-text calls (with-slices (r .1) (r .2) (r .3) (opened-read out (r .0))) ≡ unless f refused-text (job-text bytes places)
-      go Sound places h =
-          let j = jobOf bytes places table xc mq in
-          ap (λ z. calls-text calls (with-slices (j .1) (j .2) (j .3) (opened-run out z))) (run-made (j .0) (h refl .0)) ∙ sound-prints places table xc mq (h refl)
-      go (At why place) places h = printed-front (refused-text why place) out room
+      f : FullJob
+      f = full-job bytes
+
+      go : (fault : Fault) → job-fault bytes ≡ fault
+          → let r = read-into f fault table xc mq in
+          calls-text calls (with-slices (r .1) (r .2) (r .3) (opened-read out (r .0))) ≡ unless fault refused-text (job-text f)
+      go Sound e =
+          let h = sound-job bytes e in
+          let k : has-room (f .job) (length table) (length xc) (length mq) ≡ true = rw (t, x, m) (room-enough (f .job) h) in
+          let l = full-long bytes (job-walk bytes .1) in
+          let s : (Sound ⨾ room-fault (f .job) (length table) (length xc) (length mq)) ≡ Sound = is-skip false Sound _ refl ∙ is-hit _ Sound _ k in
+          rw s
+          (ap (λ z. calls-text calls (with-slices (fronted (f .table) table) (fronted (f .point) xc) (fronted (f .matrix) mq) (opened-run out z))) (run-made (f .job) h)
+          ∙ sound-prints f table xc mq l (limit-small bytes (job-walk bytes .1)) h (room-held f table xc mq l k))
+      go (At why place) e = rw (is-hit true (At why place) (room-fault (f .job) (length table) (length xc) (length mq)) refl) (printed-front (refused-text why place) out room)
 
   -- Whatever the input, a program with this room prints its text. 65,536 calls of `next` are more than any step limit, so enough.
   pub program-prints : (table xc mq : List Float) → length table ≡ 32768 → length xc ≡ 32 → length mq ≡ 1024 → calls-text calls (open-answer bytes table xc mq out) ≡ program-text bytes
@@ -108,7 +123,7 @@ module _ (calls : ℕ) (enough : 65536 ≤ calls) (bytes : List ℕ) (out : List
   program-prints table xc mq t x m =
       by-tests (λ (r : Opened × List Float × List Float × List Float × List ℕ). calls-text calls r ≡ program-text bytes) (input-tests bytes) _ _
       (λ why place e. printed-front (refused-text why place) out room ∙ refuses _ _ (input-tests bytes ⨾ _) (at-first _ (sym e)) refl)
-      (λ e. read-prints table xc mq t x m ∙ ap (λ (f : Fault). unless f refused-text (job-text bytes (job-fault bytes no-places 32768 32 1024 .1))) (at-next (sym e) refl))
+      (λ e. read-prints table xc mq t x m ∙ ap (λ (f : Fault). unless f refused-text (job-text (full-job bytes))) (at-next (sym e) refl))
 
 -- Its two ways. The answer of `open` is a line that refuses the job ..
 pub refused-prints : (bytes : List ℕ) (table xc mq table′ xc′ mq′ : List Float) (out out′ : List ℕ) (k : ℕ) → length table ≡ 32768 → length xc ≡ 32 → length mq ≡ 1024

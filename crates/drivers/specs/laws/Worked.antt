@@ -11,14 +11,14 @@ use Rattle.numbers.specs.Arr.{tab, dotFrom, dotOf, mvOf}
 use Rattle.numbers.specs.EllCalc.{made, calc-bias-cut, calc-parallel-impl, calc-parallel-bias-cut, calc-single-or-parallel-bias-cut}
 use Rattle.numbers.specs.Refusal.{_⨾_}
 use Rattle.numbers.specs.laws.Refusal.{failed, at-first, refuses}
-use Rattle.oracles.specs.RoundRobin.{advanced}
+use Rattle.oracles.specs.RoundRobin.{advanced, new-range-answer}
 use Rattle.oracles.specs.Scan.{valueOf, scanFrom, scanOf, band-gradient}
-use Rattle.oracles.specs.LowpassOracle.{assessOf, assess-feas-answer}
+use Rattle.oracles.specs.LowpassOracle.{start-oracle, assessOf, assess-feas-answer}
 use Rattle.oracles.specs.Ell.{ell-updateOf}
 use Rattle.drivers.specs.Record.{rules, ruleAt, indexIn, indexOf, ruleLength, after, numberAt, fields-from, fields-of, field-fault, walk-of, missing-fault, record-fault, lengths-fault, row-count, rows-of}
 use Rattle.drivers.specs.CuttingPlane.{feas-step}
 use Rattle.drivers.specs.Text.{joined, digitChar, digitsOf, digit-count-to, digit-count, decimal, hex}
-use Rattle.drivers.specs.Job.{signed, job-oracle, optionsOf, dimension-fault, band-fault, cursor-fault, room-fault, job-fault}
+use Rattle.drivers.specs.Job.{signed, optionsOf, job-at, full-job-at, size-fault, job-fault}
 use Rattle.drivers.specs.Trace.{input-tests, step-text, run-text}
 use Rattle.drivers.specs.Program.{first-space, job-text, program-text}
 
@@ -42,7 +42,7 @@ worked-text =
     ∷ 110 ∷ 111 ∷ 110 ∷ 101 ∷ 32 ∷ 48 ∷ 10 ∷ []  -- none 0
 
 pub worked : program-text worked-job ≡ worked-text
-unfolding add lt sub mul le ofBits toBits pick leNumber wordAt tab dotFrom dotOf mvOf made calc-bias-cut calc-parallel-impl calc-parallel-bias-cut calc-single-or-parallel-bias-cut advanced valueOf scanFrom scanOf band-gradient assessOf assess-feas-answer some ell-updateOf rules ruleAt indexIn indexOf ruleLength after numberAt fields-from fields-of field-fault walk-of missing-fault record-fault lengths-fault row-count rows-of feas-step joined digitChar digitsOf digit-count-to digit-count decimal hex signed job-oracle optionsOf dimension-fault band-fault cursor-fault room-fault job-fault step-text run-text first-space job-text program-text
+unfolding add lt sub mul le ofBits toBits pick leNumber wordAt tab dotFrom dotOf mvOf made calc-bias-cut calc-parallel-impl calc-parallel-bias-cut calc-single-or-parallel-bias-cut advanced valueOf scanFrom scanOf band-gradient assessOf assess-feas-answer some ell-updateOf rules ruleAt indexIn indexOf ruleLength after numberAt fields-from fields-of field-fault walk-of missing-fault record-fault lengths-fault row-count rows-of feas-step joined digitChar digitsOf digit-count-to digit-count decimal hex new-range-answer start-oracle signed optionsOf job-at full-job-at size-fault job-fault step-text run-text first-space job-text program-text
 worked = refl
 
 -- the empty record: refused 10 0

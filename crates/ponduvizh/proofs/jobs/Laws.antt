@@ -5,7 +5,9 @@ use Prim.Native.Nat.{ℕ}
 use lib.IntN.{ℤ}
 use lib.Ieee.{Float}
 use Rattle.numbers.specs.declared.refusal.Refusal.{Refusal}
+use Rattle.oracles.specs.declared.lowpass_oracle.LowpassOracle.{LowpassOracle}
 use Rattle.drivers.specs.Numbered.{job-number}
+use Rattle.drivers.specs.Job.{job-oracle}
 use Rattle.drivers.specs.declared.job.Job.{Job}
 use Rattle.drivers.specs.declared.job.JobAnswer.{JobAnswer}
 use Rattle.drivers.specs.declared.job.JobAnswer.the-variants.{Read, Refused}
@@ -25,10 +27,11 @@ pub read-law : (a : JobAnswer) (table xc mq : List Float) (r : JobAnswer × List
 unfolding read-told
 read-law a table xc mq r code place at l l′ d h t = rw (h, ← d, ap (λ p. p .0) t, ap (λ p. p .1) t) refl
 
-pub put-law : (j : Job) (bands marks : List ℤ) (numbers : List Float)
-    → bands ≡ bands-of (j .oracle)
-    → marks ≡ marks-of (j .oracle)
-    → numbers ≡ numbers-of (j .oracle) (j .kappa) (j .options .tolerance)
+pub put-law : (j : Job) (o : LowpassOracle) (bands marks : List ℤ) (numbers : List Float)
+    → o ≡ job-oracle j
+    → bands ≡ bands-of j
+    → marks ≡ marks-of o
+    → numbers ≡ numbers-of j
     → _≡_ {A = JobLeft} (record { sizes = j .n ∷ j .rows ∷ j .options .«max_iters» ∷ []; bands = bands; marks = marks; numbers = numbers }) (job-left j)
 unfolding job-left
-put-law j bands marks numbers a b d = rw (a, b, d) refl
+put-law j o bands marks numbers h a b d = rw (a, b, d, h) refl

@@ -8,11 +8,6 @@ use lib.Ieee.{Float}
 use mathlib.Core.Bool.{true, false}
 use Rattle.numbers.specs.Refusal.{refusalNumber}
 use Rattle.numbers.specs.declared.refusal.Refusal.{Refusal}
-use Rattle.oracles.specs.RoundRobin.{new-range-answer}
-use Rattle.oracles.specs.Scan.{−∞, none}
-use Rattle.oracles.specs.declared.round_robin.RoundRobin.{RoundRobin}
-use Rattle.oracles.specs.declared.round_robin.CursorAnswer.{CursorAnswer}
-use Rattle.oracles.specs.declared.round_robin.CursorAnswer.the-variants.{At as Fresh, Refused as NoBand}
 use Rattle.oracles.specs.Ell.{EllBuffers}
 use Rattle.oracles.specs.declared.ell.Ell.{Ell}
 use Rattle.oracles.specs.declared.ell.NewEll.{NewEll}
@@ -26,7 +21,7 @@ use Rattle.drivers.specs.declared.cutting_plane.FeasAnswer.{FeasAnswer}
 use Rattle.drivers.specs.declared.cutting_plane.FeasAnswer.the-variants.{Ended, Refused}
 use Rattle.drivers.specs.declared.cutting_plane.OptimAnswer.{OptimAnswer}
 use Rattle.drivers.specs.declared.cutting_plane.OptimAnswer.the-variants.{Ended as EndedOptim, Halted, Refused as RefusedOptim}
-use Rattle.ponduvizh.specs.ToldRuns.{RunNumbers, RunLeft, coded, fresh-cur, oracle-of, answer-of, marks-of, values-of, numbers-after, feas-said, optim-said, feas-left, optim-left-told, feas-told, optim-told}
+use Rattle.ponduvizh.specs.ToldRuns.{RunNumbers, RunLeft, coded, answer-of, marks-of, values-of, numbers-after, feas-said, optim-said, feas-left, optim-left-told, feas-told, optim-told}
 use Rattle.ponduvizh.specs.laws.ToldRefused.{feas-told-refused, optim-told-refused}
 
 pub state-law : (a : Answer) (o : LowpassOracle) (e : Ell) (answer : List ℕ) (marks : List ℤ) (values : List Float)
@@ -69,44 +64,6 @@ module _ (o : LowpassOracle) (e : Ell) (old : RunNumbers) where
 
   pub optim-refused : (a : OptimAnswer) (why : Refusal) → a ≡ RefusedOptim why → old ≡ optim-said a o e old
   optim-refused a why m = rw m refl
-
-pub at-fresh : (a : CursorAnswer) (rr : RoundRobin) (z : ℤ) → a ≡ Fresh rr → z ≡ rr .cur → z ≡ fresh-cur a
-at-fresh a rr z e h = rw e h
-
-pub at-none : (a : CursorAnswer) (why : Refusal) → a ≡ NoBand why → none ≡ fresh-cur a
-at-none a why e = rw e refl
-
-pub oracle-law : (a b d e f g : ℤ) (lp up sp : Float) (p q r : CursorAnswer) (i j k : ℤ)
-    → p ≡ new-range-answer (pos 0) a
-    → q ≡ new-range-answer a b
-    → r ≡ new-range-answer b d
-    → i ≡ fresh-cur p
-    → j ≡ fresh-cur q
-    → k ≡ fresh-cur r
-    → _≡_ {A = LowpassOracle} (record {
-      «more_alt» = true;
-      idx1 = i;
-      nwpass = a;
-      nwstop = b;
-      «lp_sq» = lp;
-      «up_sq» = up;
-      «sp_sq» = sp;
-      idx2 = j;
-      idx3 = k;
-      fmax = −∞;
-      kmax = none;
-      rr1 = record { cur = e; lo = pos 0; hi = a };
-      rr2 = record { cur = f; lo = a; hi = b };
-      rr3 = record { cur = g; lo = b; hi = d };
-    }) (oracle-of a b d e f g lp up sp)
-unfolding oracle-of
-oracle-law a b d e f g lp up sp p q r i j k hp hq hr hi hj hk = rw (hi, hj, hk, hp, hq, hr) refl
-
--- an oracle of numbers that were handed on
-pub handed : (a b d e f g a′ b′ d′ e′ f′ g′ : ℤ) (lp up sp : Float) (o : LowpassOracle) → a ≡ a′ → b ≡ b′ → d ≡ d′ → e ≡ e′ → f ≡ f′ → g ≡ g′
-    → o ≡ oracle-of a b d e f g lp up sp
-    → o ≡ oracle-of a′ b′ d′ e′ f′ g′ lp up sp
-handed a b d e f g a′ b′ d′ e′ f′ g′ lp up sp o ha hb hd he hf hg h = rw (← ha, ← hb, ← hd, ← he, ← hf, ← hg) h
 
 -- what is made is run, and a refusal leaves all as it was
 module _ (x : NewEll) (o : LowpassOracle) (p : Options) (rows k : ℕ) (table : List Float) (t : RunNumbers) (b : EllBuffers) (grad best : List Float) where

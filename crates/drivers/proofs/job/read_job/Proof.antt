@@ -1,20 +1,22 @@
 -- `drivers::job::read_job` meets its contract. Assumes nothing.
-use mathlib.Core.Path.{_≡_, refl}
+use mathlib.Core.Path.{_≡_, refl, sym, _∙_}
+use mathlib.Core.Bool.{true}
 use mathlib.Core.List.{List, [], _∷_}
-use Prim.Native.Nat.{ℕ}
+use Prim.Native.Nat.{ℕ, _≤_}
 use native.Mathlib.Omega.{arith}
 use lib.ListN.{length}
 use lib.Ieee.{Float}
 use types.Run.{OneOf}
 use denote.Enum.Declared.{tagOf}
 use Rattle.numbers.specs.declared.refusal.Refusal.{Refusal}
-use Rattle.drivers.specs.Record.{no-places}
-use Rattle.drivers.specs.Job.{job-fault, jobOf, read-job-answer}
-use Rattle.drivers.specs.laws.Job.{room-of}
+use Rattle.numbers.specs.Refusal.{_⨾_}
+use Rattle.numbers.specs.laws.Pick.{is-hit}
+use Rattle.drivers.specs.Job.{job-at, full-job-at, job-walk, full-job, job-fault, room-fault, read-into, read-job-answer}
+use Rattle.drivers.specs.laws.Job.{n-to, rows-to, sound-job}
 use Rattle.numbers.specs.declared.refusal.Fault.{Fault}
 use Rattle.numbers.specs.declared.refusal.Fault.the-variants.{Sound, At}
-use Rattle.drivers.specs.declared.job.Job.{Job}
-use Rattle.drivers.specs.declared.job.JobAnswer.the-variants.{Read, Refused}
+use Rattle.drivers.specs.declared.job.JobAnswer.{JobAnswer}
+use Rattle.drivers.specs.declared.job.JobAnswer.the-variants.{Refused}
 use Rattle.numbers.proofs.refusal.Fault as B
 use borrow.Author.Needs.{needs}
 use Rattle.drivers.proofs.job.read_job.Statement.{statement}
@@ -25,18 +27,25 @@ sound : (f : Fault) → OneOf (0 ∷ []) (tagOf B.the-type f) → f ≡ Sound
 sound Sound k = refl
 sound (At why place) k = let z : _≡_ {A = ℕ} 1 0 = k in absurd (omega arith)
 
-module _ (bytes : List ℕ) (table xc mq : List Float) (f : Fault) (places : List ℕ) (e : (f, places) ≡ job-fault bytes no-places (length table) (length xc) (length mq)) where
-  refused : (why : Refusal) (place : ℕ) → f ≡ At why place → (Refused why place, table, xc, mq) ≡ read-job-answer bytes table xc mq
+module _ (bytes : List ℕ) (table xc mq : List Float) (fault : Fault) (e : fault ≡ job-fault bytes) where
+  refused : (why : Refusal) (place : ℕ) → fault ≡ At why place → (Refused why place, table, xc, mq) ≡ read-job-answer bytes table xc mq
   unfolding read-job-answer
-  refused why place d = rw (← e, d)
+  refused why place d =
+      let g = room-fault (full-job bytes .job) (length table) (length xc) (length mq) in
+      let h : (job-fault bytes ⨾ g) ≡ At why place = rw (← e, d) (is-hit true (At why place) g refl) in
+      rw h refl
 
-  read : f ≡ Sound → (j : Job) (table′ xc′ mq′ : List Float) → (j, table′, xc′, mq′) ≡ jobOf bytes places table xc mq
-      → (Read j, table′, xc′, mq′) ≡ read-job-answer bytes table xc mq
+  read : fault ≡ Sound → (places : List ℕ) → places ≡ job-walk bytes .1 → (r : JobAnswer × List Float × List Float × List Float)
+      → r ≡ read-into (full-job-at bytes places) Sound table xc mq → r ≡ read-job-answer bytes table xc mq
   unfolding read-job-answer
-  read d j table′ xc′ mq′ a = rw (← e, d, ← a)
+  read d places p r h = rw (← e, d, ← p) h
+
+small : (bytes : List ℕ) (fault : Fault) → fault ≡ job-fault bytes → fault ≡ Sound → (places : List ℕ) → places ≡ job-walk bytes .1
+    → (job-at bytes places .n ≤ 32) × (job-at bytes places .rows ≤ 1024)
+small bytes fault e d places p = let h = sound-job bytes (sym e ∙ d) in rw p (n-to _ h, rows-to _ h)
 
 job-fault-requires : tie.Need-job-fault-requires
-job-fault-requires c κs = search needs
+job-fault-requires c κs = refl
 
 enum-known-fault : tie.Need-enum-known-fault
 enum-known-fault c = search needs
@@ -44,14 +53,14 @@ enum-known-fault c = search needs
 enum-told : tie.Need-enum-told
 enum-told c = search needs
 
-fill-job-requires : tie.Need-fill-job-requires
-fill-job-requires c κs =
+read-sound-requires : tie.Need-read-sound-requires
+read-sound-requires c κs =
     let m = c .before .before .before .before .before in
     let jf = m .before in
-    room-of _ _ _ _ _ _ _ (jf .job-fault .ensures) (sound _ (m .match .keys2))
+    small _ _ (jf .job-fault .ensures .0) (sound _ (m .match .keys2)) _ (jf .job-fault .ensures .1)
 
 returns : tie.Need-returns
-returns c = refused _ _ _ _ _ _ (c .before .before .before .job-fault .ensures) _ _ (c .before .fault .given .1)
+returns c = refused _ _ _ _ _ (c .before .before .before .job-fault .ensures .0) _ _ (c .before .fault .given .1)
 
 same-length : tie.Need-same-length
 same-length c = search needs
@@ -67,9 +76,9 @@ returns-2 c =
     let fj = c .before .before .before .before .before .before in
     let m = fj .before .before .before .before .before .before in
     let jf = m .before in
-    read _ _ _ _ _ _ (jf .job-fault .ensures) (sound _ (m .match .keys2)) _ _ _ _ (fj .fill-job .ensures)
+    read _ _ _ _ _ (jf .job-fault .ensures .0) (sound _ (m .match .keys2)) _ (jf .job-fault .ensures .1) _ (fj .read-sound .ensures)
 
 pub read-job-spec : {M : Type 1} → statement M
 read-job-spec =
     tie.close
-    (tie.spec job-fault-requires enum-known-fault enum-told fill-job-requires returns same-length same-length-2 same-length-3 returns-2)
+    (tie.spec job-fault-requires enum-known-fault enum-told read-sound-requires returns same-length same-length-2 same-length-3 returns-2)

@@ -4,11 +4,14 @@ use borrow.Author.Needs.{needs}
 use Rattle.ponduvizh.proofs.jobs.put_job.Statement.{statement}
 use Rattle.ponduvizh.proofs.jobs.put_job.Tie as tie
 
-cast-t8 : tie.Need-cast-t8
-cast-t8 c = search needs
+cast-t7 : tie.Need-cast-t7
+cast-t7 c = search needs
 
 put-bands-requires : tie.Need-put-bands-requires
 put-bands-requires c κs = tt
+
+oracle-requires : tie.Need-oracle-requires
+oracle-requires c κs = tt
 
 put-marks-requires : tie.Need-put-marks-requires
 put-marks-requires c κs = tt
@@ -21,4 +24,4 @@ returns c = search (needs, put-law)
 
 pub put-job-spec : {M : Type 1} → statement M
 put-job-spec =
-    tie.close (tie.spec cast-t8 put-bands-requires put-marks-requires put-numbers-requires returns)
+    tie.close (tie.spec cast-t7 put-bands-requires oracle-requires put-marks-requires put-numbers-requires returns)

@@ -1,9 +1,23 @@
 -- `drivers::trace::Run::new` meets its contract. Assumes nothing.
-use mathlib.Core.Path.{sym, ap, _∙_}
+use mathlib.Core.Path.{_≡_, sym, ap, _∙_}
+use Rattle.oracles.specs.declared.lowpass_oracle.LowpassOracle.{LowpassOracle}
+use Rattle.oracles.specs.declared.ell.Ell.{Ell}
+use Rattle.oracles.specs.declared.ell.NewEll.{NewEll}
+use Rattle.oracles.specs.declared.ell.NewEll.the-variants.{Made}
+use Rattle.drivers.specs.Job.{job-oracle}
 use Rattle.drivers.specs.Trace.{run-of}
+use Rattle.drivers.specs.declared.job.Job.{Job}
+use Rattle.drivers.specs.declared.trace.NewRun.the-variants.{Made as MadeRun}
 use borrow.Author.Needs.{needs}
 use Rattle.drivers.proofs.trace.Run.new.Statement.{statement}
 use Rattle.drivers.proofs.trace.Run.new.Tie as tie
+
+goes : (j : Job) (o : LowpassOracle) (e : Ell) (r : NewEll) → o ≡ job-oracle j → Made e ≡ r
+    → MadeRun (record { oracle = o; ell = e; options = j .options; rows = j .rows; niter = 0 }) ≡ run-of j r
+goes j o e r h q = rw h (ap (run-of j) q)
+
+oracle-requires : tie.Need-oracle-requires
+oracle-requires c κs = tt
 
 new-with-matrix-requires : tie.Need-new-with-matrix-requires
 new-with-matrix-requires c κs = search needs
@@ -17,8 +31,8 @@ enum-known-why c = search needs
 returns : tie.Need-returns
 returns c =
     let made = c .before .before .before in
-    let start = made .before .before .before in
-    ap (run-of (start .args .job)) (sym (c .before .ell .given .1) ∙ made .new-with-matrix .ensures)
+    let oc = made .before .before in
+    goes (oc .before .args .job) _ _ _ (oc .oracle .ensures) (sym (c .before .ell .given .1) ∙ made .new-with-matrix .ensures)
 
 returns-2 : tie.Need-returns-2
 returns-2 c =
@@ -28,4 +42,4 @@ returns-2 c =
 
 pub new-spec : {M : Type 1} → statement M
 new-spec =
-    tie.close (tie.spec new-with-matrix-requires enum-known-ell enum-known-why returns returns-2)
+    tie.close (tie.spec oracle-requires new-with-matrix-requires enum-known-ell enum-known-why returns returns-2)

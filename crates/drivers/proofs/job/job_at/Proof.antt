@@ -1,0 +1,170 @@
+-- `drivers::job::job_at` meets its contract. Assumes nothing.
+use mathlib.Core.Path.{_≡_, ap, _∙_}
+use mathlib.Core.List.{List}
+use Prim.Native.Nat.{ℕ, _<_}
+use lib.IntN.{ℤ, pos}
+use lib.Ieee.{Float}
+use mir.Syntax.{w32}
+use mir.Val.{toZ, ofZ}
+use mir.Facts.{toZ-ofZ}
+use Rattle.numbers.specs.Bits.{wordAt}
+use Rattle.drivers.specs.Record.{halfAt, numberAt, fields-of, row-count, bands-tag, cursors-tag, kappa-tag, limits-tag, n-tag, settings-tag, place}
+use Rattle.drivers.specs.Job.{partOf, signed, optionsOf, job-at}
+use Rattle.drivers.specs.declared.cutting_plane.Options.{Options}
+use Rattle.drivers.proofs.job.Signs.{signed-fits, reads-half, part-small}
+use borrow.Author.Needs.{needs}
+use Rattle.drivers.proofs.job.job_at.Statement.{statement}
+use Rattle.drivers.proofs.job.job_at.Tie as tie
+
+-- a part of a word is below 2 ^ 16
+small : (w k r : ℕ) → r ≡ partOf w k → r < 65536
+small w k r e = rw e (part-small w k)
+
+-- a band's end, and a cursor's position, read back
+band : (w w′ k h : ℕ) → w ≡ w′ → h ≡ partOf w k → toZ w32 h ≡ pos (partOf w′ k)
+band w w′ k h a b = reads-half h (small w k h b) ∙ ap pos (b ∙ ap (λ (z : ℕ). partOf z k) a)
+
+cursor : (w w′ k h : ℕ) (z : ℤ) → w ≡ w′ → h ≡ partOf w k → z ≡ signed h → toZ w32 (ofZ w32 z) ≡ signed (partOf w′ k)
+cursor w w′ k h z a b d = rw (d, b, a) (toZ-ofZ (signed-fits (partOf w′ k) (part-small w′ k)))
+
+is : (bytes places : List ℕ) (n rows : ℕ) (np ns : ℤ) (x y z : Float) (p q r : ℤ) (k : Float) (o : Options)
+    → n ≡ halfAt bytes (place places n-tag) → rows ≡ row-count bytes (fields-of bytes)
+    → np ≡ pos (partOf (wordAt bytes (place places bands-tag)) 0) → ns ≡ pos (partOf (wordAt bytes (place places bands-tag)) 1)
+    → x ≡ numberAt bytes (place places limits-tag) 0 → y ≡ numberAt bytes (place places limits-tag) 1 → z ≡ numberAt bytes (place places limits-tag) 2
+    → p ≡ signed (partOf (wordAt bytes (place places cursors-tag)) 0) → q ≡ signed (partOf (wordAt bytes (place places cursors-tag)) 1) → r ≡ signed (partOf (wordAt bytes (place places cursors-tag)) 2)
+    → k ≡ numberAt bytes (place places kappa-tag) 0 → o ≡ optionsOf bytes (place places settings-tag)
+    → record { n = n; rows = rows; nwpass = np; nwstop = ns; «lp_sq» = x; «up_sq» = y; «sp_sq» = z; cur1 = p; cur2 = q; cur3 = r; kappa = k; options = o } ≡ job-at bytes places
+unfolding job-at
+is bytes places n rows np ns x y z p q r k o e₁ e₂ e₃ e₄ e₅ e₆ e₇ e₈ e₉ f₁ f₂ f₃ = rw (e₁, e₂, e₃, e₄, e₅, e₆, e₇, e₈, e₉, f₁, f₂, f₃)
+
+element-copy-out-word-at : tie.Need-element-copy-out-word-at
+element-copy-out-word-at c = search needs
+
+word-at-requires : tie.Need-word-at-requires
+word-at-requires c κs = search needs
+
+element-copy-out-limits : tie.Need-element-copy-out-limits
+element-copy-out-limits c = search needs
+
+element-copy-out-word-at-2 : tie.Need-element-copy-out-word-at-2
+element-copy-out-word-at-2 c = search needs
+
+word-at-requires-2 : tie.Need-word-at-requires-2
+word-at-requires-2 c κs = search needs
+
+element-copy-out-half-at : tie.Need-element-copy-out-half-at
+element-copy-out-half-at c = search needs
+
+half-at-requires : tie.Need-half-at-requires
+half-at-requires c κs = search needs
+
+count-rows-requires : tie.Need-count-rows-requires
+count-rows-requires c κs = search needs
+
+part-requires : tie.Need-part-requires
+part-requires c κs = search needs
+
+cast-t18 : tie.Need-cast-t18
+cast-t18 c = search needs
+
+part-requires-2 : tie.Need-part-requires-2
+part-requires-2 c κs = search needs
+
+cast-t20 : tie.Need-cast-t20
+cast-t20 c = search needs
+
+number-at-requires : tie.Need-number-at-requires
+number-at-requires c κs = search needs
+
+number-at-requires-2 : tie.Need-number-at-requires-2
+number-at-requires-2 c κs = search needs
+
+number-at-requires-3 : tie.Need-number-at-requires-3
+number-at-requires-3 c κs = search needs
+
+part-requires-3 : tie.Need-part-requires-3
+part-requires-3 c κs = search needs
+
+signed-requires : tie.Need-signed-requires
+signed-requires c κs = search needs
+
+part-requires-4 : tie.Need-part-requires-4
+part-requires-4 c κs = search needs
+
+signed-requires-2 : tie.Need-signed-requires-2
+signed-requires-2 c κs = search needs
+
+part-requires-5 : tie.Need-part-requires-5
+part-requires-5 c κs = search needs
+
+signed-requires-3 : tie.Need-signed-requires-3
+signed-requires-3 c κs = search needs
+
+element-copy-out-number-at : tie.Need-element-copy-out-number-at
+element-copy-out-number-at c = search needs
+
+number-at-requires-4 : tie.Need-number-at-requires-4
+number-at-requires-4 c κs = search needs
+
+element-copy-out-job-options : tie.Need-element-copy-out-job-options
+element-copy-out-job-options c = search needs
+
+job-options-requires : tie.Need-job-options-requires
+job-options-requires c κs = search needs
+
+returns : tie.Need-returns
+returns c =
+    let na4 = c .before .before in
+    let s3 = na4 .before .before in
+    let p5 = s3 .before in
+    let s2 = p5 .before in
+    let p4 = s2 .before in
+    let s1 = p4 .before in
+    let p3 = s1 .before in
+    let na3 = p3 .before in
+    let na2 = na3 .before in
+    let na = na2 .before in
+    let p2 = na .before in
+    let p = p2 .before in
+    let cr = p .before in
+    let ha = cr .before in
+    let wa2 = ha .before .before in
+    let wa = wa2 .before .before .before in
+    is _ _ _ _ _ _ _ _ _ _ _ _ _ _ (ha .half-at .ensures) (cr .count-rows .ensures)
+    (band _ _ 0 _ (wa .word-at .ensures) (p .part .ensures)) (band _ _ 1 _ (wa .word-at .ensures) (p2 .part2 .ensures))
+    (na .number-at .ensures) (na2 .number-at2 .ensures) (na3 .number-at3 .ensures)
+    (cursor _ _ 0 _ _ (wa2 .word-at2 .ensures) (p3 .part3 .ensures) (s1 .signed .ensures))
+    (cursor _ _ 1 _ _ (wa2 .word-at2 .ensures) (p4 .part4 .ensures) (s2 .signed2 .ensures))
+    (cursor _ _ 2 _ _ (wa2 .word-at2 .ensures) (p5 .part5 .ensures) (s3 .signed3 .ensures))
+    (na4 .number-at4 .ensures) (c .job-options .ensures)
+
+pub job-at-spec : {M : Type 1} → statement M
+job-at-spec =
+    tie.close
+    (tie.spec
+    element-copy-out-word-at
+    word-at-requires
+    element-copy-out-limits
+    element-copy-out-word-at-2
+    word-at-requires-2
+    element-copy-out-half-at
+    half-at-requires
+    count-rows-requires
+    part-requires
+    cast-t18
+    part-requires-2
+    cast-t20
+    number-at-requires
+    number-at-requires-2
+    number-at-requires-3
+    part-requires-3
+    signed-requires
+    part-requires-4
+    signed-requires-2
+    part-requires-5
+    signed-requires-3
+    element-copy-out-number-at
+    number-at-requires-4
+    element-copy-out-job-options
+    job-options-requires
+    returns)
