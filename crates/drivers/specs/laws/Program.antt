@@ -18,7 +18,6 @@ use Rattle.oracles.specs.Ell.{EllBuffers}
 use Rattle.drivers.specs.Record.{halfAt, numbersAt, numberAt, fields-of, rows-of, fronted, no-places}
 use Rattle.drivers.specs.Job.{optionsOf, job-fault, jobOf, read-job-answer}
 use Rattle.drivers.specs.Trace.{printed, new-run-answer, opened-run, opened-read, with-slices, run-text, text-in, printed-by, open-answer}
-use Rattle.drivers.specs.laws.Text.{front-over}
 use Rattle.drivers.specs.laws.Trace.{calls-print}
 use Rattle.drivers.specs.Calls.{run-all-text}
 use Rattle.drivers.specs.laws.Calls.{calls-enough}
@@ -26,6 +25,7 @@ use Rattle.drivers.specs.laws.JobRuns.{JobSound, JobHeld, sound-held, jo
 use Rattle.drivers.specs.Program.{refused-text, first-space, job-text, program-text, opened-text, calls-text}
 use Rattle.numbers.specs.declared.refusal.Fault.{Fault}
 use Rattle.numbers.specs.declared.refusal.Fault.the-variants.{Sound, At}
+use Rattle.numbers.specs.laws.Over.{front-over}
 use Rattle.drivers.specs.declared.job.JobAnswer.{JobAnswer}
 use Rattle.drivers.specs.declared.job.JobAnswer.the-variants.{Read, Refused}
 use Rattle.drivers.specs.declared.trace.Run.{Run}
