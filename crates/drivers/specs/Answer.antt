@@ -1,19 +1,20 @@
 -- The answer record (document 01, "Job and answer records"): its reader and its writer. Definitions only.
-use Prim.Native.Nat.{ℕ, _+_, _*_}
-use mathlib.Core.Bool.{Bool, true, false, not, _&&_}
-use mathlib.Core.List.{List, [], _∷_, _++_}
+use Prim.Native.Nat.{ℕ}
+use mathlib.Core.Bool.{Bool, not, _&&_}
+use mathlib.Core.List.{List, [], _∷_}
 use lib.Dec.{ltb, eqb}
-use lib.ListN.{length, getD}
+use lib.ListN.{length}
 use lib.Ieee.{Float}
 use Rattle.numbers.specs.Pick.{pick}
-use Rattle.numbers.specs.Bits.{bitsOf, leBytes}
+use Rattle.numbers.specs.Bits.{leBytes}
 use Rattle.numbers.specs.Arr.{isDimension}
 use Rattle.numbers.specs.declared.refusal.Refusal.the-variants.{Dimension, Length, Room, Outcome}
 use Rattle.numbers.specs.Refusal.{_⨾_, unless}
-use Rattle.drivers.specs.Text.{over}
+use Rattle.drivers.specs.Fields.{Field, record-bytes, number-bytes}
 use Rattle.drivers.specs.Record.{tagAt, startOf, halfAt, numbersAt, fields-of, no-places, outcome-tag, steps-tag, found-tag, place, is-met, answer-form, record-fault, lengths-fault, fronted}
 use Rattle.numbers.specs.declared.refusal.Fault.{Fault}
 use Rattle.numbers.specs.declared.refusal.Fault.the-variants.{Sound, At}
+use Rattle.numbers.specs.Over.{over}
 use Rattle.drivers.specs.declared.answer.Answer.{Answer}
 use Rattle.drivers.specs.declared.answer.AnswerRead.{AnswerRead}
 use Rattle.drivers.specs.declared.answer.AnswerRead.the-variants.{Read, Refused}
@@ -26,9 +27,13 @@ use Rattle.drivers.specs.declared.answer.AnswerWritten.the-variants.{Byt
 abbrev pub has-point : List ℕ → Bool
 has-point places = is-met places found-tag
 
--- 12, at tag 20: the outcome, one byte, is 1 where tag 22 is there, else 0
+-- the outcome, one byte
+abbrev pub outcome-byte : Bool → ℕ
+outcome-byte found = pick found 1 0
+
+-- 12, at tag 20: the outcome is that of a point where tag 22 is there
 unfoldable pub outcome-fault : List ℕ → ℕ → ℕ → Fault
-outcome-fault bytes outcome point = pick (not (eqb (tagAt bytes outcome) (pick (eqb point 0) 0 1))) (At Outcome (startOf outcome)) Sound
+outcome-fault bytes outcome point = pick (not (eqb (tagAt bytes outcome) (outcome-byte (not (eqb point 0))))) (At Outcome (startOf outcome)) Sound
 
 -- 11: a point that is there needs n numbers
 unfoldable pub answer-room-fault : ℕ → List ℕ → ℕ → Fault
@@ -58,29 +63,27 @@ read-answer-answer n bytes point =
 
 -- ---- the writer
 
--- a field's header: the tag and the length of its content, the lowest byte first
-abbrev pub header : ℕ → ℕ → List ℕ
-header tag size = leBytes 3 (tag + 256 * size)
+-- the fields of an answer, their tags rising: the outcome, the steps and, if one was found, the point
+abbrev pub outcome-field : Bool → Field
+outcome-field found = (0x20, leBytes 1 (outcome-byte found))
 
--- tags 20 and 21
-abbrev pub answer-head : ℕ → ℕ → List ℕ
-answer-head outcome steps = header 0x20 1 ++ leBytes 1 outcome ++ header 0x21 2 ++ leBytes 2 steps
+abbrev pub steps-field : ℕ → Field
+steps-field steps = (0x21, leBytes 2 steps)
 
--- a point's bytes; NaN is 7FF8000000000000
-unfoldable pub pointPut : List Float → List ℕ
-pointPut [] = []
-pointPut (x ∷ xs) = leBytes 8 (bitsOf x) ++ pointPut xs
+abbrev pub point-field : List Float → Field
+point-field point = (0x22, number-bytes point)
 
--- the record of an answer, its tags rising
-unfoldable pub answer-bytes : ℕ → Bool → ℕ → List Float → List ℕ
-unfolding pointPut
-answer-bytes n found steps point = pick found (answer-head 1 steps ++ header 0x22 (8 * n) ++ pointPut point) (answer-head 0 steps)
+abbrev pub answer-fields : Answer → List Float → List Field
+answer-fields a point = outcome-field (a .found) ∷ steps-field (a .steps) ∷ pick (a .found) (point-field point ∷ []) []
+
+abbrev pub answer-bytes : Answer → List Float → List ℕ
+answer-bytes a point = record-bytes (answer-fields a point)
 
 -- `write_answer`: refusal 1, then 2 for a point that has not n numbers, then 11
 unfoldable pub write-answer-answer : ℕ → Answer → List Float → List ℕ → AnswerWritten × List ℕ
-unfolding answer-bytes over
+unfolding over
 write-answer-answer n a point out =
-    let bytes = answer-bytes n (a .found) (a .steps) point in
+    let bytes = answer-bytes a point in
     pick (not (isDimension n)) (NotWritten Dimension, out)
     (pick (not (eqb (length point) n)) (NotWritten Length, out)
     (pick (ltb (length out) (length bytes)) (NotWritten Room, out)

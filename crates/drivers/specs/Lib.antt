@@ -3,6 +3,7 @@ pub mod Record
 pub mod CuttingPlane
 pub mod Job
 pub mod Text
+pub mod Fields
 pub mod Answer
 pub mod Belongs
 pub mod Trace

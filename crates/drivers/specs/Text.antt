@@ -2,12 +2,9 @@
 use Prim.Native.Nat.{ℕ, zero, suc, _+_, _/_, _%_}
 use mathlib.Core.List.{List, [], _∷_, _++_}
 use lib.Dec.{leb, ltb}
-use lib.ListN.{length, take, drop}
+use lib.ListN.{length}
 use Rattle.numbers.specs.Pick.{pick}
-
--- bytes written from `at` on; what stands before and after stays
-unfoldable pub over : List ℕ → ℕ → List ℕ → List ℕ
-over out at bytes = take at out ++ bytes ++ drop (at + length bytes) out
+use Rattle.numbers.specs.Over.{over}
 
 -- a piece of text from `at` on, and where the next one begins; a piece that does not fit is not written
 unfoldable pub put : List ℕ → ℕ → List ℕ → ℕ × List ℕ

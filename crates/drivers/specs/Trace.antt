@@ -15,13 +15,14 @@ use Rattle.numbers.specs.declared.cut.CutChoice.{CutChoice}
 use Rattle.numbers.specs.declared.cut.CutChoice.the-variants.{Single, Parallel}
 use Rattle.numbers.specs.declared.cut.CutStatus.{CutStatus}
 use Rattle.numbers.specs.declared.cut.CutStatus.the-variants.{Success, NoSoln, NoEffect}
+use Rattle.numbers.specs.Over.{over}
 use Rattle.oracles.specs.LowpassOracle.{groupSide}
 use Rattle.oracles.specs.Ell.{EllBuffers, new-ell-answer}
 use Rattle.oracles.specs.declared.lowpass_oracle.Group.{Group}
 use Rattle.oracles.specs.declared.lowpass_oracle.Group.the-variants.{Pass, Stop, Middle, Sign}
 use Rattle.oracles.specs.declared.ell.NewEll.{NewEll}
 use Rattle.oracles.specs.declared.ell.NewEll.the-variants.{Made, Refused as NoEll}
-use Rattle.drivers.specs.Text.{over, joined, decimal, hex}
+use Rattle.drivers.specs.Text.{joined, decimal, hex}
 use Rattle.drivers.specs.CuttingPlane.{Space, check-space, feas-step, goes-on, feas-ended}
 use Rattle.drivers.specs.Job.{job-oracle, read-job-answer}
 use Rattle.drivers.specs.declared.answer.Answer.{Answer}

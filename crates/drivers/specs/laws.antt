@@ -8,7 +8,7 @@ pub mod Untouched
 pub mod OptimRight
 pub mod Trace
 pub mod Calls
-pub mod WrittenFields
+pub mod Fields
 pub mod RoundTrip
 pub mod RunEnds
 pub mod OptimBest

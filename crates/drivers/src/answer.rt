@@ -1,4 +1,7 @@
 // The answer record: tag 20, 21 and, if a point was found, 22. Its reader takes the tags in any order, its writer puts them in rising order.
+use crate::fields::HEADER;
+use crate::fields::put_integer_field;
+use crate::fields::put_numbers_field;
 use crate::record::ANSWER;
 use crate::record::FOUND;
 use crate::record::OUTCOME;
@@ -10,20 +13,18 @@ use crate::record::record_fault;
 use crate::record::start_of;
 use crate::record::tag_at;
 use numbers::arr::is_dimension;
-use numbers::bits::put_word;
-use numbers::bits::to_bits;
 use numbers::refusal::Fault;
 use numbers::refusal::Refusal;
 use numbers::refusal::is_fault;
 ghost use mathlib.Core.Path.{_≡_};
 ghost use mathlib.Core.Bool.{true};
+ghost use mathlib.Core.List.{map};
 ghost use Prim.Native.Nat.{_+_, _*_, _≤_};
-ghost use lib.Dec.{eqb, leb};
 ghost use lib.ListN.{length};
 ghost use Rattle.numbers.specs.Pick.{pick};
-ghost use Rattle.numbers.specs.Bits.{putBytes};
-ghost use Rattle.drivers.specs.Answer.{outcome-fault, answer-fault, answerOf, has-point, read-answer-answer, answer-head, answer-bytes, pointPut, write-answer-answer};
-ghost use Rattle.drivers.specs.Text.{over};
+ghost use Rattle.drivers.specs.Text.{put-all};
+ghost use Rattle.drivers.specs.Fields.{field-bytes};
+ghost use Rattle.drivers.specs.Answer.{outcome-byte, outcome-fault, answer-fault, answerOf, has-point, read-answer-answer, answer-fields, write-answer-answer};
 
 // What a run answers, and a record keeps, beside the point: whether there is one, and the steps.
 pub struct Answer {
@@ -42,21 +43,21 @@ pub enum AnswerWritten {
     Refused(Refusal),
 }
 
-// The outcome of a record whose tag 22 has its content here; 0 where there is none.
-fn outcome_of(point: usize) -> u64
-    ensures { λ r. ⌜ r ≡ pick (eqb point 0) 0 1 ⌝ }
+// The outcome, one byte of a record.
+fn outcome_byte(found: bool) -> u64
+    ensures { λ r. ⌜ r ≡ outcome-byte «found» ⌝ }
 {
-    if point == 0 {
-        return 0;
+    if found {
+        return 1;
     }
-    1
+    0
 }
 
-// Refusal 12, at tag 20: the outcome is 1 where there is a point, else 0.
+// Refusal 12, at tag 20: the outcome is not that of a record with, or without, tag 22. `point` is where its content begins, 0 where there is none.
 fn outcome_fault(bytes: &[u8], outcome: usize, point: usize) -> Fault
     ensures { λ r. ⌜ r ≡ outcome-fault (now (bytes .entry)) outcome point ⌝ }
 {
-    if tag_at(bytes, outcome) != outcome_of(point) {
+    if tag_at(bytes, outcome) != outcome_byte(point != 0) {
         return Fault::At(Refusal::Outcome, start_of(outcome));
     }
     Fault::Sound
@@ -118,51 +119,31 @@ pub fn read_answer(n: usize, bytes: &[u8], point: &mut [f64]) -> AnswerRead
     }
 }
 
-// Writes the k lowest bytes of w from out[at] on.
-fn put_le(out: &mut [u8], at: usize, k: usize, w: u64)
-    requires { ⌜ at + k ≤ length (now out) ⌝ }
-    ensures { λ _. ⌜ now (out .exit) ≡ putBytes (now (out .entry)) at k w ⌝ }
+// The bytes of a record without a point: two headers, an outcome of one byte and steps of two.
+const WITHOUT_POINT: usize = 9;
+
+// The bytes of an answer's record: tag 22, if there is one, has a header and n numbers.
+fn answer_size(n: usize, found: bool) -> usize
+    requires { ⌜ n ≤ 32 ⌝ }
+    ensures { λ r. ⌜ r ≡ pick «found» (12 + 8 * n) 9 ⌝ }
 {
-    let mut rest = w;
-    let mut i = 0;
-    while i < k {
-        out[at + i] = (rest % 256) as u8;
-        rest /= 256;
-        i += 1;
+    if !found {
+        return WITHOUT_POINT;
     }
+    WITHOUT_POINT + HEADER + 8 * n
 }
 
-// Tags 20 and 21 with their lengths and contents.
-fn put_head(out: &mut [u8], outcome: u64, steps: u64)
-    requires { ⌜ 9 ≤ length (now out) ⌝ }
-    ensures { λ _. ⌜ now (out .exit) ≡ over (now (out .entry)) 0 (answer-head outcome steps) ⌝ }
+// The fields of an answer at the front of `out`; where they end.
+fn put_answer(out: &mut [u8], answer: Answer, point: &[f64]) -> usize
+    requires { ⌜ length (now point) ≤ 32 ⌝ }
+    ensures { λ r. ⌜ (r, now (out .exit)) ≡ put-all (now (out .entry)) 0 (map field-bytes (answer-fields answer (now (point .entry)))) ⌝ }
 {
-    put_le(out, 0, 3, 0x20 + 256);
-    put_le(out, 3, 1, outcome);
-    put_le(out, 4, 3, 0x21 + 2 * 256);
-    put_le(out, 7, 2, steps);
-}
-
-// The numbers from out[at] on.
-fn put_point(out: &mut [u8], at: usize, point: &[f64])
-    requires { ⌜ (at + 8 * length (now point) ≤ length (now out)) × (length (now point) ≤ 32) ⌝ }
-    ensures { λ _. ⌜ now (out .exit) ≡ over (now (out .entry)) at (pointPut (now (point .entry))) ⌝ }
-{
-    let mut i = 0;
-    while i < point.len() {
-        put_word(out, at + 8 * i, to_bits(point[i]));
-        i += 1;
+    let at = put_integer_field(out, 0, 0x20, 1, outcome_byte(answer.found));
+    let at = put_integer_field(out, at, 0x21, 2, answer.steps as u64);
+    if !answer.found {
+        return at;
     }
-}
-
-// The record of an answer with a point: all three tags.
-fn put_found(out: &mut [u8], n: usize, steps: u16, point: &[f64])
-    requires { ⌜ (n ≤ 32) × (length (now point) ≡ n) × (12 + 8 * n ≤ length (now out)) ⌝ }
-    ensures { λ _. ⌜ now (out .exit) ≡ over (now (out .entry)) 0 (answer-bytes n true steps (now (point .entry))) ⌝ }
-{
-    put_head(out, 1, steps as u64);
-    put_le(out, 9, 3, 0x22 + 256 * (8 * n as u64));
-    put_point(out, 12, point);
+    put_numbers_field(out, at, 0x22, point)
 }
 
 // Writes an answer record to the front of `out`: n numbers of `point`, if one was found.
@@ -175,17 +156,8 @@ pub fn write_answer(n: usize, answer: Answer, point: &[f64], out: &mut [u8]) -> 
     if point.len() != n {
         return AnswerWritten::Refused(Refusal::Length);
     }
-    if !answer.found {
-        if out.len() < 9 {
-            return AnswerWritten::Refused(Refusal::Room);
-        }
-        put_head(out, 0, answer.steps as u64);
-        return AnswerWritten::Bytes(9);
-    }
-    let size = 12 + 8 * n;
-    if out.len() < size {
+    if out.len() < answer_size(n, answer.found) {
         return AnswerWritten::Refused(Refusal::Room);
     }
-    put_found(out, n, answer.steps, point);
-    AnswerWritten::Bytes(size)
+    AnswerWritten::Bytes(put_answer(out, answer, point))
 }

@@ -2,6 +2,7 @@
 pub mod answer;
 pub mod belongs;
 pub mod cutting_plane;
+pub mod fields;
 pub mod job;
 pub mod numbered;
 pub mod record;

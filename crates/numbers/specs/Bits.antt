@@ -1,10 +1,11 @@
 -- A float as its 64 bits, and words in bytes, the lowest byte first. Definitions only.
 use Prim.Native.Nat.{ℕ, zero, suc, _+_, _*_, _/_, _%_}
-use mathlib.Core.List.{List, [], _∷_, _++_}
+use mathlib.Core.List.{List, [], _∷_}
 use lib.Dec.{leb}
 use lib.ListN.{length, take, drop}
 use lib.Ieee.{Float, binary64, ofBits, toBits}
 use Rattle.numbers.specs.Pick.{pick}
+use Rattle.numbers.specs.Over.{over}
 
 -- the float of a pattern; every NaN's pattern gives NaN
 abbrev pub floatOf : ℕ → Float
@@ -29,12 +30,11 @@ unfoldable pub leBytes : ℕ → ℕ → List ℕ
 leBytes zero w = []
 leBytes (suc k) w = w % 256 ∷ leBytes k (w / 256)
 
--- `bytes` with the k lowest bytes of w from `at` on
+-- the k lowest bytes of w written from `at` on; nothing is written where they do not all fit
 unfoldable pub putBytes : List ℕ → ℕ → ℕ → ℕ → List ℕ
-unfolding leBytes
-putBytes bytes at k w = take at bytes ++ leBytes k w ++ drop (at + k) bytes
+unfolding leBytes over
+putBytes bytes at k w = pick (leb (at + k) (length bytes)) (over bytes at (leBytes k w)) bytes
 
--- a word written at `at`; nothing is written where it does not fit
-unfoldable pub putWord : List ℕ → ℕ → ℕ → List ℕ
-unfolding putBytes
-putWord bytes at w = pick (leb (at + 8) (length bytes)) (putBytes bytes at 8 w) bytes
+-- a word's eight bytes
+abbrev pub putWord : List ℕ → ℕ → ℕ → List ℕ
+putWord bytes at w = putBytes bytes at 8 w

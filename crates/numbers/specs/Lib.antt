@@ -1,5 +1,6 @@
 -- Definitions, which a reader has to believe.
 pub mod Pick
+pub mod Over
 pub mod Refusal
 pub mod F64
 pub mod Arr

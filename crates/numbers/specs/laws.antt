@@ -1,4 +1,5 @@
 pub mod Pick
+pub mod Over
 pub mod Refusal
 pub mod Arr
 pub mod Bits

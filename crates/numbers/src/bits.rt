@@ -1,6 +1,6 @@
-// Floats as their 64 bits, and 64-bit words in bytes, the lowest byte first. A NaN has one pattern here; a word that does not fit is not written.
+// Floats as their 64 bits, and words in bytes, the lowest byte first. A NaN has one pattern here; what does not fit is not written.
 ghost use mathlib.Core.Path.{_≡_};
-ghost use Prim.Native.Nat.{_+_, _≤_, _<_};
+ghost use Prim.Native.Nat.{_≤_, _<_};
 ghost use lib.ListN.{length};
 ghost use Rattle.numbers.specs.Bits.{floatOf, bitsOf, leNumber, wordAt, putWord, putBytes};
 
@@ -76,14 +76,20 @@ pub fn word_at(bytes: &[u8], at: usize) -> u64
     le_word(&bytes[at..end])
 }
 
-fn put_bytes(bytes: &mut [u8], at: usize, w: u64)
-    requires { ⌜ at + 8 ≤ length (now bytes) ⌝ }
-    ensures { λ _. ⌜ now (bytes .exit) ≡ putBytes (now (bytes .entry)) at 8 w ⌝ }
+// Writes the k lowest bytes of w from out[at] on, or nothing where they do not all fit.
+pub fn put_bytes(out: &mut [u8], at: usize, k: usize, w: u64)
+    ensures { λ _. ⌜ now (out .exit) ≡ putBytes (now (out .entry)) at k w ⌝ }
 {
+    if out.len() < k {
+        return;
+    }
+    if out.len() - k < at {
+        return;
+    }
     let mut rest = w;
     let mut i = 0;
-    while i < 8 {
-        bytes[at + i] = (rest % 256) as u8;
+    while i < k {
+        out[at + i] = (rest % 256) as u8;
         rest /= 256;
         i += 1;
     }
@@ -93,11 +99,5 @@ fn put_bytes(bytes: &mut [u8], at: usize, w: u64)
 pub fn put_word(bytes: &mut [u8], at: usize, w: u64)
     ensures { λ _. ⌜ now (bytes .exit) ≡ putWord (now (bytes .entry)) at w ⌝ }
 {
-    if bytes.len() < 8 {
-        return;
-    }
-    if bytes.len() - 8 < at {
-        return;
-    }
-    put_bytes(bytes, at, w);
+    put_bytes(bytes, at, 8, w);
 }

@@ -9,9 +9,12 @@ use borrow.Author.Tests.{lt-ltb, le-ltb}
 use lib.Dec.{ltb}
 use lib.ListN.{length, take, drop, set, getD, length-set}
 use lib.Seq.{paste, paste-zero, paste-suc, take-length}
-use Rattle.drivers.specs.Text.{over, put, digitChar, digitsOf, digit-count-to, digit-count}
-use Rattle.drivers.specs.laws.Text.{over-none, store-before, put-fits, shift, shift-more, digits-more, length-digits}
+use Rattle.drivers.specs.Text.{put, digitChar, digitsOf, digit-count-to, digit-count}
+use Rattle.drivers.specs.laws.Text.{put-fits, digits-more, length-digits}
 use Rattle.numbers.specs.laws.Pick.{is-hit, is-skip}
+use Rattle.numbers.specs.Over.{over}
+use Rattle.numbers.specs.laws.Over.{over-none, store-before}
+use Rattle.numbers.specs.laws.Bits.{shift, shift-more}
 
 -- ---- a copy: i bytes of the text stand from `at` on
 

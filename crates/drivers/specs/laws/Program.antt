@@ -18,7 +18,7 @@ use Rattle.drivers.specs.Record.{fronted}
 use Rattle.drivers.specs.Job.{FullJob, job-oracle, optionsOf, job-at, full-job-at, job-walk, full-job, job-fault, has-room, room-fault, read-into, read-job-answer}
 use Rattle.drivers.specs.laws.Job.{JobSound, n-to, rows-to, sound-job}
 use Rattle.drivers.specs.Trace.{text-room, printed, input-tests, new-run-answer, opened-run, opened-read, with-slices, run-text, text-in, printed-by, open-answer}
-use Rattle.drivers.specs.laws.Text.{front-over}
+use Rattle.numbers.specs.laws.Over.{front-over}
 use Rattle.drivers.specs.laws.Trace.{calls-print}
 use Rattle.drivers.specs.Calls.{run-all-text}
 use Rattle.drivers.specs.laws.Calls.{calls-enough}

@@ -1,78 +1,17 @@
--- Laws of Text: bytes written over a list, pieces one after the other, and digits. Assumes nothing.
+-- Laws of Text: pieces one after the other, and digits. Assumes nothing.
 use Prim.Native.Nat.{ℕ, zero, suc, _+_, _/_, _%_, _≤_, _<_}
 use mathlib.Core.Path.{_≡_, refl, sym, ap, _∙_}
-use mathlib.Core.List.{List, [], _∷_, _++_, append-assoc, append-nil}
+use mathlib.Core.List.{List, [], _∷_, _++_, append-assoc}
 use native.Mathlib.Nat.{add-zero, zero-add}
 use native.Mathlib.Omega.{arith}
 use borrow.Author.Tests.{le-leb, lt-leb}
 use lib.Dec.{ltb}
-use lib.ListN.{length, take, drop, set, length-append, length-drop, take-append-drop}
-use lib.Seq.{take-at, drop-at, take-append-le, take-take, drop-append-add, drop-drop, set-split, length-take-le, append-snoc}
-use Rattle.numbers.specs.Bits.{leBytes, putBytes}
-use Rattle.numbers.specs.laws.Bits.{length-bytes}
+use lib.ListN.{length, length-append}
+use Rattle.numbers.specs.Over.{over}
+use Rattle.numbers.specs.laws.Over.{over-none, length-over, over-on}
+use Rattle.numbers.specs.laws.Bits.{shift}
 use Rattle.numbers.specs.laws.Pick.{hit, skip, by-test}
-use Rattle.drivers.specs.Text.{over, put, put-all, joined, digitChar, digitsOf, digit-count-to, digit-count, decimal, hex}
-
--- ---- bytes over a list
-
-module _ (out : List ℕ) (at : ℕ) where
-  pub over-none : over out at [] ≡ out
-  unfolding over
-  over-none = rw (append-nil, add-zero, take-append-drop)
-
-  module _ (xs : List ℕ) (h : at + length xs ≤ length out) where
-    front-long : length (take at out ++ xs) ≡ at + length xs
-    front-long = length-append (take at out) xs ∙ ap (λ (n : ℕ). n + length xs) (length-take-le at out (omega arith))
-
-    pub length-over : length (over out at xs) ≡ length out
-    unfolding over
-    length-over = length-append (take at out ++ xs) (drop (at + length xs) out) ∙ omega (arith, front-long, length-drop (at + length xs) out)
-
-    -- more bytes behind those that are written
-    pub over-on : (ys : List ℕ) → over (over out at xs) (at + length xs) ys ≡ over out at (xs ++ ys)
-    unfolding over
-    over-on ys =
-        let p = take at out ++ xs in
-        let d = drop (at + length xs) out in
-        let e : at + length xs + length ys ≡ length p + length ys = omega (arith, front-long) in
-        let l : at + length xs + length ys ≡ at + length (xs ++ ys) = omega (arith, length-append xs ys) in
-        ap (λ (l : List ℕ). l ++ ys ++ drop (at + length xs + length ys) (p ++ d)) (take-at p d (at + length xs) front-long)
-        ∙ ap (λ (n : ℕ). p ++ ys ++ drop n (p ++ d)) e
-        ∙ ap (λ (l : List ℕ). p ++ ys ++ l) (drop-append-add p d (length ys) ∙ drop-drop (length ys) (at + length xs) out)
-        ∙ ap (λ (l : List ℕ). l ++ drop (at + length xs + length ys) out) (append-assoc (take at out) xs ys)
-        ∙ ap (λ (n : ℕ). take at out ++ (xs ++ ys) ++ drop n out) l
-
--- what is written at the front can be read there
-pub front-over : (out text : List ℕ) → take (length text) (over out 0 text) ≡ text
-unfolding over
-front-over out text = take-at text (drop (0 + length text) out) (length text) refl
-
--- a byte stored
-pub set-over : (out : List ℕ) (i v : ℕ) → i < length out → set out i v ≡ over out i (v ∷ [])
-unfolding over
-set-over out i v h =
-    let e : suc i ≡ i + 1 = omega arith in
-    set-split out i v h ∙ sym (append-snoc (take i out) v (drop (suc i) out)) ∙ ap (λ (n : ℕ). take i out ++ (v ∷ []) ++ drop n out) e
-
--- behind those that are written, and before them
-pub store-on : (out : List ℕ) (at : ℕ) (xs : List ℕ) (v : ℕ) → at + length xs < length out → set (over out at xs) (at + length xs) v ≡ over out at (xs ++ (v ∷ []))
-store-on out at xs v h =
-    let l : at + length xs ≤ length out = omega arith in
-    set-over (over out at xs) (at + length xs) v (rw (length-over out at xs l) h) ∙ over-on out at xs l (v ∷ [])
-
-pub store-before : (out : List ℕ) (i : ℕ) (xs : List ℕ) (v : ℕ) → suc i + length xs ≤ length out → set (over out (suc i) xs) i v ≡ over out i (v ∷ xs)
-unfolding over
-store-before out i xs v h =
-    let a = take (suc i) out in
-    let d = drop (suc i + length xs) out in
-    let la : length a ≡ suc i = length-take-le (suc i) out (omega arith) in
-    let n : suc i + length xs ≡ i + suc (length xs) = omega arith in
-    set-split (a ++ xs ++ d) i v (rw (length-append (a ++ xs) d, length-append a xs, la) (omega arith))
-    ∙ ap (λ (l : List ℕ). take i l ++ v ∷ drop (suc i) l) (append-assoc a xs d)
-    ∙ ap (λ (l : List ℕ). l ++ v ∷ drop (suc i) (a ++ (xs ++ d))) (take-append-le i a (xs ++ d) (omega (arith, la)) ∙ take-take i (suc i) out (omega arith))
-    ∙ ap (λ (l : List ℕ). take i out ++ v ∷ l) (drop-at a (xs ++ d) (suc i) la)
-    ∙ sym (append-assoc (take i out) (v ∷ xs) d)
-    ∙ ap (λ (k : ℕ). take i out ++ (v ∷ xs) ++ drop k out) n
+use Rattle.drivers.specs.Text.{put, put-all, joined, digitChar, digitsOf, digit-count-to, digit-count, decimal, hex}
 
 -- ---- pieces
 
@@ -135,6 +74,11 @@ put-all-fits out at (x ∷ xs) h =
     ∙ put-all-fits (over out at x) (at + length x) xs f′
     ∙ (λ i. (n i, over-on out at x f t i))
 
+pub put-joined : (out : List ℕ) (at : ℕ) (texts : List (List ℕ)) (text : List ℕ) (r : ℕ × List ℕ) → joined texts ≡ text → at + length text ≤ length out → r ≡ put-all out at texts
+    → r ≡ put out at text
+put-joined out at texts text r j h e =
+    e ∙ put-all-fits out at texts (rw j h) ∙ ap (λ (l : List ℕ). (at + length l, over out at l)) j ∙ put-fits out at text h
+
 -- at the front of a list
 pub put-front : (out : List ℕ) (texts : List (List ℕ)) (r : ℕ × List ℕ) → length (joined texts) ≤ length out → r ≡ put-all out 0 texts
     → r ≡ (length (joined texts), over out 0 (joined texts))
@@ -156,17 +100,7 @@ most-none = omega arith
 
 -- ---- digits
 
--- w without its j lowest digits
-unfoldable pub shift : ℕ → ℕ → ℕ → ℕ
-shift base zero w = w
-shift base (suc j) w = shift base j (w / base)
-
 module _ (base : ℕ) where
-  pub shift-more : (j w : ℕ) → shift base j w / base ≡ shift base (suc j) w
-  unfolding shift
-  shift-more zero w = refl
-  shift-more (suc j) w = shift-more j (w / base)
-
   -- the next digit stands before the lower ones
   pub digits-more : (j w : ℕ) → digitsOf base (suc j) w ≡ digitChar (shift base j w % base) ∷ digitsOf base j w
   unfolding digitsOf shift
@@ -177,16 +111,6 @@ module _ (base : ℕ) where
   unfolding digitsOf
   length-digits zero w = refl
   length-digits (suc count) w = length-append (digitsOf base count (w / base)) (digitChar (w % base) ∷ []) ∙ omega (arith, length-digits count (w / base))
-
--- the lowest byte stands first
-pub bytes-more : (j w : ℕ) → leBytes (suc j) w ≡ leBytes j w ++ (shift 256 j w % 256 ∷ [])
-unfolding leBytes shift
-bytes-more zero w = refl
-bytes-more (suc j) w = ap (λ (l : List ℕ). w % 256 ∷ l) (bytes-more j (w / 256))
-
-pub put-over : (out : List ℕ) (at k w : ℕ) → putBytes out at k w ≡ over out at (leBytes k w)
-unfolding putBytes over
-put-over out at k w = ap (λ (n : ℕ). take at out ++ leBytes k w ++ drop (at + n) out) (sym (length-bytes k w))
 
 -- ---- how long
 

@@ -18,12 +18,14 @@ use Rattle.numbers.specs.declared.cut.CutChoice.the-variants.{Single, Parallel}
 use Rattle.numbers.specs.declared.cut.CutStatus.{CutStatus}
 use Rattle.numbers.specs.declared.cut.CutStatus.the-variants.{Success, NoSoln, NoEffect}
 use Rattle.numbers.specs.laws.Pick.{skip, is-hit, pick-cong, by-test, pick-map}
+use Rattle.numbers.specs.Over.{over}
+use Rattle.numbers.specs.laws.Over.{length-over, front-over}
 use Rattle.oracles.specs.LowpassOracle.{groupSide}
 use Rattle.oracles.specs.Ell.{EllBuffers}
 use Rattle.oracles.specs.declared.lowpass_oracle.Group.{Group}
 use Rattle.oracles.specs.declared.lowpass_oracle.Group.the-variants.{Pass, Stop, Middle, Sign}
-use Rattle.drivers.specs.Text.{over, put-all, joined, hex}
-use Rattle.drivers.specs.laws.Text.{length-over, length-decimal, length-hex, most-more, most-on, most-none, put-front, joined-append, joined-none, front-over}
+use Rattle.drivers.specs.Text.{put-all, joined, hex}
+use Rattle.drivers.specs.laws.Text.{length-decimal, length-hex, most-more, most-on, most-none, put-front, joined-append, joined-none}
 use Rattle.drivers.specs.Trace.{group-word, row-text, side-word, beta-pieces, status-word, said-pieces, outcome-word, last-pieces, ended-pieces, refused-pieces, text-room, printed, step-text, space-of, run-at, step-printed, limit-printed, next-tests, next-answer, run-text, cut-lines, text-left, text-in, printed-by}
 use Rattle.drivers.specs.CuttingPlane.{Space, check-space, feas-step, goes-on, feas-ended, feas-run}
 use Rattle.drivers.specs.laws.StepRight.{step-right}

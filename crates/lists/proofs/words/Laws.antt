@@ -9,7 +9,7 @@ use lib.ListN.{length, getD}
 use lib.Ieee.{Float, nan}
 use Rattle.numbers.specs.Arr.{tab}
 use Rattle.numbers.specs.Bits.{bitsOf, wordAt}
-use Rattle.numbers.specs.laws.Bits.{word-past, put-short, length-put-word}
+use Rattle.numbers.specs.laws.Bits.{word-past, put-short, length-put}
 use Rattle.numbers.specs.laws.Pick.{hit, skip}
 use Rattle.lists.specs.Words.{wordOf, floatAt, floatsAt, wordPut, putTo, floatsPut, firstDiff}
 
@@ -22,7 +22,7 @@ unfolding wordOf
 word-there bytes k r e = e
 
 pub put-none : (bytes : List ℕ) (k w : ℕ) → length bytes / 8 ≤ k → bytes ≡ wordPut bytes k w
-put-none bytes k w h = put-short bytes (8 * k) w (omega arith)
+put-none bytes k w h = put-short bytes (8 * k) 8 w (omega arith)
 
 -- floats that the bytes do not hold, or do
 pub floats-out : (bytes : List ℕ) (k : ℕ) (out : List Float) → length bytes / 8 < k + length out → out ≡ floatsAt bytes k out
@@ -46,7 +46,7 @@ puts-in bytes k xs r i h l m e =
 pub length-putTo : (bytes : List ℕ) (k : ℕ) (xs : List Float) (n : ℕ) → length (putTo bytes k xs n) ≡ length bytes
 unfolding putTo
 length-putTo bytes k xs zero = refl
-length-putTo bytes k xs (suc n) = length-put-word (putTo bytes k xs n) (8 * (k + n)) (bitsOf (getD xs n nan)) ∙ length-putTo bytes k xs n
+length-putTo bytes k xs (suc n) = length-put (putTo bytes k xs n) (8 * (k + n)) 8 (bitsOf (getD xs n nan)) ∙ length-putTo bytes k xs n
 
 pub put-turn : (bytes₀ bytes r : List ℕ) (k : ℕ) (xs : List Float) (i w : ℕ) → bytes ≡ putTo bytes₀ k xs i → w ≡ bitsOf (getD xs i nan) → r ≡ wordPut bytes (k + i) w → r ≡ putTo bytes₀ k xs (i + 1)
 unfolding putTo

@@ -1,21 +1,21 @@
 -- What the proofs of `bits` cite: which patterns are a NaN's, one byte more of a word, read from the top and written from the bottom, and a word from its halves.
 use mathlib.Core.Path.{_≡_, refl, sym, ap, _∙_, subst}
 use mathlib.Core.Bool.{true, false, not}
-use mathlib.Core.List.{List, [], _∷_, _++_, append-assoc, append-nil}
+use mathlib.Core.List.{List, [], _∷_}
 use Prim.Native.Nat.{ℕ, zero, suc, _+_, _-_, _*_, _/_, _%_, _^_, _≤_, _<_}
 use native.Mathlib.Omega.{arith}
-use native.Mathlib.Nat.{add-zero}
 use native.Mathlib.Numerals.{add-one}
-use borrow.Author.Tests.{lt-ltb, le-ltb, le-leb}
+use borrow.Author.Tests.{lt-ltb, le-ltb}
 use lib.Dec.{T}
-use lib.ListN.{length, take, drop, getD, set, length-append, length-take, length-drop, take-append-drop}
-use lib.Seq.{drop-cons, drop-length, take-all, set-at, append-snoc}
+use lib.ListN.{length, take, drop, getD, set, length-set, length-drop}
+use lib.Seq.{drop-cons, drop-length, take-all}
 use lib.Ieee.{Float, nan, inf, fin, binary64, isNan, ne, ofBits, toBits, nanBits}
 use lib.Ieee.Compare.{differs-from-itself, nan-differs}
 use lib.Ieee.Bits.{nanBits-is, nanBits-above}
-use Rattle.numbers.specs.Bits.{leNumber, leBytes, wordAt, putBytes, putWord}
-use Rattle.numbers.specs.laws.Bits.{length-bytes}
-use Rattle.numbers.specs.laws.Pick.{hit}
+use Rattle.numbers.specs.Bits.{leNumber, leBytes, wordAt, putBytes}
+use Rattle.numbers.specs.laws.Bits.{length-bytes, shift, shift-more, bytes-more, put-fits}
+use Rattle.numbers.specs.Over.{over}
+use Rattle.numbers.specs.laws.Over.{over-none, store-on}
 
 is-nan : (x : Float) → isNan x ≡ true → x ≡ nan
 unfolding isNan
@@ -79,40 +79,6 @@ halves-are bytes low high a b =
     let e = ap leNumber (take-all (length bytes - 4) (drop 4 bytes) (omega (arith, length-drop 4 bytes))) in
     omega (arith, number-four bytes .1)
 
--- w without its i lowest bytes
-unfoldable pub shift : ℕ → ℕ → ℕ
-shift zero w = w
-shift (suc i) w = shift i w / 256
-
-shift-div : (i w : ℕ) → shift i (w / 256) ≡ shift i w / 256
-unfolding shift
-shift-div zero w = refl
-shift-div (suc i) w = ap (λ (n : ℕ). n / 256) (shift-div i w)
-
-bytes-snoc : (i w : ℕ) → leBytes (suc i) w ≡ leBytes i w ++ (shift i w % 256 ∷ [])
-unfolding leBytes shift
-bytes-snoc zero w = refl
-bytes-snoc (suc i) w = ap (λ (l : List ℕ). w % 256 ∷ l) (bytes-snoc i (w / 256) ∙ ap (λ (n : ℕ). leBytes i (w / 256) ++ (n % 256 ∷ [])) (shift-div i w))
-
--- the next byte stored
-pub byte-stored : (bytes : List ℕ) (at i w : ℕ) → at + i < length bytes → set (putBytes bytes at i w) (at + i) (shift i w % 256) ≡ putBytes bytes at (suc i) w
-unfolding putBytes
-byte-stored bytes at i w h =
-    let p = take at bytes ++ leBytes i w in
-    let e : length p ≡ at + i = length-append (take at bytes) (leBytes i w) ∙ omega (arith, length-take at bytes, length-bytes i w) in
-    let a = shift i w % 256 in
-    let next : suc (at + i) ≡ at + suc i = omega arith in
-    ap (λ (l : List ℕ). set (p ++ l) (at + i) (shift i w % 256)) (drop-cons bytes (at + i) 0 h)
-    ∙ set-at p (getD bytes (at + i) 0) (drop (suc (at + i)) bytes) (shift i w % 256) (at + i) e
-    ∙ sym (append-snoc p a (drop (suc (at + i)) bytes))
-    ∙ ap (λ (l : List ℕ). l ++ drop (suc (at + i)) bytes) (append-assoc (take at bytes) (leBytes i w) (a ∷ []))
-    ∙ ap (λ (l : List ℕ). take at bytes ++ l ++ drop (suc (at + i)) bytes) (sym (bytes-snoc i w))
-    ∙ ap (λ (n : ℕ). take at bytes ++ leBytes (suc i) w ++ drop n bytes) next
-
-pub put-none : (bytes : List ℕ) (at w : ℕ) → bytes ≡ putBytes bytes at 0 w
-unfolding putBytes leBytes
-put-none bytes at w = rw (append-nil, add-zero, take-append-drop)
-
 -- w is the number of the bytes from i on
 pub record Read (bytes : List ℕ) (w i : ℕ) : Type 0 where
   pub within : i ≤ length bytes
@@ -143,11 +109,6 @@ read-all bytes w i h r =
     let z : i ≡ 0 = omega arith in
     r .number ∙ ap (λ (n : ℕ). leNumber (drop n bytes)) z
 
--- one turn of the loop that stores: rest is what is left of w
-pub put-turn : (bytes₀ bytes : List ℕ) (at w rest i : ℕ) → at + i < length bytes₀ → rest ≡ shift i w → bytes ≡ putBytes bytes₀ at i w → (rest / 256 ≡ shift (i + 1) w) × (set bytes (at + i) (rest % 256) ≡ putBytes bytes₀ at (i + 1) w)
-unfolding shift
-put-turn bytes₀ bytes at w rest i h e p = rw (e, p, add-one) (refl, byte-stored bytes₀ at i w h)
-
 -- a word that the end cuts off, or that stands whole
 pub word-short : (bytes : List ℕ) (at n : ℕ) → length bytes - at ≤ 8 → n ≡ length bytes - at → leNumber (take n (drop at bytes)) ≡ wordAt bytes at
 unfolding wordAt
@@ -158,7 +119,35 @@ pub word-whole : (bytes : List ℕ) (at n : ℕ) → n ≡ 8 → leNumber (take 
 unfolding wordAt
 word-whole bytes at n e = ap (λ (k : ℕ). leNumber (take k (drop at bytes))) e
 
--- a word that fits
-pub put-whole : (bytes r : List ℕ) (at w : ℕ) → at + 8 ≤ length bytes → r ≡ putBytes bytes at 8 w → r ≡ putWord bytes at w
-unfolding putWord
-put-whole bytes r at w h e = hit _ _ _ _ (le-leb (at + 8) (length bytes) h) e
+-- ---- the i lowest bytes of w stand from `at` on, of k that fit, and rest is what is left of w
+
+pub record Low (k w : ℕ) (out₀ out : List ℕ) (at i rest : ℕ) : Type 0 where
+  pub within : i ≤ k
+  pub room : at + k ≤ length out₀
+  pub long : length out ≡ length out₀
+  pub left : rest ≡ shift 256 i w
+  pub is : out ≡ over out₀ at (leBytes i w)
+
+module _ (k w : ℕ) (out₀ : List ℕ) (at : ℕ) where
+  pub low-start : at + k ≤ length out₀ → Low k w out₀ out₀ at 0 w
+  unfolding shift leBytes
+  low-start h = record { within = omega arith; room = h; long = refl; left = refl; is = sym (over-none out₀ at) }
+
+  pub low-turn : (out : List ℕ) (i rest : ℕ) → Low k w out₀ out at i rest → i < k → Low k w out₀ (set out (at + i) (rest % 256)) at (i + 1) (rest / 256)
+  low-turn out i rest h l =
+      let n : at + i ≡ at + length (leBytes i w) = omega (arith, length-bytes i w) in
+      record {
+        within = omega arith;
+        room = h .room;
+        long = simp length-set (h .long);
+        left = rw add-one (ap (λ (m : ℕ). m / 256) (h .left) ∙ shift-more 256 i w);
+        is =
+            rw (h .is, h .left, add-one, n)
+            (store-on out₀ at (leBytes i w) (shift 256 i w % 256) (omega (arith, h .room, length-bytes i w))
+            ∙ ap (over out₀ at) (sym (bytes-more i w)));
+      }
+
+  pub low-done : (out : List ℕ) (i rest : ℕ) → Low k w out₀ out at i rest → k ≤ i → out ≡ putBytes out₀ at k w
+  low-done out i rest h l =
+      let e : i ≡ k = omega (arith, h .within) in
+      h .is ∙ ap (λ (n : ℕ). over out₀ at (leBytes n w)) e ∙ put-fits out₀ at k w (h .room)

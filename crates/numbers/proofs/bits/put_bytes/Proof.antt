@@ -1,33 +1,38 @@
 -- `numbers::bits::put_bytes` meets its contract: after i turns the i lowest bytes stand, and rest is what is left of w.
-use mathlib.Core.Path.{_≡_, refl, ap, _∙_}
-use Prim.Native.Nat.{ℕ, _-_, _≤_}
+use Prim.Native.Nat.{_-_}
 use native.Mathlib.Omega.{arith}
-use lib.ListN.{length}
-use Rattle.numbers.specs.Bits.{putBytes}
-use Rattle.numbers.specs.laws.Bits.{length-put}
-use Rattle.numbers.proofs.bits.Laws.{shift, put-turn, put-none}
+use Rattle.numbers.specs.laws.Bits.{put-short}
+use Rattle.numbers.proofs.bits.Laws.{Low, low-start, low-turn, low-done}
 use borrow.Author.Needs.{needs}
 use Rattle.numbers.proofs.bits.put_bytes.Statement.{statement}
 use Rattle.numbers.proofs.bits.put_bytes.Tie as tie
 
 abbrev Inv-loop : tie.InvT-loop
-Inv-loop bytes₀ at w rest₀ i₀ bytes rest i = (i ≤ 8) × (rest ≡ shift i w) × (bytes ≡ putBytes bytes₀ at i w)
+Inv-loop out₀ at k w rest₀ i₀ out rest i = Low k w out₀ out at i rest
 
 abbrev μ-loop : tie.MeasureT-loop
-μ-loop bytes₀ at w rest₀ i₀ bytes rest i = 8 - i
+μ-loop out₀ at k w rest₀ i₀ out rest i = k - i
+
+returns : tie.Need-returns Inv-loop μ-loop
+returns c = put-short _ _ _ _ (search needs)
+
+sub-if2 : tie.Need-sub-if2 Inv-loop μ-loop
+sub-if2 c = search needs
+
+returns-2 : tie.Need-returns-2 Inv-loop μ-loop
+returns-2 c = put-short _ _ _ _ (search needs)
 
 loop-holds : tie.Need-loop-holds Inv-loop μ-loop
-unfolding shift
-loop-holds c = (search needs, refl, put-none _ _ _)
+loop-holds c = low-start _ _ _ _ (search needs)
 
-cast-bytes : tie.Need-cast-bytes Inv-loop μ-loop
-cast-bytes c = search needs
+cast-out : tie.Need-cast-out Inv-loop μ-loop
+cast-out c = search needs
 
-add-bytes : tie.Need-add-bytes Inv-loop μ-loop
-add-bytes c = search needs
+add-out : tie.Need-add-out Inv-loop μ-loop
+add-out c = search needs
 
-slice-write-bytes : tie.Need-slice-write-bytes Inv-loop μ-loop
-slice-write-bytes c = omega (arith, ap length (c .before .loop .inv .2) ∙ length-put _ (c .before .before .args .at) (c .before .loop .i) (c .before .before .args .w) (search needs))
+slice-write-out : tie.Need-slice-write-out Inv-loop μ-loop
+slice-write-out c = omega (arith, c .before .loop .inv .long, c .before .loop .inv .room)
 
 add-i : tie.Need-add-i Inv-loop μ-loop
 add-i c = search needs
@@ -36,30 +41,15 @@ loop-less : tie.Need-loop-less Inv-loop μ-loop
 loop-less c = search needs
 
 loop-again : tie.Need-loop-again Inv-loop μ-loop
-loop-again c =
-    let t = put-turn _ _ (c .before .before .args .at) (c .before .before .args .w) (c .before .loop .rest) (c .before .loop .i) (search needs) (c .before .loop .inv .1) (c .before .loop .inv .2) in
-    (omega arith, t .0, t .1)
+loop-again c = low-turn _ _ _ _ (c .before .loop .out) (c .before .loop .i) (c .before .loop .rest) (c .before .loop .inv) (search needs)
 
 same-length : tie.Need-same-length Inv-loop μ-loop
-same-length c = ap length (c .before .loop .inv .2) ∙ length-put _ (c .before .before .args .at) (c .before .loop .i) (c .before .before .args .w) (search needs)
+same-length c = c .before .loop .inv .long
 
-returns : tie.Need-returns Inv-loop μ-loop
-returns c =
-    let e : c .before .loop .i ≡ 8 = omega arith in
-    c .before .loop .inv .2 ∙ ap (λ (n : ℕ). putBytes (c .before .before .args .bytes .now) (c .before .before .args .at) n (c .before .before .args .w)) e
+returns-3 : tie.Need-returns-3 Inv-loop μ-loop
+returns-3 c = low-done _ _ _ _ _ (c .before .loop .i) _ (c .before .loop .inv) (search needs)
 
 pub put-bytes-spec : {M : Type 1} → statement M
 put-bytes-spec =
     tie.close
-    (tie.spec
-    Inv-loop
-    μ-loop
-    loop-holds
-    cast-bytes
-    add-bytes
-    slice-write-bytes
-    add-i
-    loop-less
-    loop-again
-    same-length
-    returns)
+    (tie.spec Inv-loop μ-loop returns sub-if2 returns-2 loop-holds cast-out add-out slice-write-out add-i loop-less loop-again same-length returns-3)

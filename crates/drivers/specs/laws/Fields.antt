@@ -1,0 +1,286 @@
+-- What stands where in a record that was written as a list of fields, and what the walk makes of it: folds over that list. Assumes nothing.
+use Prim.Native.Nat.{ℕ, zero, suc, _+_, _-_, _*_, _/_, _%_, _^_, _≤_, _<_}
+use mathlib.Core.Path.{_≡_, refl, sym, ap, subst, _∙_}
+use mathlib.Core.Bool.{Bool, true, false, not, _&&_}
+use mathlib.Core.List.{List, [], _∷_, _++_, map, append-assoc, map-append}
+use native.Mathlib.Nat.{pow-zero, pow-suc, one-mul}
+use native.Mathlib.Omega.{arith}
+use borrow.Author.Tests.{le-leb, le-ltb, eq-eqb, eqb-true}
+use lib.Dec.{T, leb, eqb}
+use lib.ListN.{length, take, drop, getD, length-append, length-drop}
+use lib.Seq.{take-at, take-append-le, drop-append-add, drop-append-le, drop-at, drop-drop}
+use lib.Ieee.{Float, nan, binary64, fits}
+use lib.Ieee.Bits.{ofBits-toBits, toBits-lt}
+use Rattle.numbers.specs.Pick.{pick}
+use Rattle.numbers.specs.Bits.{floatOf, bitsOf, leNumber, leBytes, wordAt}
+use Rattle.numbers.specs.laws.Bits.{length-bytes, bytes-again, word-low}
+use Rattle.numbers.specs.laws.Arr.{tab-ext, tab-cong}
+use Rattle.numbers.specs.laws.Pick.{is-skip, pick-cong}
+use Rattle.numbers.specs.Refusal.{is-fault, _⨾_, ask-at}
+use Rattle.numbers.specs.declared.refusal.Refusal.the-variants.{Length, CutShort, ForeignTag, RepeatedTag}
+use Rattle.numbers.specs.declared.refusal.Fault.{Fault}
+use Rattle.numbers.specs.declared.refusal.Fault.the-variants.{Sound, At}
+use Rattle.drivers.specs.declared.record.Form.{Form}
+use Rattle.drivers.specs.Text.{joined}
+use Rattle.drivers.specs.laws.Text.{joined-append}
+use Rattle.drivers.specs.Record.{rules, ruleAt, is-of, repeats, indexOf, ruleLength, tagAt, lengthAt, indexAt, overruns, after, contentOf, numberAt, numbersAt, fields-of, is-met, noted, field-fault, walk-of, missing-fault, record-fault, lengths-fault, row-count, rows-of, row-tag}
+use Rattle.drivers.specs.laws.Record.{fields-after, fields-start, fields-turn, fields-end}
+use Rattle.drivers.specs.Fields.{Field, header, field-bytes, record-bytes, number-bytes}
+
+-- every number of a list is one of the format, as each f64 is
+abbrev pub AllF64 : List Float → Type 0
+AllF64 xs = (i : ℕ) → i < length xs → T (fits binary64 (getD xs i nan))
+
+-- ---- numbers
+
+pub length-numbers : (xs : List Float) → length (number-bytes xs) ≡ 8 * length xs
+unfolding joined
+length-numbers [] = refl
+length-numbers (x ∷ xs) = length-append (leBytes 8 (bitsOf x)) (number-bytes xs) ∙ omega (arith, length-bytes 8 (bitsOf x), length-numbers xs)
+
+pub length-field : (f : Field) → length (field-bytes f) ≡ 3 + length (f .1)
+unfolding leBytes
+length-field f = length-append (header (f .0) (length (f .1))) (f .1)
+
+-- the number at the front of a content, and those behind it
+module _ (x : Float) (rest : List ℕ) where
+  front-again : T (fits binary64 x) → floatOf (wordAt (leBytes 8 (bitsOf x) ++ rest) 0) ≡ x
+  unfolding wordAt
+  front-again h =
+      ap (λ (l : List ℕ). floatOf (leNumber l)) (take-at (leBytes 8 (bitsOf x)) rest 8 (length-bytes 8 (bitsOf x)))
+      ∙ ap floatOf (bytes-again 8 (bitsOf x) (toBits-lt binary64 x h))
+      ∙ ofBits-toBits binary64 x h
+
+  behind : (i : ℕ) → wordAt (leBytes 8 (bitsOf x) ++ rest) (8 * suc i) ≡ wordAt rest (8 * i)
+  unfolding wordAt
+  behind i =
+      let b = leBytes 8 (bitsOf x) in
+      let e : 8 * suc i ≡ length b + 8 * i = omega (arith, length-bytes 8 (bitsOf x)) in
+      ap (λ (k : ℕ). leNumber (take 8 (drop k (b ++ rest)))) e ∙ ap (λ (l : List ℕ). leNumber (take 8 l)) (drop-append-add b rest (8 * i))
+
+number-again : (xs : List Float) (rest : List ℕ) → AllF64 xs → (i : ℕ) → i < length xs → getD xs i nan ≡ floatOf (wordAt (number-bytes xs ++ rest) (8 * i))
+unfolding joined
+number-again [] rest h i l = absurd (omega (arith, l))
+number-again (x ∷ xs) rest h zero l =
+    sym (ap (λ (b : List ℕ). floatOf (wordAt b 0)) (append-assoc (leBytes 8 (bitsOf x)) (number-bytes xs) rest) ∙ front-again x (number-bytes xs ++ rest) (h 0 l))
+number-again (x ∷ xs) rest h (suc i) l =
+    number-again xs rest (λ j m. h (suc j) (omega arith)) i (omega arith)
+    ∙ sym (ap (λ (b : List ℕ). floatOf (wordAt b (8 * suc i))) (append-assoc (leBytes 8 (bitsOf x)) (number-bytes xs) rest) ∙ ap floatOf (behind x (number-bytes xs ++ rest) i))
+
+-- numbers that were written are read again; integers: `word-low`
+pub numbers-read : (bytes : List ℕ) (p : ℕ) (xs : List Float) (rest : List ℕ) → AllF64 xs → drop p bytes ≡ number-bytes xs ++ rest → numbersAt bytes p (length xs) ≡ xs
+unfolding numberAt
+numbers-read bytes p xs rest h e =
+    sym (tab-ext (λ i. floatOf (wordAt (drop p bytes) (8 * i))) (length xs) xs refl (λ i l. number-again xs rest h i l ∙ sym (ap (λ (b : List ℕ). floatOf (wordAt b (8 * i))) e)))
+
+-- ---- a field that stands in a record, with `rest` behind it
+
+pub record Stands (bytes : List ℕ) (at : ℕ) (f : Field) (rest : List ℕ) : Type 0 where
+  pub tag-is : tagAt bytes at ≡ f .0
+  pub length-is : lengthAt bytes at ≡ length (f .1)
+  pub whole : at + (3 + length (f .1)) ≤ length bytes
+  pub content-is : drop (at + 3) bytes ≡ f .1 ++ rest
+  pub next-is : drop (at + (3 + length (f .1))) bytes ≡ rest
+
+-- a tag is a byte, and a length two
+abbrev pub Writable : Field → Type 0
+Writable f = (f .0 < 256) × (length (f .1) < 65536)
+
+-- a header from its three bytes
+header-is : (w tag size : ℕ) → w % 256 ^ 3 ≡ tag + 256 * size → tag < 256 → size < 65536 → (w % 256 ≡ tag) × (w / 256 % 65536 ≡ size)
+header-is w tag size e t s = (omega arith, omega arith)
+
+module _ (bytes : List ℕ) where
+  pub stands : (at : ℕ) (f : Field) (rest : List ℕ) → Writable f → drop at bytes ≡ field-bytes f ++ rest → Stands bytes at f rest
+  unfolding leBytes
+  stands at f rest h e =
+      let size = length (f .1) in
+      let split = append-assoc (header (f .0) size) (f .1) rest in
+      let low = word-low bytes at 3 (f .0 + 256 * size) (f .1 ++ rest) (omega arith) (omega (arith, h .0, h .1)) (e ∙ split) in
+      let head = header-is (wordAt bytes at) (f .0) size low (h .0) (h .1) in
+      let content = sym (drop-drop 3 at bytes) ∙ ap (drop 3) (e ∙ split) in
+      let long = sym (length-drop at bytes) ∙ ap length e ∙ length-append (field-bytes f) rest in
+      let n : at + 3 + size ≡ at + (3 + size) = omega arith in
+      record {
+        tag-is = head .0;
+        length-is = head .1;
+        whole = omega (arith, long);
+        content-is = content;
+        next-is = ap (λ (k : ℕ). drop k bytes) (sym n) ∙ sym (drop-drop size (at + 3) bytes) ∙ ap (drop size) content ∙ drop-at (f .1) rest size refl;
+      }
+
+  -- nothing of it is cut short
+  module _ {at : ℕ} {f : Field} {rest : List ℕ} (s : Stands bytes at f rest) where
+    not-over : overruns bytes at ≡ false
+    not-over = le-ltb (length bytes - at) (3 + lengthAt bytes at) (omega (arith, s .whole, s .length-is))
+
+    pub content-at : contentOf bytes at ≡ at + 3
+    content-at = is-skip _ _ _ (le-ltb (length bytes - at) 3 (omega (arith, s .whole)))
+
+    pub index-is : indexAt bytes at ≡ indexOf (f .0)
+    index-is = ap indexOf (s .tag-is)
+
+    after-is : after bytes at ≡ at + (3 + length (f .1))
+    unfolding after
+    after-is = is-skip _ _ _ not-over ∙ ap (λ (k : ℕ). at + (3 + k)) (s .length-is)
+
+    -- numbers that the content holds
+    pub numbers-are : (n : ℕ) → 8 * n ≤ length (f .1) → numbersAt bytes (at + 3) n ≡ numbersAt (f .1) 0 n
+    unfolding numberAt wordAt
+    numbers-are n h = tab-cong (numberAt bytes (at + 3)) (numberAt (f .1) 0) n each
+      where
+        each : (k : ℕ) → k < n → numberAt bytes (at + 3) k ≡ numberAt (f .1) 0 k
+        each k l =
+            ap (λ (b : List ℕ). floatOf (leNumber (take 8 (drop (8 * k) b)))) (s .content-is)
+            ∙ ap (λ (b : List ℕ). floatOf (leNumber (take 8 b))) (drop-append-le (8 * k) (f .1) rest (omega arith))
+            ∙ ap (λ (b : List ℕ). floatOf (leNumber b)) (take-append-le 8 (drop (8 * k) (f .1)) rest (omega (arith, length-drop (8 * k) (f .1))))
+
+-- the length that the table asks of a row
+pub size-row : (n : ℕ) → ruleLength row-tag n ≡ 8 * n
+unfolding ruleLength ruleAt rules
+size-row n = let e : n ^ 1 ≡ n = rw (pow-suc, pow-zero) (one-mul n) in omega arith
+
+-- ---- folds over a list of fields, of which the first begins at `at`
+
+-- what holds of each
+unfoldable pub Each : (Field → Type 0) → List Field → Type 0
+Each P [] = Unit {0}
+Each P (f ∷ fs) = P f × Each P fs
+
+-- where the next field begins
+abbrev pub past : ℕ → Field → ℕ
+past at f = at + (3 + length (f .1))
+
+-- where each begins
+unfoldable pub starts : ℕ → List Field → List ℕ
+starts at [] = []
+starts at (f ∷ fs) = at ∷ starts (past at f) fs
+
+-- the walk, by the tags alone: 8, 9, and where the contents begin
+abbrev pub tag-fault : Form → List ℕ → ℕ → ℕ → Fault
+tag-fault form places at i = ask-at at (is-of form i) ForeignTag ⨾ ask-at at (not (is-met places i && not (repeats i))) RepeatedTag
+
+unfoldable pub walk-tags : Form → ℕ → List Field → List ℕ → Fault × List ℕ
+walk-tags form at [] places = (Sound, places)
+walk-tags form at (f ∷ fs) places =
+    let i = indexOf (f .0) in
+    let g = tag-fault form places at i in
+    pick (is-fault g) (g, places) (walk-tags form (past at f) fs (noted places i (at + 3)))
+
+-- the lengths, by tags and lengths alone
+abbrev pub is-sized : ℕ → Field → Bool
+is-sized n f = eqb (length (f .1)) (ruleLength (indexOf (f .0)) n)
+
+unfoldable pub sizes-fault : ℕ → ℕ → List Field → Fault
+sizes-fault n at [] = Sound
+sizes-fault n at (f ∷ fs) = ask-at at (is-sized n f) Length ⨾ sizes-fault n (past at f) fs
+
+abbrev pub Sized : ℕ → Field → Type 0
+Sized n f = length (f .1) ≡ ruleLength (indexOf (f .0)) n
+
+pub sizes-sound : (n : ℕ) (fs : List Field) (at : ℕ) → Each (Sized n) fs → sizes-fault n at fs ≡ Sound
+unfolding sizes-fault Each pick
+sizes-sound n [] at h = refl
+sizes-sound n (f ∷ fs) at h = rw (eq-eqb (length (f .1)) (ruleLength (indexOf (f .0)) n) (h .0)) (sizes-sound n fs (past at f) (h .1))
+
+-- the rows
+abbrev pub is-row-field : Field → Bool
+is-row-field f = eqb (indexOf (f .0)) row-tag
+
+unfoldable pub count-rows : List Field → ℕ
+count-rows [] = 0
+count-rows (f ∷ fs) = pick (is-row-field f) 1 0 + count-rows fs
+
+unfoldable pub all-rows : ℕ → List Field → List Float
+all-rows n [] = []
+all-rows n (f ∷ fs) = pick (is-row-field f) (numbersAt (f .1) 0 n) [] ++ all-rows n fs
+
+-- ---- and what is read in a record whose bytes from `at` on are theirs
+
+field-sound : (form : Form) (places : List ℕ) (at i : ℕ) (a b : Bool) → a ≡ true → b ≡ false
+    → (ask-at at a CutShort ⨾ ask-at at (is-of form i) ForeignTag ⨾ ask-at at (not (is-met places i && not (repeats i))) RepeatedTag ⨾ ask-at at (not b) CutShort) ≡ tag-fault form places at i
+unfolding pick
+field-sound form places at i a b e h = rw (e, h, last-sound (ask-at at (not (is-met places i && not (repeats i))) RepeatedTag))
+  where
+    last-sound : (f : Fault) → (f ⨾ Sound) ≡ f
+    last-sound Sound = refl
+    last-sound (At why place) = refl
+
+module _ (bytes : List ℕ) where
+  fields-are : (fs : List Field) (at : ℕ) → Each Writable fs → drop at bytes ≡ record-bytes fs → fields-after bytes at ≡ starts at fs
+  unfolding joined Each starts
+  fields-are [] at w e = fields-end bytes at (omega (arith, length-drop at bytes, ap length e))
+  fields-are (f ∷ fs) at w e =
+      let s = stands bytes at f (record-bytes fs) (w .0) e in
+      fields-turn bytes at (omega (arith, s .whole)) ∙ ap (λ (k : ℕ). at ∷ fields-after bytes k) (after-is bytes s) ∙ ap (λ (l : List ℕ). at ∷ l) (fields-are fs (past at f) (w .1) (s .next-is))
+
+  walk-is : (form : Form) (fs : List Field) (at : ℕ) (places : List ℕ) → Each Writable fs → drop at bytes ≡ record-bytes fs
+      → walk-of bytes form (starts at fs) places ≡ walk-tags form at fs places
+  unfolding joined Each starts walk-of walk-tags field-fault
+  walk-is form [] at places w e = refl
+  walk-is form (f ∷ fs) at places w e =
+      let s = stands bytes at f (record-bytes fs) (w .0) e in
+      let i = indexOf (f .0) in
+      let fault = ap (λ (k : ℕ). field-fault-of k) (index-is bytes s) ∙ field-sound form places at i _ _ (le-leb 3 (length bytes - at) (omega (arith, s .whole))) (not-over bytes s) in
+      ap (λ (g : Fault). pick (is-fault g) (g, places) (walk-of bytes form (starts (past at f) fs) (noted places (indexAt bytes at) (contentOf bytes at)))) fault
+      ∙ ap (λ (r : Fault × List ℕ). pick (is-fault (tag-fault form places at i)) (tag-fault form places at i, places) r)
+      ((λ j. walk-of bytes form (starts (past at f) fs) (noted places (index-is bytes s j) (content-at bytes s j))) ∙ walk-is form fs (past at f) (noted places i (at + 3)) (w .1) (s .next-is))
+    where
+      field-fault-of : ℕ → Fault
+      field-fault-of k = ask-at at (leb 3 (length bytes - at)) CutShort ⨾ ask-at at (is-of form k) ForeignTag ⨾ ask-at at (not (is-met places k && not (repeats k))) RepeatedTag ⨾ ask-at at (not (overruns bytes at)) CutShort
+
+  lengths-are : (n : ℕ) (fs : List Field) (at : ℕ) → Each Writable fs → drop at bytes ≡ record-bytes fs → lengths-fault n bytes (starts at fs) ≡ sizes-fault n at fs
+  unfolding joined Each starts lengths-fault sizes-fault
+  lengths-are n [] at w e = refl
+  lengths-are n (f ∷ fs) at w e =
+      let s = stands bytes at f (record-bytes fs) (w .0) e in
+      (λ j. ask-at at (eqb (s .length-is j) (ruleLength (index-is bytes s j) n)) Length ⨾ lengths-are n fs (past at f) (w .1) (s .next-is) j)
+
+  rows-are : (n : ℕ) (fs : List Field) (at : ℕ) → Each Writable fs → Each (Sized n) fs → drop at bytes ≡ record-bytes fs
+      → (row-count bytes (starts at fs) ≡ count-rows fs) × (rows-of n bytes (starts at fs) ≡ all-rows n fs)
+  unfolding joined Each starts row-count rows-of count-rows all-rows
+  rows-are n [] at w z e = (refl, refl)
+  rows-are n (f ∷ fs) at w z e =
+      let s = stands bytes at f (record-bytes fs) (w .0) e in
+      let r = rows-are n fs (past at f) (w .1) (z .1) (s .next-is) in
+      let numbers : is-row-field f ≡ true → numbersAt bytes (contentOf bytes at) n ≡ numbersAt (f .1) 0 n =
+      λ t. ap (λ (p : ℕ). numbersAt bytes p n) (content-at bytes s) ∙ numbers-are bytes s n (omega (arith, z .0, row-size n (f .0) t)) in (
+        (λ j. pick (eqb (index-is bytes s j) row-tag) 1 0 + r .0 j),
+        ap (λ (i : ℕ). pick (eqb i row-tag) (numbersAt bytes (contentOf bytes at) n) [] ++ rows-of n bytes (starts (past at f) fs)) (index-is bytes s)
+            ∙ (λ j. pick-cong (is-row-field f) {b = []} numbers (λ _. refl) j ++ r .1 j),
+      )
+    where
+      row-size : (n tag : ℕ) → eqb (indexOf tag) row-tag ≡ true → ruleLength (indexOf tag) n ≡ 8 * n
+      row-size n tag t = ap (λ (i : ℕ). ruleLength i n) (eqb-true (indexOf tag) row-tag t) ∙ size-row n
+
+-- ---- the laws of a written record
+
+module _ (fs : List Field) (w : Each Writable fs) where
+  abbrev bytes : List ℕ
+  bytes = record-bytes fs
+
+  pub fields-written : fields-of bytes ≡ starts 0 fs
+  fields-written = sym (fields-start bytes) ∙ fields-are bytes fs 0 w refl
+
+  pub walk-written : (form : Form) (places : List ℕ) → walk-of bytes form (fields-of bytes) places ≡ walk-tags form 0 fs places
+  walk-written form places = ap (λ (l : List ℕ). walk-of bytes form l places) fields-written ∙ walk-is bytes form fs 0 places w refl
+
+  pub record-written : (form : Form) (places places′ : List ℕ) → walk-tags form 0 fs places ≡ (Sound, places′) → record-fault bytes form places ≡ (missing-fault (length bytes) form places′, places′)
+  unfolding record-fault pick
+  record-written form places places′ e =
+      ap (λ (r : Fault × List ℕ). (r .0 ⨾ missing-fault (length bytes) form (r .1), r .1)) (walk-written form places ∙ e)
+
+  pub lengths-written : (n : ℕ) → lengths-fault n bytes (fields-of bytes) ≡ sizes-fault n 0 fs
+  lengths-written n = ap (lengths-fault n bytes) fields-written ∙ lengths-are bytes n fs 0 w refl
+
+  pub rows-written : (n : ℕ) → Each (Sized n) fs → (row-count bytes (fields-of bytes) ≡ count-rows fs) × (rows-of n bytes (fields-of bytes) ≡ all-rows n fs)
+  rows-written n z = subst (λ (l : List ℕ). (row-count bytes l ≡ count-rows fs) × (rows-of n bytes l ≡ all-rows n fs)) (sym fields-written) (rows-are bytes n fs 0 w z refl)
+
+-- the content of a field that has others before and behind it
+pub content-written : (fs : List Field) (f : Field) (gs : List Field) → drop (length (record-bytes fs) + 3) (record-bytes (fs ++ f ∷ gs)) ≡ f .1 ++ record-bytes gs
+unfolding joined leBytes
+content-written fs f gs =
+    ap (λ (l : List (List ℕ)). drop (length (record-bytes fs) + 3) (joined l)) (map-append field-bytes fs (f ∷ gs))
+    ∙ ap (drop (length (record-bytes fs) + 3)) (joined-append (map field-bytes fs) (map field-bytes (f ∷ gs)))
+    ∙ drop-append-add (record-bytes fs) (record-bytes (f ∷ gs)) 3
+    ∙ ap (drop 3) (append-assoc (header (f .0) (length (f .1))) (f .1) (record-bytes gs))
