@@ -214,10 +214,10 @@ opened-read out (NotRead why place) = opened-over (refused-line-answer why place
 abbrev pub input-tests : List ℕ → Fault
 input-tests bytes = ask-at 65536 (leb (length bytes) 65536) Room
 
--- `open`: then the job is read, and its run made
 abbrev pub with-slices : List Float → List Float → List Float → Opened × List ℕ → Opened × List Float × List Float × List Float × List ℕ
 with-slices table xc mq r = (r .0, table, xc, mq, r .1)
 
+-- `open`: then the job is read, and its run made
 unfoldable pub open-answer : List ℕ → List Float → List Float → List Float → List ℕ → Opened × List Float × List Float × List Float × List ℕ
 open-answer bytes table xc mq out =
     let j = read-job-answer bytes table xc mq in

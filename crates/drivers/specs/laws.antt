@@ -18,3 +18,4 @@ pub mod JobRuns
 pub mod FoundFeasible
 pub mod Worked
 pub mod Program
+pub mod Numbered

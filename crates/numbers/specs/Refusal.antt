@@ -36,6 +36,10 @@ abbrev pub unless {ℓ} : {X : Type ℓ} → Fault → (Refusal → ℕ → X) �
 unless Sound refused done = done
 unless (At why place) refused done = refused why place
 
+-- its number, and 0 where there is none
+abbrev pub fault-number : Fault → ℕ
+fault-number f = unless f (λ why place. refusalNumber why) 0
+
 -- a test: the refusal where it fails, at a place of the record; outside of a record the place is 0
 abbrev pub ask-at : ℕ → Bool → Refusal → Fault
 ask-at place test why = pick test Sound (At why place)

@@ -8,3 +8,4 @@ pub mod Isqrt
 pub mod Rounded
 pub mod Units
 pub mod Nearest
+pub mod Numbered

@@ -18,3 +18,4 @@ pub mod Ell
 pub mod EllCalls
 pub mod EllStable
 pub mod EllStableCalls
+pub mod Numbered

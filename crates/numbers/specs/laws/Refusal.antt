@@ -6,7 +6,7 @@ use borrow.Author.Tests.{not-true}
 use Rattle.numbers.specs.Pick.{pick}
 use Rattle.numbers.specs.declared.refusal.Refusal.{Refusal}
 use Rattle.numbers.specs.laws.Pick.{hit, skip, is-hit, is-skip, by-test}
-use Rattle.numbers.specs.Refusal.{is-fault, _⨾_, unless, ask-at}
+use Rattle.numbers.specs.Refusal.{refusalNumber, is-fault, _⨾_, unless, fault-number, ask-at}
 use Rattle.numbers.specs.declared.refusal.Fault.{Fault}
 use Rattle.numbers.specs.declared.refusal.Fault.the-variants.{Sound, At}
 
@@ -43,10 +43,10 @@ held why place h = hit _ _ _ _ h refl
 
 -- a fault of the first part is the chain's; without one it is what the rest finds
 pub at-first : {f : Fault} (g : Fault) {why : Refusal} {place : ℕ} → At why place ≡ f → At why place ≡ (f ⨾ g)
-at-first g e = hit _ _ _ _ (ap is-fault (sym e)) e
+at-first {f} g e = e ∙ stops f g (ap is-fault (sym e))
 
 pub at-next : {f g r : Fault} → Sound ≡ f → r ≡ g → r ≡ (f ⨾ g)
-at-next e d = skip _ _ _ _ (ap is-fault (sym e)) d
+at-next {f} {g} {r} e d = passes f g r (ap is-fault (sym e)) d
 
 -- what holds of each test's fault, and of none, holds of what the chain finds
 pub of-test {ℓ} : (P : Fault → Type ℓ) (t : Bool) (why : Refusal) (place : ℕ) → P Sound → P (At why place) → P (ask-at place t why)
@@ -84,3 +84,9 @@ pub unless-map {ℓ ℓ′} : {X : Type ℓ} {Y : Type ℓ′} (made : X → Y) 
     → made (unless f refused done) ≡ unless f (λ why place. made (refused why place)) (made done)
 unless-map made Sound refused done = refl
 unless-map made (At why place) refused done = refl
+
+-- So a call's number, where it is 0 for all that its work answers, is that of its tests: refused exactly where one fails, by the first that does.
+pub number-is {ℓ} : {X : Type ℓ} (number : X → ℕ) (f : Fault) (refused : Refusal → ℕ → X) (done : X) → ((why : Refusal) (place : ℕ) → number (refused why place) ≡ refusalNumber why)
+    → (f ≡ Sound → number done ≡ 0) → number (unless f refused done) ≡ fault-number f
+number-is number Sound refused done h k = k refl
+number-is number (At why place) refused done h k = h why place

@@ -120,7 +120,7 @@ pub record EllMoved (e : Ell) (grad : List Float) (b : EllBuffers) (a : Answer) 
 
 module _ (e : Ell) (s : CutStrategy) (grad : List Float) (beta : CutChoice) (b : EllBuffers) where
   -- what holds of each way through an update holds of it
-  by-ways : (P : EllUpdate × EllBuffers → Type 0)
+  pub by-ways : (P : EllUpdate × EllBuffers → Type 0)
       → (is-tiny (ell-omega e grad b) ≡ true → P (ell-said e NoEffect, record { mq = b .mq; xc = b .xc; grad-t = ell-gt e grad b }))
       → (is-tiny (ell-omega e grad b) ≡ false → is-success (ell-calc e s grad beta b .status) ≡ false
       → P (ell-said (with-tsq e (e .kappa) (e .kappa ⊗ ell-omega e grad b)) (ell-calc e s grad beta b .status), record { mq = b .mq; xc = b .xc; grad-t = ell-gt e grad b }))

@@ -140,7 +140,7 @@ pub record StableMoved (e : EllStable) (grad : List Float) (b : StableBuffers) (
 
 module _ (e : EllStable) (s : CutStrategy) (grad : List Float) (beta : CutChoice) (b : StableBuffers) where
   -- what holds of each way through an update holds of it
-  by-ways : (P : EllStableUpdate × StableBuffers → Type 0)
+  pub by-ways : (P : EllStableUpdate × StableBuffers → Type 0)
       → (is-tiny (stable-omega e grad b) ≡ true → P (stable-said e NoEffect, prepared (e .ndim) grad b))
       → (is-tiny (stable-omega e grad b) ≡ false → is-success (stable-calc e s grad beta b .status) ≡ false
       → P (stable-said (with-tsq e (e .kappa) (e .kappa ⊗ stable-omega e grad b)) (stable-calc e s grad beta b .status), prepared (e .ndim) grad b))
