@@ -18,4 +18,3 @@ pub mod JobRuns
 pub mod FoundFeasible
 pub mod Worked
 pub mod Program
-pub mod Numbered

@@ -8,4 +8,3 @@ pub mod Isqrt
 pub mod Rounded
 pub mod Units
 pub mod Nearest
-pub mod Numbered

@@ -18,4 +18,3 @@ pub mod Ell
 pub mod EllCalls
 pub mod EllStable
 pub mod EllStableCalls
-pub mod Numbered
