@@ -3,9 +3,9 @@ use mathlib.Core.Path.{_≡_, refl, sym, ap, _∙_}
 use mathlib.Core.List.{List}
 use Prim.Native.Nat.{ℕ}
 use lib.Dec.{eqb}
-use lib.IntN.{ℤ, pos}
+use lib.IntN.{ℤ}
 use lib.Ieee.{Float}
-use mathlib.Core.Bool.{true, false}
+use mathlib.Core.Bool.{false}
 use Rattle.numbers.specs.Refusal.{refusalNumber}
 use Rattle.numbers.specs.declared.refusal.Refusal.{Refusal}
 use Rattle.oracles.specs.Ell.{EllBuffers}
