@@ -7,14 +7,14 @@ use mathlib.Core.Bool.{Bool, true, false, not, true≢false, _&&_}
 use mathlib.Core.List.{List}
 use mathlib.Core.Logic.{_⊎_}
 use native.Mathlib.Omega.{arith}
-use borrow.Author.Tests.{eqb-true}
+use borrow.Author.Tests.{eqb-true, leb-true}
 use lib.Dec.{eqb}
 use lib.IntN.{ℤ}
 use lib.Ieee.{Float}
 use Rattle.numbers.specs.Pick.{pick}
-use Rattle.numbers.specs.Refusal.{refusalNumber, is-fault, _⨾_, unless, ask}
+use Rattle.numbers.specs.Refusal.{refusalNumber, is-fault, _⨾_, unless, fault-number, ask}
 use Rattle.numbers.specs.laws.Pick.{is-hit, is-skip, by-test}
-use Rattle.numbers.specs.laws.Refusal.{no-fault, both-sound}
+use Rattle.numbers.specs.laws.Refusal.{both-sound, ask-sound, number-is, by-tests}
 use Rattle.numbers.specs.Arr as arr
 use Rattle.numbers.specs.EllCalc as calc
 use Rattle.oracles.specs.RoundRobin as cursor
@@ -49,16 +49,26 @@ use Rattle.numbers.specs.declared.refusal.Fault.{Fault}
 use Rattle.numbers.specs.declared.refusal.Fault.the-variants.{Sound, At}
 use Rattle.oracles.specs.declared.lowpass_oracle.OptimVerdict.{OptimVerdict}
 use Rattle.oracles.specs.declared.lowpass_oracle.OptimVerdict.the-variants.{Improved, Cut as CutOptim, Refused as NotOptim}
-use Rattle.demands.specs.UntouchedTmp.{is-improved, untouched}
+use Rattle.drivers.specs.CuttingPlane as run
+use Rattle.drivers.specs.Trace as trace
+use Rattle.drivers.specs.Job as jobs
+use Rattle.drivers.specs.Answer as answers
+use Rattle.drivers.specs.Belongs as belonging
+use Rattle.drivers.specs.Numbered.{feas-number, optim-number, job-number, read-number, bytes-number, belonging-number, text-number}
+use Rattle.drivers.specs.laws.RunEnds.{run-ends}
+use Rattle.drivers.specs.laws.OptimEnds.{OptimRunEnded, optim-answered}
+use Rattle.drivers.specs.declared.cutting_plane.Options.{Options}
+use Rattle.drivers.specs.declared.cutting_plane.OptimAnswer.the-variants.{Refused as NotRunOptim}
+use Rattle.drivers.specs.declared.trace.Run.{Run}
+use Rattle.drivers.specs.declared.trace.Printed.{Printed}
+use Rattle.drivers.specs.declared.job.Job.{Job}
+use Rattle.drivers.specs.declared.answer.Answer.{Answer}
+use Rattle.drivers.specs.declared.belongs.Belonging.{Belonging}
+use Rattle.drivers.specs.laws.Untouched.{is-improved, untouched}
 use Rattle.oracles.specs.laws.OracleAfter.{is-refusal, optim-left}
 use Rattle.oracles.specs.declared.lowpass_oracle.AssessedOptim.{AssessedOptim}
 
 -- ---- what is said of a call
-
--- document 01's number of what the tests found: 0 where that is nothing
-abbrev pub fault-number : Fault → ℕ
-fault-number Sound = 0
-fault-number (At why place) = refusalNumber why
 
 -- A call whose tests are `tests`: its answer's number is that of the first refusal among them, 0 where there is none, so that everything else is accepted;
 -- and with a refusal all that the call was lent, and its state, are as they came. `left` is that part of the answer.
@@ -69,8 +79,10 @@ pub record Refuses {X L : Type 0} (tests : Fault) (number : X → ℕ) (left : X
 refuses : {X L : Type 0} (tests : Fault) (number : X → ℕ) (left : X → L) (before : L) (refused : Refusal → ℕ → X) (done : X)
     → ((why : Refusal) (place : ℕ) → number (refused why place) ≡ refusalNumber why) → ((why : Refusal) (place : ℕ) → left (refused why place) ≡ before)
     → (tests ≡ Sound → number done ≡ 0) → Refuses tests number left before (unless tests refused done)
-refuses Sound number left before refused done h k d = record { by-number = d refl; writes-nothing = λ e. absurd (true≢false (sym e)) }
-refuses (At why place) number left before refused done h k d = record { by-number = h why place; writes-nothing = λ e. k why place }
+refuses tests number left before refused done h k d = record {
+  by-number = number-is number tests refused done h d;
+  writes-nothing = by-tests (λ x. is-fault tests ≡ true → left x ≡ before) tests refused done (λ why place e f. k why place) (λ e f. absurd (true≢false (sym (sym (ap is-fault e) ∙ f))));
+}
 
 -- of a call that writes nothing and keeps no state
 abbrev pub nothing : {X : Type 0} → X → Unit {0}
@@ -124,7 +136,7 @@ assessed : (o : LowpassOracle) (n rows : ℕ) (table x grad : List Float) → lo
 assessed o n rows table x grad e =
     let a = accepted o n rows table x grad e in
     let r = feas-rule o n rows table x grad a in
-    ap (λ z. verdict-number (z .0 .verdict)) (sym (accepted-is o n rows table x grad a)) 
+    ap (λ z. verdict-number (z .0 .verdict)) (sym (accepted-is o n rows table x grad a))
     ∙ said (lowpass.assess-feas-answer o n rows table x grad .0 .verdict) (λ h. judge-answers (asked o (o .«sp_sq») n rows table x) (sym (r .verdict-is) ∙ h))
 
 pub assess-feas : (o : LowpassOracle) (n rows : ℕ) (table x grad : List Float) → Refuses {L = LowpassOracle × List Float} (lowpass.assess-tests o n rows table x grad) (λ r. verdict-number (r .0 .verdict)) (λ r. (r .0 .oracle, r .1)) (o, grad) (lowpass.assess-feas-answer o n rows table x grad)
@@ -258,7 +270,41 @@ module _ (o : LowpassOracle) (gamma : Float) (n rows : ℕ) (table x grad : List
   assess-optim = record {
     by-number = optim-by-number;
     writes-nothing = λ h.
-    let t = numbered-refusal (answer .0 .verdict) (λ e. numbered (assess-optim-tests o gamma n rows table x grad) h (sym optim-by-number ∙ e)) in
-    let u = untouched o gamma n rows table x grad in
-    rw (optim-left o gamma n rows table x grad .as-it-came t, u .gamma-stays (unimproved (answer .0 .verdict) t), u .grad-stays t);
+        let t = numbered-refusal (answer .0 .verdict) (λ e. numbered (assess-optim-tests o gamma n rows table x grad) h (sym optim-by-number ∙ e)) in
+        let u = untouched o gamma n rows table x grad in
+        rw (optim-left o gamma n rows table x grad .as-it-came t, u .gamma-stays (unimproved (answer .0 .verdict) t), u .grad-stays t);
   }
+
+-- ---- drivers and records
+
+pub cutting-plane-feas : (options : Options) (rows : ℕ) (table : List Float) (s : run.Space) (best : List Float)
+    → Refuses {L = run.Space × List Float} (run.run-tests rows table s best) (λ r. feas-number (r .0)) (λ r. (r .1, r .2)) (s, best) (run.feas-answer options rows table s best)
+unfolding run.feas-answer
+cutting-plane-feas options rows table s best =
+    refuses _ _ _ _ _ _ (λ why place. refl) (λ why place. refl)
+    (λ e. ap feas-number (run-ends rows table (options .tolerance) (options .«max_iters») 0 s (both-sound (run.check-space rows table s) _ e .0) .answer-is))
+
+-- `cutting_plane_optim`: a refusal gives everything back ..
+module _ (options : Options) (rows : ℕ) (table : List Float) (s : run.OptimSpace) where
+  pub optim-refused-by : (why : Refusal) (place : ℕ) → run.run-tests rows table (run.plain s) (s .best) ≡ At why place → run.optim-answer options rows table s ≡ run.leaves (NotRunOptim why) s
+  unfolding run.optim-answer
+  optim-refused-by why place e = ap (λ (f : Fault). unless f (λ w p. run.leaves (NotRunOptim w) s) (run.optim-run rows table (options .tolerance) (options .«max_iters») 0 s)) e
+
+  -- .. and what is accepted ends, or is halted by 6: "a driver halted midway keeps its finished steps", which are `until` steps from s to `final`
+  pub optim-finishes : run.run-tests rows table (run.plain s) (s .best) ≡ Sound → OptimRunEnded rows table s 0 (options .«max_iters») 0 (run.optim-answer options rows table s)
+  optim-finishes e =
+      let b = both-sound (run.check-space rows table (run.plain s)) _ e in
+      optim-answered options rows table s (b .0) (leb-true _ _ (ask-sound _ _ _ (b .1)))
+
+pub next : (r : Run) (table : List Float) (b : ell.EllBuffers) (grad : List Float) (out : List ℕ)
+    → Refuses {L = Run × ell.EllBuffers × List Float × List ℕ} (trace.next-tests r table b grad out) (λ z. text-number (z .0 .text)) (λ z. (z .0 .run, z .1, z .2, z .3)) (r, b, grad, out)
+    (trace.next-answer r table b grad out)
+unfolding trace.next-answer trace.step-printed trace.limit-printed
+next r table b grad out =
+    refuses _ _ _ _ _ _ (λ why place. refl) (λ why place. refl) (λ e. by-test (λ (z : Printed × ell.EllBuffers × List Float × List ℕ). text-number (z .0 .text) ≡ 0) _ _ _ (λ t. refl) (λ t. refl))
+
+pub belongs : (j : Job) (table x : List Float) (a : Answer) (point grad : List Float)
+    → Refuses (belonging.belongs-tests j table x point grad) (λ r. belonging-number (r .0)) (λ r. r .1) grad (belonging.belongs-answer j table x a point grad)
+unfolding belonging.belongs-answer
+belongs j table x a point grad =
+    refuses _ _ _ _ _ _ (λ why place. refl) (λ why place. refl) (λ e. by-test (λ (r : Belonging). belonging-number r ≡ 0) _ _ _ (λ t. refl) (λ t. refl))

@@ -28,14 +28,18 @@ pub(crate) struct Form {
 }
 
 const IN_JOB: u8 = 1;
+
 const IN_ANSWER: u8 = 2;
 
 pub(crate) const JOB: Form = Form { bit: IN_JOB };
+
 pub(crate) const ANSWER: Form = Form { bit: IN_ANSWER };
 
 // How often a tag stands in a record: exactly once, at least once, at most once.
 const ONCE: u8 = 0;
+
 const MANY: u8 = 1;
+
 const MAYBE: u8 = 2;
 
 // Document 01's table.
@@ -56,17 +60,29 @@ const RULES: [Rule; 12] = [
 
 // Its rows by name, which are also the places of their tags, and how many there are.
 pub(crate) const N: usize = 0;
+
 pub(crate) const BANDS: usize = 1;
+
 pub(crate) const LIMITS: usize = 2;
+
 pub(crate) const ROW: usize = 3;
+
 pub(crate) const POINT: usize = 4;
+
 pub(crate) const CURSORS: usize = 5;
+
 pub(crate) const KAPPA: usize = 6;
+
 pub(crate) const MATRIX: usize = 7;
+
 pub(crate) const SETTINGS: usize = 8;
+
 pub(crate) const OUTCOME: usize = 9;
+
 pub(crate) const STEPS: usize = 10;
+
 pub(crate) const FOUND: usize = 11;
+
 pub(crate) const TAGS: usize = 12;
 
 // Of what is no tag of the table: no form has it.
