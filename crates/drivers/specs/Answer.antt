@@ -11,7 +11,7 @@ use Rattle.numbers.specs.Arr.{isDimension}
 use Rattle.numbers.specs.declared.refusal.Refusal.the-variants.{Dimension, Length, Room, Outcome}
 use Rattle.numbers.specs.Refusal.{_⨾_, unless}
 use Rattle.drivers.specs.Fields.{Field, record-bytes, number-bytes}
-use Rattle.drivers.specs.Record.{tagAt, startOf, halfAt, numbersAt, fields-of, no-places, outcome-tag, steps-tag, found-tag, place, is-met, answer-form, record-fault, lengths-fault, fronted}
+use Rattle.drivers.specs.Record.{tagAt, startOf, halfAt, numbersAt, fields-of, no-places, place, is-met, record-fault, lengths-fault, fronted}
 use Rattle.numbers.specs.declared.refusal.Fault.{Fault}
 use Rattle.numbers.specs.declared.refusal.Fault.the-variants.{Sound, At}
 use Rattle.numbers.specs.Over.{over}
@@ -20,6 +20,7 @@ use Rattle.drivers.specs.declared.answer.AnswerRead.{AnswerRead}
 use Rattle.drivers.specs.declared.answer.AnswerRead.the-variants.{Read, Refused}
 use Rattle.drivers.specs.declared.answer.AnswerWritten.{AnswerWritten}
 use Rattle.drivers.specs.declared.answer.AnswerWritten.the-variants.{Bytes, Refused as NotWritten}
+use Rattle.drivers.specs.Rules.{outcome-tag, steps-tag, found-tag, answer-form}
 
 -- ---- the reader; `places` has where the contents begin, tags 20, 21 and 22 at 9, 10 and 11
 

@@ -13,12 +13,13 @@ use Rattle.numbers.specs.Refusal.{_⨾_, unless, ask-at, ask}
 use Rattle.oracles.specs.Scan.{none, isRows}
 use Rattle.oracles.specs.LowpassOracle.{start-oracle, bands-fit, cursors-fit}
 use Rattle.oracles.specs.declared.lowpass_oracle.LowpassOracle.{LowpassOracle}
-use Rattle.drivers.specs.Record.{ruleLength, lengthAt, startOf, halfAt, numberAt, numbersAt, n-tag, bands-tag, limits-tag, point-tag, cursors-tag, kappa-tag, matrix-tag, settings-tag, fields-of, no-places, place, job-form, record-fault, lengths-fault, row-count, rows-of, fronted}
+use Rattle.drivers.specs.Record.{lengthAt, startOf, halfAt, numberAt, numbersAt, fields-of, no-places, place, record-fault, lengths-fault, row-count, rows-of, fronted}
 use Rattle.numbers.specs.declared.refusal.Fault.{Fault}
 use Rattle.drivers.specs.declared.cutting_plane.Options.{Options}
 use Rattle.drivers.specs.declared.job.Job.{Job}
 use Rattle.drivers.specs.declared.job.JobAnswer.{JobAnswer}
 use Rattle.drivers.specs.declared.job.JobAnswer.the-variants.{Read, Refused}
+use Rattle.drivers.specs.Rules.{ruleLength, n-tag, bands-tag, limits-tag, point-tag, cursors-tag, kappa-tag, matrix-tag, settings-tag, job-form}
 
 -- part k of a word of 16-bit numbers, the lowest first
 abbrev pub partOf : ℕ → ℕ → ℕ

@@ -1,4 +1,5 @@
 -- Definitions, which a reader has to believe.
+pub mod Rules
 pub mod Record
 pub mod CuttingPlane
 pub mod Job

@@ -1,14 +1,5 @@
 // The job record: tags 01 to 09, in any order.
 use crate::cutting_plane::Options;
-use crate::record::BANDS;
-use crate::record::CURSORS;
-use crate::record::JOB;
-use crate::record::KAPPA;
-use crate::record::LIMITS;
-use crate::record::MATRIX;
-use crate::record::N;
-use crate::record::POINT;
-use crate::record::SETTINGS;
 use crate::record::content_at;
 use crate::record::count_rows;
 use crate::record::half_at;
@@ -19,8 +10,17 @@ use crate::record::next_field;
 use crate::record::number_at;
 use crate::record::numbers_into;
 use crate::record::record_fault;
-use crate::record::rule_length;
 use crate::record::start_of;
+use crate::rules::BANDS;
+use crate::rules::CURSORS;
+use crate::rules::JOB;
+use crate::rules::KAPPA;
+use crate::rules::LIMITS;
+use crate::rules::MATRIX;
+use crate::rules::N;
+use crate::rules::POINT;
+use crate::rules::SETTINGS;
+use crate::rules::rule_length;
 use numbers::bits::of_bits;
 use numbers::bits::word_at;
 use numbers::refusal::Fault;
@@ -31,8 +31,9 @@ use oracles::scan::is_rows;
 ghost use mathlib.Core.Path.{_≡_};
 ghost use Prim.Native.Nat.{_*_, _+_, _≤_, _<_};
 ghost use lib.ListN.{length};
-ghost use Rattle.drivers.specs.Record.{fields-of, no-places, numbersAt, row-count, rows-in, rows-of, row-filled, fronted, matrix-tag, point-tag, place};
+ghost use Rattle.drivers.specs.Record.{fields-of, no-places, numbersAt, row-count, rows-in, rows-of, row-filled, fronted, place};
 ghost use Rattle.drivers.specs.Job.{signed, partOf, row-end, job-oracle, optionsOf, job-at, full-job-at, job-walk, size-fault, job-fault, has-room, read-into, read-job-answer};
+ghost use Rattle.drivers.specs.Rules.{matrix-tag, point-tag};
 ghost use Rattle.numbers.specs.declared.refusal.Fault.the-variants.{Sound};
 
 // What a job record keeps, beside its row table, its point and its matrix, which the reader writes into slices.

@@ -6,5 +6,6 @@ pub mod fields;
 pub mod job;
 pub mod numbered;
 pub mod record;
+pub mod rules;
 pub mod text;
 pub mod trace;

@@ -20,12 +20,13 @@ use Rattle.numbers.specs.Refusal.{is-fault, _⨾_, ask-at}
 use Rattle.numbers.specs.declared.refusal.Refusal.the-variants.{Length, CutShort, ForeignTag, RepeatedTag}
 use Rattle.numbers.specs.declared.refusal.Fault.{Fault}
 use Rattle.numbers.specs.declared.refusal.Fault.the-variants.{Sound, At}
-use Rattle.drivers.specs.declared.record.Form.{Form}
+use Rattle.drivers.specs.declared.rules.Form.{Form}
 use Rattle.drivers.specs.Text.{joined}
 use Rattle.drivers.specs.laws.Text.{joined-append}
-use Rattle.drivers.specs.Record.{rules, ruleAt, is-of, repeats, indexOf, ruleLength, tagAt, lengthAt, indexAt, overruns, after, contentOf, numberAt, numbersAt, fields-of, is-met, noted, field-fault, walk-of, missing-fault, record-fault, lengths-fault, row-count, rows-of, row-tag}
+use Rattle.drivers.specs.Record.{tagAt, lengthAt, indexAt, overruns, after, contentOf, numberAt, numbersAt, fields-of, is-met, noted, field-fault, walk-of, missing-fault, record-fault, lengths-fault, row-count, rows-of}
 use Rattle.drivers.specs.laws.Record.{fields-after, fields-start, fields-turn, fields-end}
 use Rattle.drivers.specs.Fields.{Field, header, field-bytes, record-bytes, number-bytes}
+use Rattle.drivers.specs.Rules.{rules, ruleAt, is-of, repeats, indexOf, ruleLength, row-tag}
 
 -- every number of a list is one of the format, as each f64 is
 abbrev pub AllF64 : List Float → Type 0

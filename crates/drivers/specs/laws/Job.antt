@@ -20,9 +20,10 @@ use Rattle.oracles.specs.Scan.{none, isRows}
 use Rattle.oracles.specs.LowpassOracle.{start-oracle, isOf, bands-fit, cursors-fit}
 use Rattle.oracles.specs.laws.Start.{start-before}
 use Rattle.oracles.specs.declared.lowpass_oracle.LowpassOracle.{LowpassOracle}
-use Rattle.drivers.specs.Record.{ruleLength, lengthAt, startOf, halfAt, fields-of, lengths-fault, bands-tag, cursors-tag, n-tag, place}
+use Rattle.drivers.specs.Record.{lengthAt, startOf, halfAt, fields-of, lengths-fault, place}
 use Rattle.drivers.specs.Job.{row-end, job-oracle, job-at, job-walk, size-fault, job-fault}
 use Rattle.drivers.specs.declared.job.Job.{Job}
+use Rattle.drivers.specs.Rules.{ruleLength, bands-tag, cursors-tag, n-tag}
 
 -- a test that no fault comes from
 pub ask-sound : (place : ℕ) (t : Bool) (why : Refusal) → ask-at place t why ≡ Sound → t ≡ true

@@ -19,7 +19,7 @@ use Rattle.numbers.specs.Refusal.{_⨾_, unless}
 use Rattle.numbers.specs.laws.Refusal.{both-sound}
 use Rattle.oracles.specs.Ell.{EllBuffers}
 use Rattle.oracles.specs.laws.EllCalls.{EllLong, ell-makes}
-use Rattle.drivers.specs.Record.{numberAt, numbersAt, fields-of, row-count, rows-of, is-row, rows-in, contentOf, fronted, matrix-tag, point-tag, place}
+use Rattle.drivers.specs.Record.{numberAt, numbersAt, fields-of, row-count, rows-of, is-row, rows-in, contentOf, fronted, place}
 use Rattle.drivers.specs.CuttingPlane.{Space, check-space, feas-run}
 use Rattle.drivers.specs.Job.{FullJob, job-oracle, job-at, full-job-at, job-walk, full-job, job-fault, has-room, room-fault, read-job-answer}
 use Rattle.drivers.specs.laws.Job.{JobSound, ask-sound, sound-job}
@@ -34,6 +34,7 @@ use Rattle.drivers.specs.declared.job.JobAnswer.{JobAnswer}
 use Rattle.drivers.specs.declared.job.JobAnswer.the-variants.{Read, Refused}
 use Rattle.drivers.specs.declared.trace.Run.{Run}
 use Rattle.drivers.specs.declared.trace.NewRun.the-variants.{Made}
+use Rattle.drivers.specs.Rules.{matrix-tag, point-tag}
 
 -- the slices that a job's numbers are read into
 pub record JobHeld (j : Job) (table xc mq : List Float) : Type 0 where

@@ -21,7 +21,7 @@ use Rattle.numbers.specs.declared.refusal.Refusal.{Refusal}
 use Rattle.numbers.specs.declared.refusal.Fault.{Fault}
 use Rattle.numbers.specs.declared.refusal.Fault.the-variants.{Sound}
 use Rattle.drivers.specs.Text.{joined}
-use Rattle.drivers.specs.Record.{rules, ruleAt, indexIn, indexOf, ruleLength, answer-form, outcome-tag, steps-tag, found-tag, tagAt, halfAt, numbersAt, fields-of, no-places, place, missing-fault, lengths-fault, fronted}
+use Rattle.drivers.specs.Record.{tagAt, halfAt, numbersAt, fields-of, no-places, place, missing-fault, lengths-fault, fronted}
 use Rattle.drivers.specs.Fields.{Field, record-bytes}
 use Rattle.drivers.specs.Answer.{has-point, outcome-byte, outcome-fault, answer-room-fault, answer-fault, answerOf, read-answer-answer, outcome-field, steps-field, point-field, answer-bytes, write-answer-answer}
 use Rattle.drivers.specs.laws.Fields.{AllF64, length-numbers, numbers-read, Writable, Each, Sized, size-row, sizes-sound, walk-tags, record-written, lengths-written, content-written}
@@ -29,6 +29,7 @@ use Rattle.drivers.specs.declared.answer.Answer.{Answer}
 use Rattle.drivers.specs.declared.answer.AnswerRead.the-variants.{Read, Refused}
 use Rattle.drivers.specs.declared.answer.AnswerWritten.{AnswerWritten}
 use Rattle.drivers.specs.declared.answer.AnswerWritten.the-variants.{Bytes, Refused as NotWritten}
+use Rattle.drivers.specs.Rules.{rules, ruleAt, indexIn, indexOf, ruleLength, answer-form, outcome-tag, steps-tag, found-tag}
 
 -- ---- fields that an answer's reader takes, and where it finds their contents
 

@@ -15,12 +15,13 @@ use Rattle.oracles.specs.RoundRobin.{advanced, new-range-answer}
 use Rattle.oracles.specs.Scan.{valueOf, scanFrom, scanOf, band-gradient}
 use Rattle.oracles.specs.LowpassOracle.{start-oracle, assessOf, assess-feas-answer}
 use Rattle.oracles.specs.Ell.{ell-updateOf}
-use Rattle.drivers.specs.Record.{rules, ruleAt, indexIn, indexOf, ruleLength, after, numberAt, fields-from, fields-of, field-fault, walk-of, missing-fault, record-fault, lengths-fault, row-count, rows-of}
+use Rattle.drivers.specs.Record.{after, numberAt, fields-from, fields-of, field-fault, walk-of, missing-fault, record-fault, lengths-fault, row-count, rows-of}
 use Rattle.drivers.specs.CuttingPlane.{feas-step}
 use Rattle.drivers.specs.Text.{joined, digitChar, digitsOf, digit-count-to, digit-count, decimal, hex}
 use Rattle.drivers.specs.Job.{signed, optionsOf, job-at, full-job-at, size-fault, job-fault}
 use Rattle.drivers.specs.Trace.{input-tests, step-text, run-text}
 use Rattle.drivers.specs.Program.{first-space, job-text, program-text}
+use Rattle.drivers.specs.Rules.{rules, ruleAt, indexIn, indexOf, ruleLength}
 
 -- n 2; bands 1, 1; limits 1, 2, 1; row (1, 0); point (0, 0); cursors −1, 0, 0; kappa 0.25; identity; 10 steps, tolerance 0
 abbrev pub worked-job : List ℕ

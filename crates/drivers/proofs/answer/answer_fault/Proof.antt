@@ -13,8 +13,9 @@ use Rattle.numbers.specs.declared.refusal.Refusal.the-variants.{Dimension, Room
 use Rattle.numbers.specs.laws.Pick.{hit, skip, says-no, says-yes}
 use Rattle.numbers.specs.Refusal.{is-fault, _⨾_}
 use Rattle.numbers.specs.laws.Refusal.{stops, passes}
-use Rattle.drivers.specs.Record.{fields-of, record-fault, lengths-fault, answer-form}
+use Rattle.drivers.specs.Record.{fields-of, record-fault, lengths-fault}
 use Rattle.drivers.specs.Answer.{has-point, outcome-fault, answer-room-fault, answer-fault}
+use Rattle.drivers.specs.Rules.{answer-form}
 use Rattle.numbers.specs.declared.refusal.Fault.{Fault}
 use Rattle.numbers.specs.declared.refusal.Fault.the-variants.{Sound, At}
 use Rattle.drivers.proofs.answer.answer_fault.Statement.{statement}

@@ -8,9 +8,10 @@ use mir.Syntax.{w32}
 use mir.Val.{toZ, ofZ}
 use mir.Facts.{toZ-ofZ}
 use Rattle.numbers.specs.Bits.{wordAt}
-use Rattle.drivers.specs.Record.{halfAt, numberAt, fields-of, row-count, bands-tag, cursors-tag, kappa-tag, limits-tag, n-tag, settings-tag, place}
+use Rattle.drivers.specs.Record.{halfAt, numberAt, fields-of, row-count, place}
 use Rattle.drivers.specs.Job.{partOf, signed, optionsOf, job-at}
 use Rattle.drivers.specs.declared.cutting_plane.Options.{Options}
+use Rattle.drivers.specs.Rules.{bands-tag, cursors-tag, kappa-tag, limits-tag, n-tag, settings-tag}
 use Rattle.drivers.proofs.job.Signs.{signed-fits, reads-half, part-small}
 use borrow.Author.Needs.{needs}
 use Rattle.drivers.proofs.job.job_at.Statement.{statement}

@@ -12,10 +12,11 @@ use Rattle.numbers.specs.Refusal.{is-fault, _⨾_, ask-at}
 use Rattle.numbers.specs.laws.Refusal.{stops, passes}
 use Rattle.oracles.specs.LowpassOracle.{bands-fit, cursors-fit}
 use Rattle.oracles.specs.declared.lowpass_oracle.LowpassOracle.{LowpassOracle}
-use Rattle.drivers.specs.Record.{startOf, halfAt, fields-of, no-places, record-fault, lengths-fault, bands-tag, cursors-tag, n-tag, place, job-form}
+use Rattle.drivers.specs.Record.{startOf, halfAt, fields-of, no-places, record-fault, lengths-fault, place}
 use Rattle.drivers.specs.Job.{job-oracle, job-at, job-walk, size-fault, job-fault}
 use Rattle.drivers.specs.laws.Job.{size-small}
 use Rattle.drivers.specs.declared.job.Job.{Job}
+use Rattle.drivers.specs.Rules.{bands-tag, cursors-tag, n-tag, job-form}
 use borrow.Author.Needs.{needs}
 use Rattle.drivers.proofs.job.job_fault.Statement.{statement}
 use Rattle.drivers.proofs.job.job_fault.Tie as tie

@@ -12,11 +12,12 @@ use Rattle.numbers.specs.declared.refusal.Fault.{Fault}
 use Rattle.numbers.specs.declared.refusal.Fault.the-variants.{Sound, At}
 use Rattle.numbers.specs.Refusal.{_⨾_}
 use Rattle.numbers.specs.laws.Pick.{is-hit, is-skip, and-parts}
-use Rattle.drivers.specs.Record.{numbersAt, fields-of, row-count, rows-of, fronted, matrix-tag, point-tag, place}
+use Rattle.drivers.specs.Record.{numbersAt, fields-of, row-count, rows-of, fronted, place}
 use Rattle.drivers.specs.Job.{job-at, full-job-at, has-room, room-fault, read-into}
 use Rattle.drivers.specs.declared.job.Job.{Job}
 use Rattle.drivers.specs.declared.job.JobAnswer.{JobAnswer}
 use Rattle.drivers.specs.declared.job.JobAnswer.the-variants.{Read, Refused}
+use Rattle.drivers.specs.Rules.{matrix-tag, point-tag}
 use borrow.Author.Needs.{needs}
 use Rattle.drivers.proofs.job.read_sound.Statement.{statement}
 use Rattle.drivers.proofs.job.read_sound.Tie as tie

@@ -9,8 +9,9 @@ use Rattle.numbers.specs.Refusal.{ask-at}
 use Rattle.numbers.specs.laws.Refusal.{stops, passes}
 use Rattle.numbers.specs.declared.refusal.Refusal.the-variants.{Dimension, Length}
 use Rattle.numbers.specs.laws.Pick.{hit, skip, is-hit, is-skip}
-use Rattle.drivers.specs.Record.{ruleLength, lengthAt, startOf, halfAt}
+use Rattle.drivers.specs.Record.{lengthAt, startOf, halfAt}
 use Rattle.drivers.specs.Job.{size-fault}
+use Rattle.drivers.specs.Rules.{ruleLength}
 use Rattle.numbers.specs.declared.refusal.Fault.the-variants.{Sound, At}
 use borrow.Author.Needs.{needs}
 use Rattle.drivers.proofs.job.size_fault.Statement.{statement}

@@ -10,10 +10,11 @@ use lib.ListN.{length}
 use Rattle.numbers.specs.laws.Refusal.{failed, held, at-first, at-next}
 use Rattle.numbers.specs.declared.refusal.Refusal.the-variants.{CutShort, ForeignTag, RepeatedTag}
 use Rattle.numbers.specs.declared.refusal.Fault.the-variants.{Sound, At}
-use Rattle.drivers.specs.Record.{many, ruleAt, is-of, indexOf, indexAt, lengthAt, place, field-fault}
-use Rattle.drivers.specs.laws.Record.{is-of-listed}
-use Rattle.drivers.specs.declared.record.Rule.{Rule}
-use Rattle.drivers.specs.declared.record.Form.{Form}
+use Rattle.drivers.specs.Record.{indexAt, lengthAt, place, field-fault}
+use Rattle.drivers.specs.declared.rules.Rule.{Rule}
+use Rattle.drivers.specs.declared.rules.Form.{Form}
+use Rattle.drivers.specs.Rules.{many, ruleAt, is-of, indexOf}
+use Rattle.drivers.specs.laws.Rules.{is-of-listed}
 use borrow.Author.Needs.{needs}
 use Rattle.drivers.proofs.record.field_fault.Statement.{statement}
 use Rattle.drivers.proofs.record.field_fault.Tie as tie

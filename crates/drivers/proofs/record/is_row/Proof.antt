@@ -2,10 +2,10 @@
 use mathlib.Core.Path.{ap, _∙_}
 use Prim.Native.Nat.{ℕ}
 use lib.Dec.{eqb}
-use Rattle.drivers.specs.Record.{row-tag, indexOf}
 use borrow.Author.Needs.{needs}
 use Rattle.drivers.proofs.record.is_row.Statement.{statement}
 use Rattle.drivers.proofs.record.is_row.Tie as tie
+use Rattle.drivers.specs.Rules.{row-tag, indexOf}
 
 tag-at-requires : tie.Need-tag-at-requires
 tag-at-requires c κs = search needs

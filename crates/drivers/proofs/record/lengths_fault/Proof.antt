@@ -8,8 +8,9 @@ use lib.ListN.{length}
 use Rattle.numbers.specs.laws.Refusal.{failed, held, at-first, at-next}
 use Rattle.numbers.specs.declared.refusal.Refusal.the-variants.{Length}
 use Rattle.numbers.specs.Refusal.{_⨾_, ask-at}
-use Rattle.drivers.specs.Record.{indexOf, indexAt, lengthAt, ruleLength, after, fields-of, lengths-fault}
+use Rattle.drivers.specs.Record.{indexAt, lengthAt, after, fields-of, lengths-fault}
 use Rattle.drivers.specs.laws.Record.{fields-after, fields-start, fields-turn, fields-end, left-less}
+use Rattle.drivers.specs.Rules.{indexOf, ruleLength}
 use Rattle.numbers.specs.declared.refusal.Fault.{Fault}
 use Rattle.numbers.specs.declared.refusal.Fault.the-variants.{Sound, At}
 use borrow.Author.Needs.{needs}

@@ -10,9 +10,10 @@ use lib.Dec.{eqb}
 use Rattle.numbers.specs.laws.Refusal.{failed, held}
 use Rattle.numbers.specs.declared.refusal.Refusal.the-variants.{MissingTag}
 use Rattle.numbers.specs.laws.Pick.{some-holds, none-some}
-use Rattle.drivers.specs.Record.{tags, maybe, ruleAt, place, is-missing, missing-fault}
-use Rattle.drivers.specs.declared.record.Form.{Form}
-use Rattle.drivers.specs.declared.record.Rule.{Rule}
+use Rattle.drivers.specs.Record.{place, is-missing, missing-fault}
+use Rattle.drivers.specs.declared.rules.Form.{Form}
+use Rattle.drivers.specs.declared.rules.Rule.{Rule}
+use Rattle.drivers.specs.Rules.{tags, maybe, ruleAt}
 use Rattle.numbers.specs.declared.refusal.Fault.the-variants.{Sound, At}
 use borrow.Author.Needs.{needs}
 use Rattle.drivers.proofs.record.missing_fault.Statement.{statement}

@@ -6,7 +6,7 @@ use Prim.Native.Nat.{ℕ}
 use lib.ListN.{length}
 use Rattle.drivers.specs.Record.{fields-of, walk-of, missing-fault, record-fault}
 use Rattle.numbers.specs.declared.refusal.Fault.{Fault}
-use Rattle.drivers.specs.declared.record.Form.{Form}
+use Rattle.drivers.specs.declared.rules.Form.{Form}
 use borrow.Author.Needs.{needs}
 use Rattle.drivers.proofs.record.record_fault.Statement.{statement}
 use Rattle.drivers.proofs.record.record_fault.Tie as tie

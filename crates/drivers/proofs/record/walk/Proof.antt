@@ -13,9 +13,11 @@ use Rattle.numbers.specs.laws.Refusal.{no-fault, both-sound, ask-sound}
 use Rattle.numbers.specs.declared.refusal.Refusal.the-variants.{CutShort, ForeignTag, RepeatedTag}
 use Rattle.numbers.specs.declared.refusal.Fault.{Fault}
 use Rattle.numbers.specs.declared.refusal.Fault.the-variants.{Sound}
-use Rattle.drivers.specs.Record.{is-of, repeats, is-met, overruns, indexOf, indexAt, contentOf, after, place, first-place, noted, field-fault, fields-of, walk-of}
-use Rattle.drivers.specs.laws.Record.{is-of-listed, fields-after, fields-start, fields-turn, fields-end, left-less}
-use Rattle.drivers.specs.declared.record.Form.{Form}
+use Rattle.drivers.specs.Record.{is-met, overruns, indexAt, contentOf, after, place, first-place, noted, field-fault, fields-of, walk-of}
+use Rattle.drivers.specs.laws.Record.{fields-after, fields-start, fields-turn, fields-end, left-less}
+use Rattle.drivers.specs.declared.rules.Form.{Form}
+use Rattle.drivers.specs.Rules.{is-of, repeats, indexOf}
+use Rattle.drivers.specs.laws.Rules.{is-of-listed}
 use borrow.Author.Needs.{needs}
 use Rattle.drivers.proofs.record.walk.Statement.{statement}
 use Rattle.drivers.proofs.record.walk.Tie as tie

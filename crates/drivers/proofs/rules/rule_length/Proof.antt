@@ -1,14 +1,14 @@
--- `drivers::record::rule_length` meets its contract. Assumes nothing.
+-- `drivers::rules::rule_length` meets its contract. Assumes nothing.
 use mathlib.Core.Path.{_≡_}
 use Prim.Native.Nat.{ℕ, _≤_, _+_, _*_, _^_}
 use native.Mathlib.Nat.{mul-le-mul, pow-le-pow-left, pow-le-pow-right}
 use native.Mathlib.Omega.{arith}
-use Rattle.drivers.specs.Record.{ruleAt, ruleLength}
-use Rattle.drivers.specs.laws.Record.{rule-small}
-use Rattle.drivers.specs.declared.record.Rule.{Rule}
+use Rattle.drivers.specs.declared.rules.Rule.{Rule}
+use Rattle.drivers.specs.Rules.{ruleAt, ruleLength}
+use Rattle.drivers.specs.laws.Rules.{rule-small}
 use borrow.Author.Needs.{needs}
-use Rattle.drivers.proofs.record.rule_length.Statement.{statement}
-use Rattle.drivers.proofs.record.rule_length.Tie as tie
+use Rattle.drivers.proofs.rules.rule_length.Statement.{statement}
+use Rattle.drivers.proofs.rules.rule_length.Tie as tie
 
 small : (i : ℕ) (r : Rule) → r ≡ ruleAt i → (r .2 ≤ 24) × (r .3 ≤ 8) × (r .4 ≤ 2)
 small i r e = rw e (rule-small i)

@@ -1,12 +1,12 @@
--- `drivers::record::rule_at` meets its contract: the code's table is that of document 01. Assumes nothing.
+-- `drivers::rules::rule_at` meets its contract: the code's table is that of document 01. Assumes nothing.
 use mathlib.Core.Path.{_≡_, sym}
 use Prim.Native.Nat.{ℕ, _≤_}
 use lib.ListN.{List·getD-eq-default}
-use Rattle.drivers.specs.Record.{no-rule, tags, rules, ruleAt}
-use Rattle.drivers.specs.laws.Record.{rule-within}
 use borrow.Author.Needs.{needs}
-use Rattle.drivers.proofs.record.rule_at.Statement.{statement}
-use Rattle.drivers.proofs.record.rule_at.Tie as tie
+use Rattle.drivers.proofs.rules.rule_at.Statement.{statement}
+use Rattle.drivers.proofs.rules.rule_at.Tie as tie
+use Rattle.drivers.specs.Rules.{no-rule, tags, rules, ruleAt}
+use Rattle.drivers.specs.laws.Rules.{rule-within}
 
 outside : (i : ℕ) → tags ≤ i → no-rule ≡ ruleAt i
 unfolding ruleAt rules

@@ -1,10 +1,10 @@
--- `drivers::record::power` meets its contract. Assumes nothing.
+-- `drivers::rules::power` meets its contract. Assumes nothing.
 use mathlib.Core.Path.{_≡_, sym}
 use Prim.Native.Nat.{ℕ, _≤_, _*_, _^_}
 use native.Mathlib.Nat.{pow-zero, pow-suc, mul-le-mul}
 use native.Mathlib.Omega.{arith}
-use Rattle.drivers.proofs.record.power.Statement.{statement}
-use Rattle.drivers.proofs.record.power.Tie as tie
+use Rattle.drivers.proofs.rules.power.Statement.{statement}
+use Rattle.drivers.proofs.rules.power.Tie as tie
 
 none : (n k : ℕ) → k ≡ 0 → 1 ≡ n ^ k
 none n k e = rw e (sym (pow-zero n))

@@ -1,12 +1,12 @@
--- `drivers::record::rule_index` meets its contract. The invariant: the tag is not among the first i rules. Assumes nothing.
+-- `drivers::rules::rule_index` meets its contract. The invariant: the tag is not among the first i rules. Assumes nothing.
 use mathlib.Core.Path.{_≡_}
 use Prim.Native.Nat.{_≤_, _+_, _-_}
 use lib.ListN.{drop}
-use Rattle.drivers.specs.Record.{rules, indexIn, indexOf}
-use Rattle.drivers.specs.laws.Record.{rule-within, index-start, index-found, index-turn, index-end}
 use borrow.Author.Needs.{needs}
-use Rattle.drivers.proofs.record.rule_index.Statement.{statement}
-use Rattle.drivers.proofs.record.rule_index.Tie as tie
+use Rattle.drivers.proofs.rules.rule_index.Statement.{statement}
+use Rattle.drivers.proofs.rules.rule_index.Tie as tie
+use Rattle.drivers.specs.Rules.{rules, indexIn, indexOf}
+use Rattle.drivers.specs.laws.Rules.{rule-within, index-start, index-found, index-turn, index-end}
 
 abbrev Inv-loop : tie.InvT-loop
 Inv-loop tag table i₀ i = (i ≤ 12) × (indexOf tag ≡ i + indexIn (drop i rules) tag)

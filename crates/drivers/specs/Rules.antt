@@ -1,0 +1,123 @@
+-- The table of tags (document 01, "Job and answer records"): the forms of record that have a tag, how often it stands there, and the length of its content. Definitions only.
+use Prim.Native.Nat.{ℕ, suc, _+_, _*_, _/_, _%_, _^_}
+use mathlib.Core.Bool.{Bool}
+use mathlib.Core.List.{List, [], _∷_}
+use lib.Dec.{eqb}
+use lib.ListN.{getD}
+use Rattle.numbers.specs.Pick.{pick}
+use Rattle.drivers.specs.declared.rules.Rule.{Rule}
+use Rattle.drivers.specs.declared.rules.Form.{Form}
+
+-- the forms of record that have a tag, a bit for each
+abbrev pub in-job : ℕ
+in-job = 1
+
+abbrev pub in-answer : ℕ
+in-answer = 2
+
+-- how often a tag stands in a record: exactly once, at least once, at most once
+abbrev pub once : ℕ
+once = 0
+
+abbrev pub many : ℕ
+many = 1
+
+abbrev pub maybe : ℕ
+maybe = 2
+
+-- document 01's table: tag, forms, base, factor and power of n, how often
+unfoldable pub rules : List Rule
+rules =
+    (0x01, in-job, 2, 0, 0, once)
+    ∷ (0x02, in-job, 4, 0, 0, once)
+    ∷ (0x03, in-job, 24, 0, 0, once)
+    ∷ (0x04, in-job, 0, 8, 1, many)
+    ∷ (0x05, in-job, 0, 8, 1, once)
+    ∷ (0x06, in-job, 6, 0, 0, once)
+    ∷ (0x07, in-job, 8, 0, 0, once)
+    ∷ (0x08, in-job, 0, 8, 2, once)
+    ∷ (0x09, in-job, 10, 0, 0, once)
+    ∷ (0x20, in-answer, 1, 0, 0, once)
+    ∷ (0x21, in-answer, 2, 0, 0, once)
+    ∷ (0x22, in-answer, 0, 8, 1, maybe)
+    ∷ []
+
+-- its rows by name, and how many there are
+abbrev pub n-tag : ℕ
+n-tag = 0
+
+abbrev pub bands-tag : ℕ
+bands-tag = 1
+
+abbrev pub limits-tag : ℕ
+limits-tag = 2
+
+abbrev pub row-tag : ℕ
+row-tag = 3
+
+abbrev pub point-tag : ℕ
+point-tag = 4
+
+abbrev pub cursors-tag : ℕ
+cursors-tag = 5
+
+abbrev pub kappa-tag : ℕ
+kappa-tag = 6
+
+abbrev pub matrix-tag : ℕ
+matrix-tag = 7
+
+abbrev pub settings-tag : ℕ
+settings-tag = 8
+
+abbrev pub outcome-tag : ℕ
+outcome-tag = 9
+
+abbrev pub steps-tag : ℕ
+steps-tag = 10
+
+abbrev pub found-tag : ℕ
+found-tag = 11
+
+abbrev pub tags : ℕ
+tags = 12
+
+-- what no tag of the table has: no form
+abbrev pub no-rule : Rule
+no-rule = (0, 0, 0, 0, 0, once)
+
+-- rule i; past the table that of no tag
+unfoldable pub ruleAt : ℕ → Rule
+unfolding rules
+ruleAt i = getD rules i no-rule
+
+-- a form of record, by its bit
+abbrev pub job-form : Form
+job-form = record { bit = in-job }
+
+abbrev pub answer-form : Form
+answer-form = record { bit = in-answer }
+
+-- rule i's tag is one of the form's; how often it may stand
+abbrev pub is-of : Form → ℕ → Bool
+is-of form i = eqb (ruleAt i .1 / form .bit % 2) 1
+
+abbrev pub repeats : ℕ → Bool
+repeats i = eqb (ruleAt i .5) many
+
+abbrev pub optional : ℕ → Bool
+optional i = eqb (ruleAt i .5) maybe
+
+-- a tag's place in the table, 12 where it is not there
+unfoldable pub indexIn : List Rule → ℕ → ℕ
+indexIn [] tag = 0
+indexIn (r ∷ rs) tag = pick (eqb (r .0) tag) 0 (suc (indexIn rs tag))
+
+unfoldable pub indexOf : ℕ → ℕ
+unfolding rules indexIn
+indexOf tag = indexIn rules tag
+
+-- the bytes that a field's content must have: base + factor × n ^ power
+unfoldable pub ruleLength : ℕ → ℕ → ℕ
+unfolding ruleAt
+ruleLength i n = ruleAt i .2 + ruleAt i .3 * n ^ ruleAt i .4
