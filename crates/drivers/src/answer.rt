@@ -22,9 +22,12 @@ ghost use mathlib.Core.List.{map};
 ghost use Prim.Native.Nat.{_+_, _*_, _≤_};
 ghost use lib.ListN.{length};
 ghost use Rattle.numbers.specs.Pick.{pick};
+ghost use Rattle.numbers.specs.Refusal.{_⨾_};
+ghost use Rattle.numbers.specs.declared.refusal.Fault.the-variants.{Sound};
+ghost use Rattle.drivers.specs.Record.{no-places, fronted};
 ghost use Rattle.drivers.specs.Text.{put-all};
 ghost use Rattle.drivers.specs.Fields.{field-bytes};
-ghost use Rattle.drivers.specs.Answer.{outcome-byte, outcome-fault, answer-fault, answerOf, has-point, read-answer-answer, answer-fields, write-answer-answer};
+ghost use Rattle.drivers.specs.Answer.{outcome-byte, answer-walk, outcome-fault, answer-fault, point-room, answer-at, point-at, has-point, read-answer-answer, answer-fields, write-answer-answer};
 
 // What a run answers, and a record keeps, beside the point: whether there is one, and the steps.
 pub struct Answer {
@@ -53,19 +56,22 @@ fn outcome_byte(found: bool) -> u64
     0
 }
 
-// Refusal 12, at tag 20: the outcome is not that of a record with, or without, tag 22. `point` is where its content begins, 0 where there is none.
-fn outcome_fault(bytes: &[u8], outcome: usize, point: usize) -> Fault
-    ensures { λ r. ⌜ r ≡ outcome-fault (now (bytes .entry)) outcome point ⌝ }
+// Refusal 12, at tag 20: the outcome is not that of a record with, or without, tag 22.
+fn outcome_fault(bytes: &[u8], places: &[usize; 12]) -> Fault
+    ensures { λ r. ⌜ r ≡ outcome-fault (now (bytes .entry)) (now (places .entry)) ⌝ }
 {
-    if tag_at(bytes, outcome) != outcome_byte(point != 0) {
+    let outcome = places[OUTCOME];
+    if tag_at(bytes, outcome) != outcome_byte(places[FOUND] != 0) {
         return Fault::At(Refusal::Outcome, start_of(outcome));
     }
     Fault::Sound
 }
 
-// The first fault of an answer record, in document 01's order; `places` becomes where the contents of its tags begin.
+// The first fault of an answer record, in document 01's order, 11 the last; `places` becomes where the contents of its tags begin.
 fn answer_fault(n: usize, bytes: &[u8], places: &mut [usize; 12], room: usize) -> Fault
-    ensures { λ r. ⌜ (r, now (places .exit)) ≡ answer-fault n (now (bytes .entry)) (now (places .entry)) room ⌝ }
+    requires { ⌜ now places ≡ no-places ⌝ }
+    ensures { λ r. ⌜ r ≡ (answer-fault n (now (bytes .entry)) ⨾ point-room (point-at n (now (bytes .entry)) (answer-walk (now (bytes .entry)) .1)) room) ⌝ }
+    ensures { λ r. ⌜ (r ≡ Sound → now (places .exit) ≡ answer-walk (now (bytes .entry)) .1) ⌝ }
 {
     if !is_dimension(n) {
         return Fault::At(Refusal::Dimension, 0);
@@ -78,7 +84,7 @@ fn answer_fault(n: usize, bytes: &[u8], places: &mut [usize; 12], room: usize) -
     if is_fault(fault) {
         return fault;
     }
-    let fault = outcome_fault(bytes, places[OUTCOME], places[FOUND]);
+    let fault = outcome_fault(bytes, places);
     if is_fault(fault) {
         return fault;
     }
@@ -91,7 +97,8 @@ fn answer_fault(n: usize, bytes: &[u8], places: &mut [usize; 12], room: usize) -
 // What a sound record says, its point at the front of `point`.
 fn fill_answer(n: usize, bytes: &[u8], places: &[usize; 12], point: &mut [f64]) -> Answer
     requires { ⌜ (n ≤ 32) × (has-point (now places) ≡ true → n ≤ length (now point)) ⌝ }
-    ensures { λ r. ⌜ (r, now (point .exit)) ≡ answerOf n (now (bytes .entry)) (now (places .entry)) (now (point .entry)) ⌝ }
+    ensures { λ r. ⌜ r ≡ answer-at (now (bytes .entry)) (now (places .entry)) ⌝ }
+    ensures { λ _. ⌜ now (point .exit) ≡ fronted (point-at n (now (bytes .entry)) (now (places .entry))) (now (point .entry)) ⌝ }
 {
     let steps = half_at(bytes, places[STEPS]) as u16;
     if places[FOUND] == 0 {

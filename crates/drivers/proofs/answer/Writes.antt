@@ -1,22 +1,25 @@
 -- What the writer of answers has put. Assumes nothing.
 use Prim.Native.Nat.{ℕ, _+_, _*_, _≤_, _<_}
 use mathlib.Core.Path.{_≡_, refl, sym, ap, _∙_}
-use mathlib.Core.Bool.{true, false, not}
+use mathlib.Core.Bool.{true, false}
 use mathlib.Core.List.{List, [], _∷_, map}
 use native.Mathlib.Omega.{arith}
-use borrow.Author.Tests.{lt-ltb, le-ltb, eq-eqb, ne-eqb}
+use borrow.Author.Tests.{lt-leb, le-leb, eq-eqb, ne-eqb}
+use lib.Dec.{eqb}
 use lib.ListN.{length, length-append}
 use lib.Ieee.{Float}
 use Rattle.numbers.specs.Pick.{pick}
 use Rattle.numbers.specs.Bits.{leBytes}
-use Rattle.numbers.specs.Arr.{isDimension}
+use Rattle.numbers.specs.Arr.{isDimension, sized}
 use Rattle.numbers.specs.declared.refusal.Refusal.the-variants.{Dimension, Length, Room}
-use Rattle.numbers.specs.laws.Pick.{hit, skip, is-hit, is-skip, both-ways}
+use Rattle.numbers.specs.laws.Pick.{is-hit, is-skip, both-ways}
+use Rattle.numbers.specs.laws.Refusal.{failed, held, at-first, at-next, refuses, accepts}
+use Rattle.numbers.specs.declared.refusal.Fault.the-variants.{Sound}
 use Rattle.drivers.specs.Text.{put, put-all, joined}
 use Rattle.drivers.specs.laws.Text.{put-then, put-one, put-front}
 use Rattle.drivers.specs.Fields.{Field, field-bytes, record-bytes, number-bytes}
 use Rattle.drivers.specs.laws.Fields.{length-numbers}
-use Rattle.drivers.specs.Answer.{outcome-byte, outcome-field, steps-field, point-field, answer-fields, answer-bytes, write-answer-answer}
+use Rattle.drivers.specs.Answer.{outcome-byte, outcome-field, steps-field, point-field, answer-fields, answer-bytes, write-answer-tests, write-answer-answer}
 use Rattle.drivers.specs.declared.answer.Answer.{Answer}
 use Rattle.drivers.specs.declared.answer.AnswerWritten.the-variants.{Bytes, Refused}
 
@@ -52,23 +55,26 @@ module _ (a : Answer) (point : List Float) where
 module _ (n : ℕ) (a : Answer) (point : List Float) (out : List ℕ) where
   pub wrong-n : isDimension n ≡ false → (Refused Dimension, out) ≡ write-answer-answer n a point out
   unfolding write-answer-answer
-  wrong-n h = hit _ _ _ _ (ap not h) refl
+  wrong-n h = refuses _ _ (write-answer-tests n a point out) (at-first _ (at-first _ (failed h))) refl
 
   module _ (h : isDimension n ≡ true) where
     pub wrong-point : (length point ≡ n → ⊥) → (Refused Length, out) ≡ write-answer-answer n a point out
     unfolding write-answer-answer
-    wrong-point l = skip _ _ _ _ (ap not h) (hit _ _ _ _ (ap not (ne-eqb (length point) n l)) refl)
+    wrong-point l = refuses _ _ (write-answer-tests n a point out) (at-first _ (at-next (held _ _ h) (failed (ne-eqb (length point) n l)))) refl
 
     module _ (l : length point ≡ n) (size : ℕ) (s : size ≡ pick (a .found) (12 + 8 * n) 9) where
       long : length (answer-bytes a point) ≡ size
       long = answer-long a point n l ∙ sym s
 
+      sizes-right : Sound ≡ sized n (eqb (length point) n)
+      sizes-right = at-next (held _ _ h) (held _ _ (eq-eqb (length point) n l))
+
       pub no-room : length out < size → (Refused Room, out) ≡ write-answer-answer n a point out
       unfolding write-answer-answer
-      no-room k = skip _ _ _ _ (ap not h) (skip _ _ _ _ (ap not (eq-eqb (length point) n l)) (hit _ _ _ _ (lt-ltb (length out) _ (omega (arith, long))) refl))
+      no-room k = refuses _ _ (write-answer-tests n a point out) (at-next sizes-right (failed (lt-leb _ (length out) (omega (arith, long))))) refl
 
       pub written : (r : ℕ × List ℕ) → size ≤ length out → r ≡ put-all out 0 (map field-bytes (answer-fields a point)) → (Bytes (r .0), r .1) ≡ write-answer-answer n a point out
       unfolding write-answer-answer
       written r k p =
-          skip _ _ _ _ (ap not h) (skip _ _ _ _ (ap not (eq-eqb (length point) n l)) (skip _ _ _ _ (le-ltb (length out) _ (omega (arith, long)))
-          (ap (λ (q : ℕ × List ℕ). (Bytes (q .0), q .1)) (put-front out (map field-bytes (answer-fields a point)) r (omega (arith, long)) p))))
+          accepts _ _ (write-answer-tests n a point out) (at-next sizes-right (held _ _ (le-leb _ (length out) (omega (arith, long)))))
+          (ap (λ (q : ℕ × List ℕ). (Bytes (q .0), q .1)) (put-front out (map field-bytes (answer-fields a point)) r (omega (arith, long)) p))

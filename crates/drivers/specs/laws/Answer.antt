@@ -1,44 +1,55 @@
 -- Laws of the answer record: what a record without a fault has. Assumes nothing.
 use mathlib.Core.Path.{_≡_, refl, sym, ap, _∙_}
-use mathlib.Core.Bool.{Bool, true, false, not, _&&_, true≢false}
-use mathlib.Core.List.{List}
+use mathlib.Core.Bool.{Bool, true, false, _&&_}
+use mathlib.Core.List.{List, []}
 use Prim.Native.Nat.{ℕ, _≤_}
 use native.Mathlib.Omega.{arith}
-use borrow.Author.Tests.{ltb-false, not-false}
-use lib.Dec.{ltb}
-use lib.ListN.{getD}
-use Rattle.numbers.specs.Pick.{pick}
+use borrow.Author.Tests.{ltb-true, ltb-false, leb-true, lt-leb, le-leb}
+use lib.Dec.{leb, ltb}
+use lib.ListN.{length}
+use Rattle.numbers.specs.Refusal.{_⨾_, ask}
 use Rattle.numbers.specs.Arr.{isDimension}
+use Rattle.numbers.specs.laws.Pick.{and-parts, is-hit, is-skip}
+use Rattle.numbers.specs.laws.Refusal.{both-sound, ask-sound}
+use Rattle.numbers.specs.laws.Arr.{length-tab}
 use Rattle.numbers.specs.declared.refusal.Refusal.the-variants.{Dimension, Room}
-use Rattle.numbers.specs.laws.Pick.{by-test}
-use Rattle.numbers.specs.Refusal.{is-fault, _⨾_}
-use Rattle.numbers.specs.laws.Refusal.{both-sound}
-use Rattle.drivers.specs.Record.{fields-of, record-fault, lengths-fault}
-use Rattle.drivers.specs.Answer.{has-point, outcome-fault, answer-room-fault, answer-fault}
-use Rattle.drivers.specs.Rules.{answer-form}
-use Rattle.numbers.specs.declared.refusal.Fault.{Fault}
-use Rattle.numbers.specs.declared.refusal.Fault.the-variants.{Sound, At}
+use Rattle.numbers.specs.declared.refusal.Fault.the-variants.{Sound}
+use Rattle.drivers.specs.Rules.{found-tag}
+use Rattle.drivers.specs.Record.{numberAt, numbersAt, fields-of, place, lengths-fault}
+use Rattle.drivers.specs.Answer.{has-point, point-at, answer-walk, outcome-fault, answer-fault, point-room}
 
 -- n is in its range, and a point that is there has room
 pub record AnswerSound (n : ℕ) (places : List ℕ) (room : ℕ) : Type 0 where
   pub dimension : isDimension n ≡ true
   pub has-room : has-point places ≡ true → n ≤ room
 
-room-sound : (n : ℕ) (places : List ℕ) (room : ℕ) → answer-room-fault n places room ≡ Sound → has-point places ≡ true → n ≤ room
-unfolding answer-room-fault
-room-sound n places room =
-    by-test (λ (f : Fault). f ≡ Sound → has-point places ≡ true → n ≤ room) (has-point places && ltb room n) _ _
-    (λ t e h. absurd (true≢false (ap is-fault e)))
-    (λ t e h. ltb-false room n (sym (ap (λ (b : Bool). b && ltb room n) h) ∙ t))
+-- the room that a point needs: n numbers, or none
+module _ (n : ℕ) (bytes places : List ℕ) where
+  found-long : has-point places ≡ true → length (point-at n bytes places) ≡ n
+  found-long h = ap length (is-hit (has-point places) (numbersAt bytes (place places found-tag) n) [] h) ∙ length-tab (λ k. numberAt bytes (place places found-tag) k) n
 
-pub answer-sound : (n : ℕ) (bytes places₀ : List ℕ) (room : ℕ) → answer-fault n bytes places₀ room .0 ≡ Sound → AnswerSound n (answer-fault n bytes places₀ room .1) room
+  none-long : has-point places ≡ false → length (point-at n bytes places) ≡ 0
+  none-long h = ap length (is-skip (has-point places) (numbersAt bytes (place places found-tag) n) [] h)
+
+  pub no-room : (room : ℕ) → (has-point places && ltb room n) ≡ true → leb (length (point-at n bytes places)) room ≡ false
+  no-room room h =
+      let a = and-parts (has-point places) (ltb room n) h in
+      lt-leb (length (point-at n bytes places)) room (rw (found-long (a .0)) (ltb-true room n (a .1)))
+
+  pub room-there : (room : ℕ) → (has-point places && ltb room n) ≡ false → leb (length (point-at n bytes places)) room ≡ true
+  room-there room h = go (has-point places) refl
+    where
+      go : (t : Bool) → has-point places ≡ t → leb (length (point-at n bytes places)) room ≡ true
+      go true e = le-leb (length (point-at n bytes places)) room (rw (found-long e) (ltb-false room n (sym (ap (λ (b : Bool). b && ltb room n) e) ∙ h)))
+      go false e = le-leb (length (point-at n bytes places)) room (rw (none-long e) (omega arith))
+
+pub answer-sound : (n : ℕ) (bytes : List ℕ) (room : ℕ) → let places = answer-walk bytes .1 in (answer-fault n bytes ⨾ point-room (point-at n bytes places) room) ≡ Sound → AnswerSound n places room
 unfolding answer-fault
-answer-sound n bytes places₀ room =
-    by-test (λ (f : Fault × List ℕ). f .0 ≡ Sound → AnswerSound n (f .1) room) (not (isDimension n)) _ _
-    (λ t e. absurd (true≢false (ap is-fault e)))
-    (λ t e.
-    let w = record-fault bytes answer-form places₀ in
-    let p = both-sound (w .0) _ e .1 in
-    let q = both-sound (lengths-fault n bytes (fields-of bytes)) _ p .1 in
-    let r = both-sound (outcome-fault bytes (getD (w .1) 9 0) (getD (w .1) 11 0)) _ q .1 in
-    record { dimension = not-false _ t; has-room = room-sound n (w .1) room r })
+answer-sound n bytes room e =
+    let places = answer-walk bytes .1 in
+    let p = both-sound (answer-fault n bytes) (point-room (point-at n bytes places) room) e in
+    let rest = answer-walk bytes .0 ⨾ lengths-fault n bytes (fields-of bytes) ⨾ outcome-fault bytes places in
+    record {
+      dimension = ask-sound (isDimension n) Dimension 0 (both-sound (ask (isDimension n) Dimension) rest (p .0) .0);
+      has-room = λ h. rw (← found-long n bytes places h) (leb-true (length (point-at n bytes places)) room (ask-sound (leb (length (point-at n bytes places)) room) Room 0 (p .1)));
+    }

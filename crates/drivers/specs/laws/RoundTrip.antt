@@ -1,32 +1,34 @@
 -- An answer that is written and read again is the same answer. Assumes nothing.
 use Prim.Native.Nat.{ℕ, _*_, _≤_, _<_}
 use mathlib.Core.Path.{_≡_, refl, sym, ap, _∙_}
-use mathlib.Core.Bool.{Bool, true, false, not, _&&_}
+use mathlib.Core.Bool.{Bool, true, false, _&&_}
 use mathlib.Core.List.{List, [], _∷_}
 use native.Mathlib.Omega.{arith}
-use borrow.Author.Tests.{le-ltb, eq-eqb, eqb-true, not-false}
-use lib.Dec.{ltb, eqb}
+use borrow.Author.Tests.{le-ltb, eq-eqb, eqb-true}
+use lib.Dec.{leb, ltb, eqb}
 use lib.ListN.{length, take, set}
 use lib.Ieee.{Float}
 use Rattle.numbers.specs.Pick.{pick, some}
 use Rattle.numbers.specs.Bits.{leBytes}
 use Rattle.numbers.specs.Over.{over}
-use Rattle.numbers.specs.Arr.{isDimension}
-use Rattle.numbers.specs.Refusal.{is-fault, _⨾_, unless}
+use Rattle.numbers.specs.Arr.{isDimension, sized}
+use Rattle.numbers.specs.Refusal.{_⨾_, ask}
 use Rattle.numbers.specs.laws.Over.{front-over}
 use Rattle.numbers.specs.laws.Bits.{word-low}
 use Rattle.numbers.specs.laws.Arr.{dimension-most}
-use Rattle.numbers.specs.laws.Pick.{is-skip, by-test}
+use Rattle.numbers.specs.laws.Refusal.{both-sound, ask-sound, held, at-next, accepts, by-tests}
 use Rattle.numbers.specs.declared.refusal.Refusal.{Refusal}
+use Rattle.numbers.specs.declared.refusal.Refusal.the-variants.{Dimension, Length, Room}
 use Rattle.numbers.specs.declared.refusal.Fault.{Fault}
 use Rattle.numbers.specs.declared.refusal.Fault.the-variants.{Sound}
 use Rattle.drivers.specs.Text.{joined}
 use Rattle.drivers.specs.Record.{tagAt, halfAt, numbersAt, fields-of, no-places, place, missing-fault, lengths-fault, fronted}
 use Rattle.drivers.specs.Fields.{Field, record-bytes}
-use Rattle.drivers.specs.Answer.{has-point, outcome-byte, outcome-fault, answer-room-fault, answer-fault, answerOf, read-answer-answer, outcome-field, steps-field, point-field, answer-bytes, write-answer-answer}
+use Rattle.drivers.specs.Answer.{has-point, outcome-byte, answer-at, point-at, answer-walk, outcome-fault, answer-fault, point-room, read-answer-answer, outcome-field, steps-field, point-field, answer-bytes, write-answer-tests, write-answer-answer}
+use Rattle.drivers.specs.laws.Answer.{room-there}
 use Rattle.drivers.specs.laws.Fields.{AllF64, length-numbers, numbers-read, Writable, Each, Sized, size-row, sizes-sound, walk-tags, record-written, lengths-written, content-written}
 use Rattle.drivers.specs.declared.answer.Answer.{Answer}
-use Rattle.drivers.specs.declared.answer.AnswerRead.the-variants.{Read, Refused}
+use Rattle.drivers.specs.declared.answer.AnswerRead.the-variants.{Read}
 use Rattle.drivers.specs.declared.answer.AnswerWritten.{AnswerWritten}
 use Rattle.drivers.specs.declared.answer.AnswerWritten.the-variants.{Bytes, Refused as NotWritten}
 use Rattle.drivers.specs.Rules.{rules, ruleAt, indexIn, indexOf, ruleLength, answer-form, outcome-tag, steps-tag, found-tag}
@@ -47,29 +49,19 @@ module _ (n : ℕ) (fs : List Field) (places : List ℕ) (point : List Float) wh
     room : (has-point places && ltb (length point) n) ≡ false
 
   module _ (t : Taken) where
-    outcome-sound : outcome-fault bytes (place places outcome-tag) (place places found-tag) ≡ Sound
-    unfolding outcome-fault
-    outcome-sound = is-skip _ _ _ (ap not (eq-eqb _ _ (t .outcome)))
+    walk-is : answer-walk bytes ≡ (Sound, places)
+    walk-is = record-written fs (t .writable) answer-form no-places places (t .walked) ∙ ap (λ (f : Fault). (f, places)) (t .none-missing)
 
-    fault-is : answer-fault n bytes no-places (length point) ≡ (Sound, places)
-    unfolding answer-fault answer-room-fault
+    fault-is : Sound ≡ answer-fault n bytes
+    unfolding answer-fault outcome-fault
     fault-is =
-        is-skip _ _ _ (ap not (t .dimension))
-        ∙ ap
-        (λ (w : Fault × List ℕ).
-        (w .0 ⨾ lengths-fault n bytes (fields-of bytes) ⨾ outcome-fault bytes (place (w .1) outcome-tag) (place (w .1) found-tag) ⨾ answer-room-fault n (w .1) (length point), w .1))
-        (record-written fs (t .writable) answer-form no-places places (t .walked) ∙ ap (λ (f : Fault). (f, places)) (t .none-missing))
-        ∙ ap (λ (f : Fault). (f, places))
-        (is-skip _ _ _ refl ∙ is-skip _ _ _ (ap is-fault (lengths-written fs (t .writable) n ∙ sizes-sound n fs 0 (t .sized))) ∙ is-skip _ _ _ (ap is-fault outcome-sound) ∙ is-skip _ _ _ (t .room))
+        at-next (held _ _ (t .dimension))
+        (rw walk-is (at-next refl (at-next (sym (lengths-written fs (t .writable) n ∙ sizes-sound n fs 0 (t .sized))) (held _ _ (eq-eqb _ _ (t .outcome))))))
 
-    read-is : read-answer-answer n bytes point ≡ (let a = answerOf n bytes places point in (Read (a .0), a .1))
+    read-is : read-answer-answer n bytes point ≡ (Read (answer-at bytes places), fronted (point-at n bytes places) point)
     unfolding read-answer-answer
     read-is =
-        ap
-        (λ (f : Fault × List ℕ).
-        let a = answerOf n bytes (f .1) point in
-        unless (f .0) (λ why place. (Refused why place, point)) (Read (a .0), a .1))
-        fault-is
+        sym (accepts _ _ _ (at-next fault-is (rw walk-is (held _ _ (room-there n bytes places (length point) (t .room))))) (rw walk-is))
 
 -- ---- without a point, and with one
 
@@ -91,7 +83,7 @@ module _ (n s : ℕ) (point : List Float) (dimension : isDimension n ≡ true) (
     steps-read = word-low written 7 2 s _ (omega arith) small (content-written (outcome-field t ∷ []) (steps-field s) fs)
 
   none-again : read-answer-answer n (answer-bytes (record { found = false; steps = s }) []) point ≡ (Read (record { found = false; steps = s }), point)
-  unfolding joined leBytes Each walk-tags missing-fault some rules ruleAt indexIn indexOf ruleLength answerOf pick
+  unfolding joined leBytes Each walk-tags missing-fault some rules ruleAt indexIn indexOf ruleLength pick
   none-again =
       read-is n (outcome-field false ∷ steps-field s ∷ []) head-places point (record {
         dimension = dimension;
@@ -106,7 +98,7 @@ module _ (n s : ℕ) (point : List Float) (dimension : isDimension n ≡ true) (
 
   found-again : (x : List Float) → length x ≡ n → AllF64 x → n ≤ length point
       → read-answer-answer n (answer-bytes (record { found = true; steps = s }) x) point ≡ (Read (record { found = true; steps = s }), fronted x point)
-  unfolding joined leBytes Each walk-tags missing-fault some rules ruleAt indexIn indexOf ruleLength answerOf pick
+  unfolding joined leBytes Each walk-tags missing-fault some rules ruleAt indexIn indexOf ruleLength pick
   found-again x long f64 room =
       let last = point-field x ∷ [] in
       let bytes = answer-bytes (record { found = true; steps = s }) x in
@@ -148,17 +140,14 @@ module _ (n : ℕ) (a : Answer) (x point : List Float) (small : a .steps < 65536
   unfolding write-answer-answer
   written-again out out′ k =
       let bytes = answer-bytes a x in
-      by-test P (not (isDimension n)) _ _ (λ t e. refused-apart _ out out′ k e)
-      (λ t.
-      by-test P (not (eqb (length x) n)) _ _ (λ u e. refused-apart _ out out′ k e)
-      (λ u.
-      by-test P (ltb (length out) (length bytes)) _ _ (λ v e. refused-apart _ out out′ k e)
-      (λ v e.
+      by-tests P (write-answer-tests n a x out) _ _ (λ why place f e. refused-apart why out out′ k e)
+      (λ f e.
+      let s = both-sound (ask (isDimension n) Dimension) (ask (eqb (length x) n) Length) (both-sound (sized n (eqb (length x) n)) (ask (leb (length bytes) (length out)) Room) f .0) in
       let r : Bytes (length bytes) ≡ Bytes k = ap (λ z. z .0) e in
       let k-is : length bytes ≡ k = cc in
       let out-is : over out 0 bytes ≡ out′ = ap (λ z. z .1) e in
       ap (λ (l : List ℕ). read-answer-answer n l point) (rw (← k-is, ← out-is) (front-over out bytes))
-      ∙ answer-again (not-false _ t) (eqb-true _ n (not-false _ u)))))
+      ∙ answer-again (ask-sound (isDimension n) Dimension 0 (s .0)) (eqb-true (length x) n (ask-sound (eqb (length x) n) Length 0 (s .1))))
     where
       P : AnswerWritten × List ℕ → Type 0
       P r = r ≡ (Bytes k, out′) → read-answer-answer n (take k out′) point ≡ (Read a, pick (a .found) (fronted x point) point)

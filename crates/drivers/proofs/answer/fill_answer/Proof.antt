@@ -1,54 +1,52 @@
 -- `drivers::answer::fill_answer` meets its contract. Assumes nothing.
 use mathlib.Core.Path.{_≡_, refl, sym, ap, _∙_}
 use mathlib.Core.Bool.{Bool, true, false, not}
-use mathlib.Core.List.{List, _++_}
+use mathlib.Core.List.{List, [], _++_}
 use Prim.Native.Nat.{ℕ, _≤_}
 use native.Mathlib.Omega.{arith}
 use borrow.Author.Needs.{needs}
 use borrow.Author.Tests.{eq-eqb, ne-eqb}
 use lib.Dec.{eqb}
-use lib.ListN.{length, take, drop, getD, length-append, length-drop}
+use lib.ListN.{length, take, drop, length-append, length-drop}
 use lib.Seq.{length-take-le}
 use lib.Ieee.{Float}
-use Rattle.numbers.specs.Pick.{pick}
 use Rattle.numbers.specs.laws.Arr.{length-tab}
-use Rattle.numbers.specs.laws.Pick.{hit, skip}
-use Rattle.drivers.specs.Record.{halfAt, numbersAt, fronted}
-use Rattle.drivers.specs.Answer.{has-point, answerOf}
+use Rattle.numbers.specs.laws.Pick.{is-hit, is-skip}
+use Rattle.drivers.specs.Rules.{steps-tag, found-tag}
+use Rattle.drivers.specs.Record.{halfAt, numberAt, numbersAt, place, fronted}
+use Rattle.drivers.specs.Answer.{has-point, answer-at, point-at}
 use Rattle.drivers.specs.declared.answer.Answer.{Answer}
 use Rattle.drivers.proofs.answer.fill_answer.Statement.{statement}
 use Rattle.drivers.proofs.answer.fill_answer.Tie as tie
 
-module _ (n : ℕ) (bytes places : List ℕ) (point : List Float) (h : ℕ) (e : h ≡ halfAt bytes (getD places 10 0)) where
-  none : getD places 11 0 ≡ 0 → (record { found = false; steps = h }, point) ≡ answerOf n bytes places point
-  unfolding answerOf
+module _ (n : ℕ) (bytes places : List ℕ) (point : List Float) (h : ℕ) (e : h ≡ halfAt bytes (place places steps-tag)) where
+  abbrev Right : Answer → List Float → Type 0
+  Right a out = (a ≡ answer-at bytes places) × (out ≡ fronted (point-at n bytes places) point)
+
+  none : place places found-tag ≡ 0 → Right (record { found = false; steps = h }) point
   none z =
-      let p : has-point places ≡ false = ap not (eq-eqb (getD places 11 0) 0 z) in
-      ap (λ (k : ℕ). (record { found = false; steps = k }, point)) e
-      ∙ (λ i. (record { found = sym p i; steps = halfAt bytes (getD places 10 0) }, skip (has-point places) (fronted (numbersAt bytes (getD places 11 0) n) point) point point p refl i))
+      let p : has-point places ≡ false = ap not (eq-eqb (place places found-tag) 0 z) in
+      let q : point-at n bytes places ≡ [] = is-skip (has-point places) (numbersAt bytes (place places found-tag) n) [] p in
+      ((λ i. record { found = sym p i; steps = e i }), rw q)
 
   -- the part xs has been filled
-  found : (getD places 11 0 ≡ 0 → ⊥) → (xs : List Float) → xs ≡ numbersAt bytes (getD places 11 0) (length (take n point)) → n ≤ length point
-      → (record { found = true; steps = h }, xs ++ drop n point) ≡ answerOf n bytes places point
-  unfolding answerOf
+  found : (place places found-tag ≡ 0 → ⊥) → (xs : List Float) → xs ≡ numbersAt bytes (place places found-tag) (length (take n point)) → n ≤ length point
+      → Right (record { found = true; steps = h }) (xs ++ drop n point)
   found z xs q l =
-      let p : has-point places ≡ true = ap not (ne-eqb (getD places 11 0) 0 z) in
+      let p : has-point places ≡ true = ap not (ne-eqb (place places found-tag) 0 z) in
       let w : length (take n point) ≡ n = length-take-le n point l in
-      let y : xs ≡ numbersAt bytes (getD places 11 0) n = q ∙ ap (numbersAt bytes (getD places 11 0)) w in
-      let m : length (numbersAt bytes (getD places 11 0) n) ≡ n = length-tab _ n in
-      ap (λ (k : ℕ). (record { found = true; steps = k }, xs ++ drop n point)) e
-      ∙ (λ i. (
-        record { found = sym p i; steps = halfAt bytes (getD places 10 0) },
-        hit (has-point places) (fronted (numbersAt bytes (getD places 11 0) n) point) point (xs ++ drop n point) p (ap (λ (l : List Float). l ++ drop n point) y ∙ ap (λ (k : ℕ). numbersAt bytes (getD places 11 0) n ++ drop k point) (sym m)) i,
-      ))
+      let y : xs ≡ numbersAt bytes (place places found-tag) n = q ∙ ap (numbersAt bytes (place places found-tag)) w in
+      let r : point-at n bytes places ≡ xs = is-hit (has-point places) (numbersAt bytes (place places found-tag) n) [] p ∙ sym y in
+      let m : length xs ≡ n = ap length y ∙ length-tab (λ k. numberAt bytes (place places found-tag) k) n in
+      ((λ i. record { found = sym p i; steps = e i }), rw r (ap (λ (k : ℕ). xs ++ drop k point) (sym m)))
 
 -- a front that was lent and came back
 rejoined : (n : ℕ) (xs point : List Float) → length xs ≡ length (take n point) → n ≤ length point → length (xs ++ drop n point) ≡ length point
 rejoined n xs point e l = length-append xs (drop n point) ∙ omega (arith, e, length-take-le n point l, length-drop n point)
 
 -- a point that is there has room
-roomy : (places : List ℕ) {n : ℕ} {l : ℕ} → (has-point places ≡ true → n ≤ l) → (getD places 11 0 ≡ 0 → ⊥) → n ≤ l
-roomy places h z = h (ap not (ne-eqb (getD places 11 0) 0 z))
+roomy : (places : List ℕ) {n : ℕ} {l : ℕ} → (has-point places ≡ true → n ≤ l) → (place places found-tag ≡ 0 → ⊥) → n ≤ l
+roomy places h z = h (ap not (ne-eqb (place places found-tag) 0 z))
 
 element-copy-out-half-at : tie.Need-element-copy-out-half-at
 element-copy-out-half-at c = search needs

@@ -1,30 +1,36 @@
 -- `drivers::answer::outcome_fault` meets its contract. Assumes nothing.
 use mathlib.Core.Path.{_≡_, refl, ap, _∙_}
-use mathlib.Core.Bool.{not}
 use mathlib.Core.List.{List}
 use Prim.Native.Nat.{ℕ}
+use borrow.Author.Needs.{needs}
 use borrow.Author.Tests.{eq-eqb, ne-eqb}
-use lib.Dec.{eqb}
 use Rattle.numbers.specs.declared.refusal.Refusal.the-variants.{Outcome}
-use Rattle.numbers.specs.laws.Pick.{hit, skip}
-use Rattle.drivers.specs.Record.{tagAt, startOf}
-use Rattle.drivers.specs.Answer.{outcome-byte, outcome-fault}
+use Rattle.numbers.specs.laws.Refusal.{failed, held}
 use Rattle.numbers.specs.declared.refusal.Fault.the-variants.{Sound, At}
+use Rattle.drivers.specs.Rules.{outcome-tag}
+use Rattle.drivers.specs.Record.{tagAt, startOf, place}
+use Rattle.drivers.specs.Answer.{outcome-byte, has-point, outcome-fault}
 use Rattle.drivers.proofs.answer.outcome_fault.Statement.{statement}
 use Rattle.drivers.proofs.answer.outcome_fault.Tie as tie
 
 -- the byte b is read, and w is what it should be
-module _ (bytes : List ℕ) (outcome point b w : ℕ) (e : b ≡ tagAt bytes outcome) (d : w ≡ outcome-byte (not (eqb point 0))) where
-  wrong : (b ≡ w → ⊥) → (s : ℕ) → s ≡ startOf outcome → At Outcome s ≡ outcome-fault bytes outcome point
+module _ (bytes places : List ℕ) (b w : ℕ) (e : b ≡ tagAt bytes (place places outcome-tag)) (d : w ≡ outcome-byte (has-point places)) where
+  wrong : (b ≡ w → ⊥) → (s : ℕ) → s ≡ startOf (place places outcome-tag) → At Outcome s ≡ outcome-fault bytes places
   unfolding outcome-fault
-  wrong h s q = ap (At Outcome) q ∙ rw (← e, ← d) (hit _ _ _ _ (ap not (ne-eqb b w h)) refl)
+  wrong h s q = ap (At Outcome) q ∙ rw (← e, ← d) (failed (ne-eqb b w h))
 
-  right : b ≡ w → Sound ≡ outcome-fault bytes outcome point
+  right : b ≡ w → Sound ≡ outcome-fault bytes places
   unfolding outcome-fault
-  right h = rw (← e, ← d) (skip _ _ _ _ (ap not (eq-eqb b w h)) refl)
+  right h = rw (← e, ← d) (held Outcome _ (eq-eqb b w h))
+
+element-copy-out-outcome : tie.Need-element-copy-out-outcome
+element-copy-out-outcome c = search needs
 
 tag-at-requires : tie.Need-tag-at-requires
 tag-at-requires c κs = tt
+
+element-copy-out-outcome-byte : tie.Need-element-copy-out-outcome-byte
+element-copy-out-outcome-byte c = search needs
 
 outcome-byte-requires : tie.Need-outcome-byte-requires
 outcome-byte-requires c κs = tt
@@ -33,16 +39,12 @@ start-of-requires : tie.Need-start-of-requires
 start-of-requires c κs = tt
 
 returns : tie.Need-returns
-returns c =
-    let o = c .before .before in
-    let a = o .before .before .before .args in
-    wrong (a .bytes .now) (a .outcome) (a .point) _ _ (o .before .tag-at .ensures) (o .outcome-byte .ensures) (c .before .if1 .taken) _ (c .start-of .ensures)
+returns c = let o = c .before .before in wrong _ _ _ _ (o .before .before .tag-at .ensures) (o .outcome-byte .ensures) (c .before .if1 .taken) _ (c .start-of .ensures)
 
 returns-2 : tie.Need-returns-2
-returns-2 c =
-    let o = c .before in
-    let a = o .before .before .before .args in
-    right (a .bytes .now) (a .outcome) (a .point) _ _ (o .before .tag-at .ensures) (o .outcome-byte .ensures) (c .if1 .left)
+returns-2 c = let o = c .before in right _ _ _ _ (o .before .before .tag-at .ensures) (o .outcome-byte .ensures) (c .if1 .left)
 
 pub outcome-fault-spec : {M : Type 1} → statement M
-outcome-fault-spec = tie.close (tie.spec tag-at-requires outcome-byte-requires start-of-requires returns returns-2)
+outcome-fault-spec =
+    tie.close
+    (tie.spec element-copy-out-outcome tag-at-requires element-copy-out-outcome-byte outcome-byte-requires start-of-requires returns returns-2)
