@@ -15,13 +15,22 @@ use lists::rooms::fill;
 use lists::rooms::front;
 use lists::rooms::part;
 use lists::rooms::plus;
+use lists::signed::signed_at;
 use lists::tally::Replayed;
 use lists::words::word;
 use oracles::lowpass_oracle::LowpassOracle;
+use oracles::round_robin::RoundRobin;
 
-// A case can tell cursors of other bands than its groups', which no job has: −1, which is refused by the same number, stands for them.
-fn nwpass_of(told: LowpassOracle, rows: usize) -> i32 {
-    if told.bands_fit(rows) {
+fn is_over(rr: RoundRobin, lo: i32, hi: i32) -> bool {
+    (rr.lo == lo) & (rr.hi == hi)
+}
+
+// A case can tell cursors of other bands than its groups', which no job has: −1, which is refused by the same number, stands for them. Wrong bands that a job can have stay.
+fn nwpass_of(inputs: &[u8], told: LowpassOracle) -> i32 {
+    let first = is_over(told.rr1, 0, told.nwpass);
+    let second = is_over(told.rr2, told.nwpass, told.nwstop);
+    let third = is_over(told.rr3, told.nwstop, signed_at(inputs, 1));
+    if first & second & third {
         return told.nwpass;
     }
     -1
@@ -29,15 +38,14 @@ fn nwpass_of(told: LowpassOracle, rows: usize) -> i32 {
 
 // A job with its numbers in words 0, 1 and 6 on; kappa and the options are not asked for.
 fn job_of(inputs: &[u8]) -> Job {
-    let rows = word(inputs, 1) as usize;
     let told = oracle_of(inputs, state_told(6));
     let rr1 = told.rr1;
     let rr2 = told.rr2;
     let rr3 = told.rr3;
     Job {
         n: word(inputs, 0) as usize,
-        rows: rows,
-        nwpass: nwpass_of(told, rows),
+        rows: word(inputs, 1) as usize,
+        nwpass: nwpass_of(inputs, told),
         nwstop: told.nwstop,
         lp_sq: told.lp_sq,
         up_sq: told.up_sq,
