@@ -2,7 +2,7 @@
 use Prim.Native.Nat.{ℕ, suc, _+_, _≤_, _<_}
 use mathlib.Core.Path.{_≡_, refl, sym, ap, _∙_}
 use mathlib.Core.List.{List, [], _∷_, _++_, append-assoc, append-nil}
-use native.Mathlib.Nat.{add-zero}
+use native.Mathlib.Nat.{add-zero, zero-add}
 use native.Mathlib.Omega.{arith}
 use lib.ListN.{length, take, drop, set, length-append, length-drop, take-append-drop}
 use lib.Seq.{take-at, drop-at, take-append-le, take-take, drop-append-add, drop-drop, set-split, length-take-le, append-snoc}
@@ -39,6 +39,11 @@ module _ {ℓ} {X : Type ℓ} where
     pub read-over : drop at (over out at xs) ≡ xs ++ drop (at + length xs) out
     unfolding over
     read-over = ap (drop at) (append-assoc (take at out) xs (drop (at + length xs) out)) ∙ drop-at (take at out) (xs ++ drop (at + length xs) out) at (length-take-le at out (omega arith))
+
+  -- at the front
+  pub over-front : (out new : List X) → over out 0 new ≡ new ++ drop (length new) out
+  unfolding over
+  over-front out new = ap (λ (n : ℕ). new ++ drop n out) (zero-add (length new))
 
   pub front-over : (out new : List X) → take (length new) (over out 0 new) ≡ new
   unfolding over
