@@ -3,11 +3,12 @@ use Prim.Native.Nat.{ℕ, zero, suc, _+_, _-_, _*_, _/_, _%_, _^_}
 use mathlib.Core.Bool.{Bool, not, _&&_}
 use mathlib.Core.List.{List, [], _∷_, _++_}
 use lib.Dec.{leb, ltb, eqb}
-use lib.ListN.{length, take, drop, getD, set, replicate}
+use lib.ListN.{length, drop, getD, set, replicate}
 use lib.Ieee.{Float}
 use Rattle.numbers.specs.Pick.{pick, some}
 use Rattle.numbers.specs.Bits.{floatOf, wordAt}
 use Rattle.numbers.specs.Arr.{tab}
+use Rattle.numbers.specs.Over.{over}
 use Rattle.numbers.specs.Refusal.{is-fault, _⨾_, ask-at}
 use Rattle.numbers.specs.declared.refusal.Refusal.the-variants.{Length, CutShort, ForeignTag, RepeatedTag, MissingTag}
 use Rattle.numbers.specs.declared.refusal.Fault.{Fault}
@@ -133,9 +134,4 @@ rows-of n bytes (at ∷ rest) = pick (is-row bytes at) (numbersAt bytes (content
 
 -- numbers at the front of a list, whose rest stays
 abbrev pub fronted : List Float → List Float → List Float
-fronted xs out = xs ++ drop (length xs) out
-
--- the table when rows fill it up to k and the next field has been seen
-unfoldable pub row-filled : List ℕ → ℕ → ℕ → ℕ → List Float → ℕ × List Float
-row-filled bytes at n k table =
-    pick (is-row bytes at) (k + n, take k table ++ numbersAt bytes (contentOf bytes at) n ++ drop (k + n) table) (k, table)
+fronted xs out = over out 0 xs

@@ -31,9 +31,10 @@ use oracles::scan::is_rows;
 ghost use mathlib.Core.Path.{_≡_};
 ghost use Prim.Native.Nat.{_*_, _+_, _≤_, _<_};
 ghost use lib.ListN.{length};
-ghost use Rattle.drivers.specs.Record.{fields-of, no-places, numbersAt, row-count, rows-in, rows-of, row-filled, fronted, place};
+ghost use Rattle.drivers.specs.Record.{fields-of, no-places, numbersAt, row-count, rows-in, rows-of, fronted, place};
 ghost use Rattle.drivers.specs.Job.{signed, partOf, row-end, job-oracle, optionsOf, job-at, full-job-at, job-walk, size-fault, job-fault, has-room, read-into, read-job-answer};
 ghost use Rattle.drivers.specs.Rules.{matrix-tag, point-tag};
+ghost use Rattle.drivers.specs.laws.Record.{row-filled};
 ghost use Rattle.numbers.specs.declared.refusal.Fault.the-variants.{Sound};
 
 // What a job record keeps, beside its row table, its point and its matrix, which the reader writes into slices.
@@ -209,7 +210,7 @@ fn has_room(job: Job, table: usize, xc: usize, mq: usize) -> bool
 
 // A field's numbers from table[k] on, if it is a row; where the next row is to stand.
 fn fill_row(bytes: &[u8], at: usize, n: usize, k: usize, table: &mut [f64]) -> usize
-    requires { ⌜ (at < length (now bytes)) × (n ≤ 32) × (k + rows-in (now bytes) at * n ≤ length (now table)) ⌝ }
+    requires { ⌜ (at < length (now bytes)) × (n ≤ 1024) × (k + rows-in (now bytes) at * n ≤ length (now table)) ⌝ }
     ensures { λ r. ⌜ (r, now (table .exit)) ≡ row-filled (now (bytes .entry)) at n k (now (table .entry)) ⌝ }
 {
     if !is_row(bytes, at) {
@@ -222,7 +223,7 @@ fn fill_row(bytes: &[u8], at: usize, n: usize, k: usize, table: &mut [f64]) -> u
 
 // The rows, in the order of arrival, to the front of the table.
 fn fill_table(bytes: &[u8], n: usize, table: &mut [f64])
-    requires { ⌜ (n ≤ 32) × (row-count (now bytes) (fields-of (now bytes)) * n ≤ length (now table)) ⌝ }
+    requires { ⌜ (n ≤ 1024) × (row-count (now bytes) (fields-of (now bytes)) * n ≤ length (now table)) ⌝ }
     ensures { λ _. ⌜ now (table .exit) ≡ fronted (rows-of n (now (bytes .entry)) (fields-of (now (bytes .entry)))) (now (table .entry)) ⌝ }
 {
     let mut at = 0;

@@ -26,6 +26,7 @@ use Rattle.drivers.specs.declared.job.Job.{Job}
 use Rattle.drivers.specs.declared.job.JobAnswer.the-variants.{Read}
 use Rattle.numbers.specs.laws.Pick.{is-hit, both-ways}
 use Rattle.numbers.specs.laws.Refusal.{held, at-next, accepts}
+use Rattle.numbers.specs.laws.Over.{front-over}
 
 -- An answer, r, to a job whose point is x. Its steps are within the job's limit. A point that is found is feasible for the job.
 -- Where the limit allows a step, an answer without a point belongs to the job too: its own point is not feasible.
@@ -67,7 +68,7 @@ module _ (j : Job) (h : JobSound j) (table : List Float) (b : EllBuffers) (grad 
       point-is f =
           let xc = r .1 .buffers .xc in
           let t : (is-found (r .0) && leb (length xc) (length best)) ≡ true = rw (e .answer-is, f) (le-leb (length xc) (length best) (omega (arith, xc-long))) in
-          ap (λ (l : List Float). take (j .n) l) (is-hit _ (fronted xc best) best t) ∙ take-at xc (drop (length xc) best) (j .n) xc-long
+          ap (λ (l : List Float). take (j .n) l) (is-hit _ (fronted xc best) best t) ∙ ap (λ (k : ℕ). take k (fronted xc best)) (sym xc-long) ∙ front-over best xc
 
       found : e .answer .found ≡ true → feasible-for j table (take (j .n) (kept (is-found (r .0)) (r .1 .buffers .xc) best)) ≡ true
       found f =

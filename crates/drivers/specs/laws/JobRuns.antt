@@ -35,6 +35,7 @@ use Rattle.drivers.specs.declared.job.JobAnswer.the-variants.{Read, Refu
 use Rattle.drivers.specs.declared.trace.Run.{Run}
 use Rattle.drivers.specs.declared.trace.NewRun.the-variants.{Made}
 use Rattle.drivers.specs.Rules.{matrix-tag, point-tag}
+use Rattle.numbers.specs.laws.Over.{length-over}
 
 -- the slices that a job's numbers are read into
 pub record JobHeld (j : Job) (table xc mq : List Float) : Type 0 where
@@ -54,10 +55,6 @@ rows-long n bytes [] = sym (zero-mul n)
 rows-long n bytes (at ∷ rest) =
     length-append (pick (is-row bytes at) (numbersAt bytes (contentOf bytes at) n) []) (rows-of n bytes rest)
     ∙ omega (arith, row-long (is-row bytes at) n (numbersAt bytes (contentOf bytes at) n) (length-tab _ n), rows-long n bytes rest, add-mul (rows-in bytes at) (row-count bytes rest) n)
-
--- numbers put at the front of a list that has room for them change no length
-length-fronted : (xs out : List Float) → length xs ≤ length out → length (fronted xs out) ≡ length out
-length-fronted xs out h = length-append xs (drop (length xs) out) ∙ omega (arith, length-drop (length xs) out)
 
 -- the numbers of a job are as many as it says
 pub record FullLong (f : FullJob) : Type 0 where
@@ -86,9 +83,9 @@ room-held f table xc mq l h =
     let x = leb-true (j .n) (length xc) (b .1) in
     let m = leb-true (j .n * j .n) (length mq) (a .1) in
     record {
-      table-long = rw (length-fronted (f .table) table (rw (l .table-is) t)) t;
-      xc-long = rw (length-fronted (f .point) xc (rw (l .point-is) x)) x;
-      mq-long = rw (length-fronted (f .matrix) mq (rw (l .matrix-is) m)) m;
+      table-long = rw (length-over table 0 (f .table) (omega (arith, l .table-is, t))) t;
+      xc-long = rw (length-over xc 0 (f .point) (omega (arith, l .point-is, x))) x;
+      mq-long = rw (length-over mq 0 (f .matrix) (omega (arith, l .matrix-is, m))) m;
     }
 
 module _ (bytes : List ℕ) (table xc mq : List Float) where

@@ -20,18 +20,19 @@ use Rattle.drivers.specs.laws.StepRight.{right-fits}
 use Rattle.drivers.specs.laws.OptimRight.{offer-asked, Keeps, Passes, optim-step-right}
 use Rattle.numbers.specs.declared.refusal.Fault.the-variants.{Sound}
 use Rattle.numbers.specs.laws.Pick.{or-parts, is-hit, by-test}
+use Rattle.numbers.specs.laws.Over.{front-over, length-over}
 
 -- ---- the best point
 
 kept-long : (xc best : List Float) → length (kept true xc best) ≡ length best
 kept-long xc best =
     by-test (λ (l : List Float). length l ≡ length best) (leb (length xc) (length best)) _ _
-    (λ t. length-append xc (drop (length xc) best) ∙ ap (λ (k : ℕ). length xc + k) (length-drop (length xc) best) ∙ omega (arith, leb-true (length xc) (length best) t))
+    (λ t. length-over best 0 xc (omega (arith, leb-true (length xc) (length best) t)))
     (λ _. refl)
 
 kept-front : (n : ℕ) (xc best : List Float) → length xc ≡ n → n ≤ length best → take n (kept true xc best) ≡ xc
 kept-front n xc best l room =
-    ap (λ (z : List Float). take n z) (is-hit _ (fronted xc best) best (le-leb (length xc) (length best) (omega (arith, l)))) ∙ take-at xc (drop (length xc) best) n l
+    ap (λ (z : List Float). take n z) (is-hit _ (fronted xc best) best (le-leb (length xc) (length best) (omega (arith, l)))) ∙ ap (λ (k : ℕ). take k (fronted xc best)) (sym l) ∙ front-over best xc
 
 -- x is feasible when gamma is the limit of the stop rows, and gamma is its largest stop value
 pub record Tight (o : LowpassOracle) (n rows : ℕ) (table : List Float) (gamma : Float) (x : List Float) : Type 0 where

@@ -57,7 +57,7 @@ limit-small bytes places = omega arith
 
 -- numbers at the front of a list are its front
 front-is : (xs out : List Float) (n : ℕ) → length xs ≡ n → take n (fronted xs out) ≡ xs
-front-is xs out n h = take-at xs (drop (length xs) out) n h
+front-is xs out n h = ap (λ (k : ℕ). take k (fronted xs out)) (sym h) ∙ front-over out xs
 
 -- equal slices, equal texts; a run at step 0 has all its steps left
 run-text-is : (rows : ℕ) (o : _) (e : _) (tolerance : Float) (m : ℕ) (grad grad-t : List Float) {table table′ mq mq′ xc xc′ : List Float} → table ≡ table′ → mq ≡ mq′ → xc ≡ xc′

@@ -13,7 +13,7 @@ use Rattle.numbers.specs.Bits.{leBytes}
 use Rattle.numbers.specs.Over.{over}
 use Rattle.numbers.specs.Arr.{isDimension, sized}
 use Rattle.numbers.specs.Refusal.{_⨾_, ask}
-use Rattle.numbers.specs.laws.Over.{front-over}
+use Rattle.numbers.specs.laws.Over.{over-none, front-over}
 use Rattle.numbers.specs.laws.Bits.{word-low}
 use Rattle.numbers.specs.laws.Arr.{dimension-most}
 use Rattle.numbers.specs.laws.Refusal.{both-sound, ask-sound, held, at-next, accepts, by-tests}
@@ -94,7 +94,7 @@ module _ (n s : ℕ) (point : List Float) (dimension : isDimension n ≡ true) (
         outcome = outcome-read false (omega arith) [];
         room = refl;
       })
-      ∙ ap (λ (k : ℕ). (Read (record { found = false; steps = k }), point)) (steps-read false (omega arith) [])
+      ∙ (λ i. (Read (record { found = false; steps = steps-read false (omega arith) [] i }), over-none point 0 i))
 
   found-again : (x : List Float) → length x ≡ n → AllF64 x → n ≤ length point
       → read-answer-answer n (answer-bytes (record { found = true; steps = s }) x) point ≡ (Read (record { found = true; steps = s }), fronted x point)

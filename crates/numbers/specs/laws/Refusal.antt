@@ -27,11 +27,6 @@ pub both-sound : (f g : Fault) → (f ⨾ g) ≡ Sound → (f ≡ Sound) × (g �
 both-sound Sound g e = (refl, sym (is-skip _ _ _ refl) ∙ e)
 both-sound (At why place) g e = absurd (true≢false (ap is-fault (sym (is-hit true (At why place) g refl) ∙ e)))
 
--- a test before other faults that no fault comes from
-pub test-sound : (t : Bool) (why : Refusal) (place : ℕ) (g : Fault) → pick (not t) (At why place) g ≡ Sound → (t ≡ true) × (g ≡ Sound)
-test-sound true why place g e = (refl, sym (is-skip _ _ _ refl) ∙ e)
-test-sound false why place g e = absurd (true≢false (ap is-fault (sym (is-hit true (At why place) g refl) ∙ e)))
-
 -- ---- a chain of tests, a test at a time: what it finds
 
 -- a test that fails, and one that holds

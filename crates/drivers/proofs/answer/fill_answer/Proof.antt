@@ -18,6 +18,7 @@ use Rattle.drivers.specs.Answer.{has-point, answer-at, point-at}
 use Rattle.drivers.specs.declared.answer.Answer.{Answer}
 use Rattle.drivers.proofs.answer.fill_answer.Statement.{statement}
 use Rattle.drivers.proofs.answer.fill_answer.Tie as tie
+use Rattle.numbers.specs.laws.Over.{over-none, over-front}
 
 module _ (n : ℕ) (bytes places : List ℕ) (point : List Float) (h : ℕ) (e : h ≡ halfAt bytes (place places steps-tag)) where
   abbrev Right : Answer → List Float → Type 0
@@ -27,7 +28,7 @@ module _ (n : ℕ) (bytes places : List ℕ) (point : List Float) (h : ℕ) (e :
   none z =
       let p : has-point places ≡ false = ap not (eq-eqb (place places found-tag) 0 z) in
       let q : point-at n bytes places ≡ [] = is-skip (has-point places) (numbersAt bytes (place places found-tag) n) [] p in
-      ((λ i. record { found = sym p i; steps = e i }), rw q)
+      ((λ i. record { found = sym p i; steps = e i }), rw q (sym (over-none point 0)))
 
   -- the part xs has been filled
   found : (place places found-tag ≡ 0 → ⊥) → (xs : List Float) → xs ≡ numbersAt bytes (place places found-tag) (length (take n point)) → n ≤ length point
@@ -38,7 +39,7 @@ module _ (n : ℕ) (bytes places : List ℕ) (point : List Float) (h : ℕ) (e :
       let y : xs ≡ numbersAt bytes (place places found-tag) n = q ∙ ap (numbersAt bytes (place places found-tag)) w in
       let r : point-at n bytes places ≡ xs = is-hit (has-point places) (numbersAt bytes (place places found-tag) n) [] p ∙ sym y in
       let m : length xs ≡ n = ap length y ∙ length-tab (λ k. numberAt bytes (place places found-tag) k) n in
-      ((λ i. record { found = sym p i; steps = e i }), rw r (ap (λ (k : ℕ). xs ++ drop k point) (sym m)))
+      ((λ i. record { found = sym p i; steps = e i }), rw r (ap (λ (k : ℕ). xs ++ drop k point) (sym m) ∙ sym (over-front point xs)))
 
 -- a front that was lent and came back
 rejoined : (n : ℕ) (xs point : List Float) → length xs ≡ length (take n point) → n ≤ length point → length (xs ++ drop n point) ≡ length point

@@ -1,5 +1,5 @@
 -- `drivers::cutting_plane::keep` meets its contract. The invariant: the loop has written the numbers below i. Assumes nothing.
-use mathlib.Core.Path.{_≡_, refl, ap, _∙_}
+use mathlib.Core.Path.{_≡_, refl, ap, _∙_, sym}
 use mathlib.Core.Bool.{Bool, true, false, not, _&&_}
 use mathlib.Core.List.{List, _++_}
 use Prim.Native.Nat.{ℕ, _≤_, _<_, _-_}
@@ -16,6 +16,7 @@ use Rattle.numbers.specs.laws.Pick.{hit, skip, and-parts}
 use Rattle.drivers.specs.CuttingPlane.{kept}
 use Rattle.drivers.proofs.cutting_plane.keep.Statement.{statement}
 use Rattle.drivers.proofs.cutting_plane.keep.Tie as tie
+use Rattle.numbers.specs.laws.Over.{over-front}
 
 -- there is room
 room : (is-kept : Bool) (xc best : List Float) → not (is-kept && leb (length xc) (length best)) ≡ false → length xc ≤ length best
@@ -26,7 +27,7 @@ done : (is-kept : Bool) (xc best₀ best : List Float) (i : ℕ) → not (is-kep
     → i ≡ length xc → best ≡ kept is-kept xc best₀
 done is-kept xc best₀ best i h f e =
     hit _ _ _ _ (not-false _ h)
-    (f .is ∙ rw e (ap (λ (l : List Float). l ++ drop (length xc) best₀) (tab-getD xc nan (length xc) (omega arith) ∙ take-all (length xc) xc (omega arith))))
+    (f .is ∙ rw e (ap (λ (l : List Float). l ++ drop (length xc) best₀) (tab-getD xc nan (length xc) (omega arith) ∙ take-all (length xc) xc (omega arith))) ∙ sym (over-front best₀ xc))
 
 abbrev Inv-loop : tie.InvT-loop
 Inv-loop is-kept xc x-best₀ i₀ x-best i = FilledTo (λ k. getD xc k nan) x-best₀ x-best i × (i ≤ length xc)

@@ -1,5 +1,5 @@
 -- `drivers::job::fill_job` meets its contract. Assumes nothing.
-use mathlib.Core.Path.{_≡_, sym}
+use mathlib.Core.Path.{_≡_, sym, _∙_}
 use mathlib.Core.List.{List, _++_}
 use Prim.Native.Nat.{ℕ, _≤_, _*_}
 use native.Mathlib.Nat.{mul-le-mul}
@@ -12,10 +12,13 @@ use Rattle.drivers.specs.Record.{numberAt, numbersAt, fronted}
 use borrow.Author.Needs.{needs}
 use Rattle.drivers.proofs.job.fill_job.Statement.{statement}
 use Rattle.drivers.proofs.job.fill_job.Tie as tie
+use Rattle.numbers.specs.laws.Over.{over-front}
 
 -- numbers that were written to the front
 front : (bytes : List ℕ) (p m : ℕ) (ys out : List Float) → ys ≡ numbersAt bytes p (length (take m out)) → m ≤ length out → ys ++ drop m out ≡ fronted (numbersAt bytes p m) out
-front bytes p m ys out e h = rw (e, length-take-le m out h, length-tab (λ j. numberAt bytes p j) m)
+front bytes p m ys out e h =
+    let q : ys ++ drop m out ≡ numbersAt bytes p m ++ drop (length (numbersAt bytes p m)) out = rw (e, length-take-le m out h, length-tab (λ j. numberAt bytes p j) m) in
+    q ∙ sym (over-front out (numbersAt bytes p m))
 
 square : (n : ℕ) → n ≤ 32 → n * n ≤ 1024
 square n h = mul-le-mul h h
@@ -24,7 +27,7 @@ mul-nn : tie.Need-mul-nn
 mul-nn c = let h = square _ (c .before .before .before .before .pre .0) in record { fits = omega arith }
 
 fill-table-requires : tie.Need-fill-table-requires
-fill-table-requires c κs = let s = c .before .before .before .before .before in (s .pre .0, s .pre .1)
+fill-table-requires c κs = let s = c .before .before .before .before .before in (omega (arith, s .pre .0), s .pre .1)
 
 element-copy-out-numbers-into : tie.Need-element-copy-out-numbers-into
 element-copy-out-numbers-into c = search needs

@@ -8,7 +8,8 @@ use borrow.Rule.Slice.PartMut.{putMid}
 use lib.ListN.{length, take, drop, length-drop}
 use lib.Seq.{length-take-le, drop-drop}
 use lib.Ieee.{Float}
-use Rattle.drivers.specs.Record.{contentOf, numbersAt, is-row, rows-in, row-filled}
+use Rattle.drivers.specs.Record.{contentOf, numbersAt, is-row, rows-in}
+use Rattle.drivers.specs.laws.Record.{row-filled}
 use borrow.Author.Needs.{needs}
 use Rattle.drivers.proofs.job.fill_row.Statement.{statement}
 use Rattle.drivers.proofs.job.fill_row.Tie as tie

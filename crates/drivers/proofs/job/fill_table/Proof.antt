@@ -10,11 +10,12 @@ use lib.Ieee.{Float}
 use Rattle.numbers.specs.Pick.{pick}
 use Rattle.numbers.specs.laws.Arr.{length-tab}
 use Rattle.numbers.specs.laws.Pick.{is-hit, is-skip, by-test}
-use Rattle.drivers.specs.Record.{contentOf, numberAt, numbersAt, after, fields-of, is-row, rows-in, row-count, rows-of, fronted, row-filled}
-use Rattle.drivers.specs.laws.Record.{fields-after, fields-start, fields-turn, fields-end, left-less}
+use Rattle.drivers.specs.Record.{contentOf, numberAt, numbersAt, after, fields-of, is-row, rows-in, row-count, rows-of, fronted}
+use Rattle.drivers.specs.laws.Record.{fields-after, fields-start, fields-turn, fields-end, left-less, row-filled}
 use borrow.Author.Needs.{needs}
 use Rattle.drivers.proofs.job.fill_table.Statement.{statement}
 use Rattle.drivers.proofs.job.fill_table.Tie as tie
+use Rattle.numbers.specs.laws.Over.{over-front}
 
 -- the fields before `at` have filled the table up to k
 record Filling (bytes : List ℕ) (n : ℕ) (table₀ : List Float) (at : ℕ) (kt : ℕ × List Float) : Type 0 where
@@ -91,7 +92,7 @@ module _ (bytes : List ℕ) (n : ℕ) (table₀ : List Float) where
       let all = rows-of n bytes (fields-of bytes) in
       let a : take k table ≡ all = sym (append-nil (take k table)) ∙ ap (λ (l : List ℕ). take k table ++ rows-of n bytes l) (sym (fields-end bytes at h)) ∙ f .front in
       let b : length all ≡ k = ap length (sym a) ∙ length-take-le k table (omega (arith, f .room, f .long)) in
-      sym (take-append-drop k table) ∙ (λ i. a i ++ f .rest i) ∙ ap (λ (m : ℕ). all ++ drop m table₀) (sym b)
+      sym (take-append-drop k table) ∙ (λ i. a i ++ f .rest i) ∙ ap (λ (m : ℕ). all ++ drop m table₀) (sym b) ∙ sym (over-front table₀ all)
 
 abbrev Inv-loop : tie.InvT-loop
 Inv-loop bytes n table₀ at₀ k₀ table at k = Filling bytes n table₀ at (k, table)
