@@ -15,7 +15,7 @@ use Rattle.numbers.specs.declared.refusal.Fault.{Fault}
 use Rattle.numbers.specs.declared.refusal.Fault.the-variants.{Sound, At}
 use Rattle.numbers.specs.laws.Pick.{is-hit, is-skip, and-parts}
 use Rattle.numbers.specs.Refusal.{is-fault, _⨾_, ask-at}
-use Rattle.numbers.specs.laws.Refusal.{no-fault, both-sound}
+use Rattle.numbers.specs.laws.Refusal.{no-fault, both-sound, ask-sound}
 use Rattle.oracles.specs.Scan.{none, isRows}
 use Rattle.oracles.specs.LowpassOracle.{start-oracle, isOf, bands-fit, cursors-fit}
 use Rattle.oracles.specs.laws.Start.{start-before}
@@ -25,18 +25,13 @@ use Rattle.drivers.specs.Job.{row-end, job-oracle, job-at, job-walk, siz
 use Rattle.drivers.specs.declared.job.Job.{Job}
 use Rattle.drivers.specs.Rules.{ruleLength, bands-tag, cursors-tag, n-tag}
 
--- a test that no fault comes from
-pub ask-sound : (place : ℕ) (t : Bool) (why : Refusal) → ask-at place t why ≡ Sound → t ≡ true
-ask-sound place true why e = refl
-ask-sound place false why e = absurd (true≢false (ap is-fault (sym (is-skip false Sound (At why place) refl) ∙ e)))
-
 -- the range of a dimension that no fault comes from
 pub size-sound : (rule least : ℕ) (bytes : List ℕ) (p : ℕ) → size-fault rule least bytes p ≡ Sound → (leb least (halfAt bytes p) && leb (halfAt bytes p) 32) ≡ true
 unfolding size-fault
 size-sound rule least bytes p e =
     let own = ask-at (startOf p) (eqb (lengthAt bytes (startOf p)) (ruleLength rule 0)) Length in
     let range = ask-at (startOf p) (leb least (halfAt bytes p) && leb (halfAt bytes p) 32) Dimension in
-    ask-sound (startOf p) _ Dimension (both-sound own range e .1)
+    ask-sound _ Dimension (startOf p) (both-sound own range e .1)
 
 pub size-small : (rule least : ℕ) (bytes : List ℕ) (p : ℕ) (f : Fault) → f ≡ size-fault rule least bytes p → is-fault f ≡ false → halfAt bytes p ≤ 32
 size-small rule least bytes p f e t = leb-true (halfAt bytes p) 32 (and-parts (leb least (halfAt bytes p)) _ (size-sound rule least bytes p (sym e ∙ no-fault f t)) .1)
@@ -92,6 +87,6 @@ sound-job bytes e =
     let s₃ = both-sound f₃ f₄ (both-sound f₂ (f₃ ⨾ f₄) (s₁ .1) .1) in
     record {
       dimension = size-sound n-tag 2 bytes (place places n-tag) (s₁ .0);
-      bands = ask-sound _ _ Band (s₃ .0);
-      cursors = ask-sound _ _ Cursor (s₃ .1);
+      bands = ask-sound _ Band _ (s₃ .0);
+      cursors = ask-sound _ Cursor _ (s₃ .1);
     }

@@ -16,13 +16,13 @@ use Rattle.numbers.specs.laws.Arr.{length-tab}
 use Rattle.numbers.specs.EllCalc.{made}
 use Rattle.numbers.specs.laws.Pick.{and-parts}
 use Rattle.numbers.specs.Refusal.{_⨾_, unless}
-use Rattle.numbers.specs.laws.Refusal.{both-sound}
+use Rattle.numbers.specs.laws.Refusal.{both-sound, ask-sound}
 use Rattle.oracles.specs.Ell.{EllBuffers}
 use Rattle.oracles.specs.laws.EllCalls.{EllLong, ell-makes}
 use Rattle.drivers.specs.Record.{numberAt, numbersAt, fields-of, row-count, rows-of, is-row, rows-in, contentOf, fronted, place}
 use Rattle.drivers.specs.CuttingPlane.{Space, check-space, feas-run}
 use Rattle.drivers.specs.Job.{FullJob, job-oracle, job-at, full-job-at, job-walk, full-job, job-fault, has-room, room-fault, read-job-answer}
-use Rattle.drivers.specs.laws.Job.{JobSound, ask-sound, sound-job}
+use Rattle.drivers.specs.laws.Job.{JobSound, sound-job}
 use Rattle.drivers.specs.Trace.{run-of, new-run-answer, space-of}
 use Rattle.drivers.specs.laws.StepRight.{fits-right}
 use Rattle.drivers.specs.laws.RunEnds.{RunEnded, run-ends}
@@ -97,7 +97,7 @@ module _ (bytes : List ℕ) (table xc mq : List Float) where
       let g = room-fault (f .job) (length table) (length xc) (length mq) in
       go f (job-fault bytes ⨾ g)
       (λ e. let s = both-sound (job-fault bytes) g e in
-      (sound-job bytes (s .0), room-held f table xc mq (full-long bytes (job-walk bytes .1)) (ask-sound 0 (has-room (f .job) (length table) (length xc) (length mq)) Room (s .1))))
+      (sound-job bytes (s .0), room-held f table xc mq (full-long bytes (job-walk bytes .1)) (ask-sound (has-room (f .job) (length table) (length xc) (length mq)) Room 0 (s .1))))
     where
       go : (f : FullJob) (fault : Fault) → (fault ≡ Sound → JobSound (f .job) × JobHeld (f .job) (fronted (f .table) table) (fronted (f .point) xc) (fronted (f .matrix) mq))
           → _≡_ {A = JobAnswer × List Float × List Float × List Float}
