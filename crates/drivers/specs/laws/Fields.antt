@@ -1,21 +1,21 @@
 -- What stands where in a record that was written as a list of fields, and what the walk makes of it: folds over that list. Assumes nothing.
 use Prim.Native.Nat.{ℕ, zero, suc, _+_, _-_, _*_, _/_, _%_, _^_, _≤_, _<_}
 use mathlib.Core.Path.{_≡_, refl, sym, ap, subst, _∙_}
-use mathlib.Core.Bool.{Bool, true, false, not, _&&_}
+use mathlib.Core.Bool.{Bool, true, false, not, _&&_, true≢false}
 use mathlib.Core.List.{List, [], _∷_, _++_, map, append-assoc, map-append}
-use native.Mathlib.Nat.{pow-zero, pow-suc, one-mul}
+use native.Mathlib.Nat.{add-zero, pow-zero, pow-suc, one-mul}
 use native.Mathlib.Omega.{arith}
-use borrow.Author.Tests.{le-leb, le-ltb, eq-eqb, eqb-true}
+use borrow.Author.Tests.{le-leb, le-ltb, eq-eqb, eqb-true, not-true}
 use lib.Dec.{T, leb, eqb}
-use lib.ListN.{length, take, drop, getD, length-append, length-drop}
-use lib.Seq.{take-at, take-append-le, drop-append-add, drop-append-le, drop-at, drop-drop}
+use lib.ListN.{length, take, drop, getD, set, length-append, length-drop}
+use lib.Seq.{take-at, set-getD, take-append-le, drop-append-add, drop-append-le, drop-at, drop-drop}
 use lib.Ieee.{Float, nan, binary64, fits}
 use lib.Ieee.Bits.{ofBits-toBits, toBits-lt}
 use Rattle.numbers.specs.Pick.{pick}
 use Rattle.numbers.specs.Bits.{floatOf, bitsOf, leNumber, leBytes, wordAt}
 use Rattle.numbers.specs.laws.Bits.{length-bytes, bytes-again, word-low}
 use Rattle.numbers.specs.laws.Arr.{tab-ext, tab-cong}
-use Rattle.numbers.specs.laws.Pick.{is-skip, pick-cong}
+use Rattle.numbers.specs.laws.Pick.{is-hit, is-skip, pick-cong}
 use Rattle.numbers.specs.Refusal.{is-fault, _⨾_, ask-at}
 use Rattle.numbers.specs.declared.refusal.Refusal.the-variants.{Length, CutShort, ForeignTag, RepeatedTag}
 use Rattle.numbers.specs.declared.refusal.Fault.{Fault}
@@ -195,6 +195,42 @@ count-rows (f ∷ fs) = pick (is-row-field f) 1 0 + count-rows fs
 unfoldable pub all-rows : ℕ → List Field → List Float
 all-rows n [] = []
 all-rows n (f ∷ fs) = pick (is-row-field f) (numbersAt (f .1) 0 n) [] ++ all-rows n fs
+
+-- ---- the walk over some fields and then others, and over fields of one tag that may repeat
+
+first-sound : (g : Fault) (places : List ℕ) (r : Fault × List ℕ) (places′ : List ℕ) → pick (is-fault g) (g, places) r ≡ (Sound, places′) → is-fault g ≡ false
+first-sound Sound places r places′ e = refl
+first-sound (At why place) places r places′ e = absurd (true≢false (ap (λ (z : Fault × List ℕ). is-fault (z .0)) (sym (is-hit true (At why place, places) r refl) ∙ e)))
+
+pub walk-on : (form : Form) (fs gs : List Field) (at : ℕ) (places places′ : List ℕ) → walk-tags form at fs places ≡ (Sound, places′)
+    → walk-tags form at (fs ++ gs) places ≡ walk-tags form (at + length (record-bytes fs)) gs places′
+unfolding walk-tags joined
+walk-on form [] gs at places places′ e = (λ i. walk-tags form (sym (add-zero at) i) gs (e i .1))
+walk-on form (f ∷ fs) gs at places places′ e =
+    let g = tag-fault form places at (indexOf (f .0)) in
+    let n : past at f + length (record-bytes fs) ≡ at + length (record-bytes (f ∷ fs)) = omega (arith, length-append (field-bytes f) (record-bytes fs), length-field f) in
+    let t = first-sound g places (walk-tags form (past at f) fs (noted places (indexOf (f .0)) (at + 3))) places′ e in
+    is-skip (is-fault g) (g, places) _ t ∙ walk-on form fs gs (past at f) (noted places (indexOf (f .0)) (at + 3)) places′ (sym (is-skip (is-fault g) (g, places) _ t) ∙ e)
+    ∙ ap (λ (k : ℕ). walk-tags form k gs places′) n
+
+pub noted-met : (places : List ℕ) (i p : ℕ) → is-met places i ≡ true → noted places i p ≡ places
+noted-met places i p h = ap (set places i) (is-skip _ _ _ (not-true _ h)) ∙ set-getD places i 0
+
+pub walk-many : (form : Form) (i : ℕ) (fs : List Field) (at : ℕ) (places : List ℕ) → is-of form i ≡ true → repeats i ≡ true → is-met places i ≡ true → Each (λ f. indexOf (f .0) ≡ i) fs
+    → walk-tags form at fs places ≡ (Sound, places)
+unfolding walk-tags Each
+walk-many form i [] at places o r m h = refl
+walk-many form i (f ∷ fs) at places o r m h =
+    let e : indexOf (f .0) ≡ i = h .0 in
+    is-skip _ _ _ (ap is-fault (ap (tag-fault form places at) e ∙ sound))
+    ∙ ap (walk-tags form (past at f) fs) (ap (λ (k : ℕ). noted places k (at + 3)) e ∙ noted-met places i (at + 3) m) ∙ walk-many form i fs (past at f) places o r m (h .1)
+  where
+    not-and : (b : Bool) → not (b && false) ≡ true
+    not-and true = refl
+    not-and false = refl
+
+    sound : tag-fault form places at i ≡ Sound
+    sound = is-skip _ _ _ (ap is-fault (is-hit _ _ _ o)) ∙ is-hit _ _ _ (ap (λ (b : Bool). not (is-met places i && not b)) r ∙ not-and (is-met places i))
 
 -- ---- and what is read in a record whose bytes from `at` on are theirs
 
