@@ -5,6 +5,7 @@ use Prim.Native.Nat.{ℕ, _≤_}
 use mathlib.Core.Path.{_≡_, refl, sym, ap, _∙_}
 use mathlib.Core.Bool.{Bool, true, false, not, true≢false, _&&_}
 use mathlib.Core.List.{List}
+use lib.ListN.{length}
 use mathlib.Core.Logic.{_⊎_}
 use native.Mathlib.Omega.{arith}
 use borrow.Author.Tests.{eqb-true, leb-true}
@@ -14,7 +15,7 @@ use lib.Ieee.{Float}
 use Rattle.numbers.specs.Pick.{pick}
 use Rattle.numbers.specs.Refusal.{refusalNumber, is-fault, _⨾_, unless, fault-number, ask}
 use Rattle.numbers.specs.laws.Pick.{is-hit, is-skip, by-test}
-use Rattle.numbers.specs.laws.Refusal.{both-sound, ask-sound, number-is, by-tests}
+use Rattle.numbers.specs.laws.Refusal.{both-sound, ask-sound, number-is, by-tests, refuses as refused-at}
 use Rattle.numbers.specs.Arr as arr
 use Rattle.numbers.specs.EllCalc as calc
 use Rattle.oracles.specs.RoundRobin as cursor
@@ -54,14 +55,17 @@ use Rattle.drivers.specs.Trace as trace
 use Rattle.drivers.specs.Job as jobs
 use Rattle.drivers.specs.Answer as answers
 use Rattle.drivers.specs.Belongs as belonging
+use Rattle.drivers.specs.Program as filterrun
 use Rattle.drivers.specs.Numbered.{feas-number, optim-number, job-number, read-number, bytes-number, belonging-number, text-number}
-use Rattle.drivers.specs.laws.RunEnds.{run-ends}
+use Rattle.drivers.specs.laws.RunEnds.{RunEnded, run-ends}
 use Rattle.drivers.specs.laws.OptimEnds.{OptimRunEnded, optim-answered}
 use Rattle.drivers.specs.declared.cutting_plane.Options.{Options}
 use Rattle.drivers.specs.declared.cutting_plane.OptimAnswer.the-variants.{Refused as NotRunOptim}
 use Rattle.drivers.specs.declared.trace.Run.{Run}
 use Rattle.drivers.specs.declared.trace.Printed.{Printed}
 use Rattle.drivers.specs.declared.job.Job.{Job}
+use Rattle.drivers.specs.declared.job.JobAnswer.the-variants.{Refused as NoJob}
+use Rattle.drivers.specs.declared.answer.AnswerRead.the-variants.{Refused as NoAnswer}
 use Rattle.drivers.specs.declared.answer.Answer.{Answer}
 use Rattle.drivers.specs.declared.belongs.Belonging.{Belonging}
 use Rattle.drivers.specs.laws.Untouched.{is-improved, untouched}
@@ -308,3 +312,40 @@ pub belongs : (j : Job) (table x : List Float) (a : Answer) (point grad : List F
 unfolding belonging.belongs-answer
 belongs j table x a point grad =
     refuses _ _ _ _ _ _ (λ why place. refl) (λ why place. refl) (λ e. by-test (λ (r : Belonging). belonging-number r ≡ 0) _ _ _ (λ t. refl) (λ t. refl))
+
+-- "a bad record": the readers, which tell the place too, and leave the outputs as they were
+pub read-job : (bytes : List ℕ) (table xc mq : List Float)
+    → Refuses {L = List Float × List Float × List Float} (jobs.job-fault bytes ⨾ jobs.room-fault (jobs.full-job bytes .job) (length table) (length xc) (length mq)) (λ r. job-number (r .0)) (λ r. (r .1, r .2, r .3))
+    (table, xc, mq) (jobs.read-job-answer bytes table xc mq)
+unfolding jobs.read-job-answer
+read-job bytes table xc mq = refuses _ _ _ _ _ _ (λ why place. refl) (λ why place. refl) (λ e. refl)
+
+pub read-job-place : (bytes : List ℕ) (table xc mq : List Float) (why : Refusal) (place : ℕ)
+    → (jobs.job-fault bytes ⨾ jobs.room-fault (jobs.full-job bytes .job) (length table) (length xc) (length mq)) ≡ At why place → jobs.read-job-answer bytes table xc mq .0 ≡ NoJob why place
+unfolding jobs.read-job-answer
+read-job-place bytes table xc mq why place e = ap (λ z. z .0) (sym (refused-at _ _ _ (sym e) refl))
+
+pub read-answer : (n : ℕ) (bytes : List ℕ) (out : List Float)
+    → Refuses (answers.answer-fault n bytes ⨾ answers.point-room (answers.point-at n bytes (answers.answer-walk bytes .1)) (length out)) (λ r. read-number (r .0)) (λ r. r .1) out (answers.read-answer-answer n bytes out)
+unfolding answers.read-answer-answer
+read-answer n bytes out = refuses _ _ _ _ _ _ (λ why place. refl) (λ why place. refl) (λ e. refl)
+
+pub read-answer-place : (n : ℕ) (bytes : List ℕ) (out : List Float) (why : Refusal) (place : ℕ)
+    → (answers.answer-fault n bytes ⨾ answers.point-room (answers.point-at n bytes (answers.answer-walk bytes .1)) (length out)) ≡ At why place → answers.read-answer-answer n bytes out .0 ≡ NoAnswer why place
+unfolding answers.read-answer-answer
+read-answer-place n bytes out why place e = ap (λ z. z .0) (sym (refused-at _ _ _ (sym e) refl))
+
+-- "a short buffer": the writer
+pub write-answer : (n : ℕ) (a : Answer) (point : List Float) (out : List ℕ) → Refuses (answers.write-answer-tests n a point out) (λ r. bytes-number (r .0)) (λ r. r .1) out (answers.write-answer-answer n a point out)
+unfolding answers.write-answer-answer
+write-answer n a point out = refuses _ _ _ _ _ _ (λ why place. refl) (λ why place. refl) (λ e. refl)
+
+-- "a bad or overlong record": all that the program prints then is one line, with the number and the place of the first fault
+pub program : (bytes : List ℕ) (why : Refusal) (place : ℕ) → (trace.input-tests bytes ⨾ jobs.job-fault bytes) ≡ At why place → filterrun.program-text bytes ≡ filterrun.refused-text why place
+unfolding filterrun.program-text
+program bytes why place e = sym (refused-at _ _ _ (sym e) refl)
+
+-- "each accepted call finishes": a run within its step limit
+pub feas-finishes : (options : Options) (rows : ℕ) (table : List Float) (s : run.Space) (best : List Float) → run.run-tests rows table s best ≡ Sound
+    → RunEnded rows table (options .«max_iters») 0 s (run.feas-run rows table (options .tolerance) (options .«max_iters») 0 s)
+feas-finishes options rows table s best e = run-ends rows table (options .tolerance) (options .«max_iters») 0 s (both-sound (run.check-space rows table s) _ e .0)
