@@ -1,12 +1,12 @@
 -- Demand 1, call by call: "Refused, by a number in document 01: dimensions, slices, bands and cursors outside its limits, a witness or quadratic form at illegal positions, an improving cut
 -- with no comparable stop row, a bad or overlong record, a short buffer. A refusal writes nothing; a driver halted midway keeps its finished steps. Accepted: everything else,
--- NaN and infinity too, and each accepted call finishes." (It finishes since what it answers is a definition's value, and the code's loops are proved to end.) Assumes nothing.
-use Prim.Native.Nat.{ℕ, _≤_}
+-- NaN and infinity too, and each accepted call finishes." (It finishes since what it answers is a definition's value, and the code's loops are proved to end.) The exported functions of the
+-- static library are these calls again (ponduvizh/specs). Assumes nothing.
+use Prim.Native.Nat.{ℕ}
 use mathlib.Core.Path.{_≡_, refl, sym, ap, _∙_}
 use mathlib.Core.Bool.{Bool, true, false, not, true≢false, _&&_}
 use mathlib.Core.List.{List}
 use lib.ListN.{length}
-use mathlib.Core.Logic.{_⊎_}
 use native.Mathlib.Omega.{arith}
 use borrow.Author.Tests.{eqb-true, leb-true}
 use lib.Dec.{eqb}
@@ -56,15 +56,19 @@ use Rattle.drivers.specs.Job as jobs
 use Rattle.drivers.specs.Answer as answers
 use Rattle.drivers.specs.Belongs as belonging
 use Rattle.drivers.specs.Program as filterrun
-use Rattle.drivers.specs.Numbered.{feas-number, optim-number, job-number, read-number, bytes-number, belonging-number, text-number}
-use Rattle.drivers.specs.laws.RunEnds.{RunEnded, run-ends}
+use Rattle.drivers.specs.Numbered.{feas-number, job-number, read-number, bytes-number, belonging-number, text-number}
+use Rattle.drivers.specs.laws.RunEnds.{run-ends}
 use Rattle.drivers.specs.laws.OptimEnds.{OptimRunEnded, optim-answered}
 use Rattle.drivers.specs.declared.cutting_plane.Options.{Options}
+use Rattle.drivers.specs.declared.cutting_plane.FeasAnswer.{FeasAnswer}
+use Rattle.drivers.specs.declared.cutting_plane.FeasAnswer.the-variants.{Ended}
 use Rattle.drivers.specs.declared.cutting_plane.OptimAnswer.the-variants.{Refused as NotRunOptim}
 use Rattle.drivers.specs.declared.trace.Run.{Run}
 use Rattle.drivers.specs.declared.trace.Printed.{Printed}
 use Rattle.drivers.specs.declared.job.Job.{Job}
+use Rattle.drivers.specs.declared.job.JobAnswer.{JobAnswer}
 use Rattle.drivers.specs.declared.job.JobAnswer.the-variants.{Refused as NoJob}
+use Rattle.drivers.specs.declared.answer.AnswerRead.{AnswerRead}
 use Rattle.drivers.specs.declared.answer.AnswerRead.the-variants.{Refused as NoAnswer}
 use Rattle.drivers.specs.declared.answer.Answer.{Answer}
 use Rattle.drivers.specs.declared.belongs.Belonging.{Belonging}
@@ -315,25 +319,25 @@ belongs j table x a point grad =
 
 -- "a bad record": the readers, which tell the place too, and leave the outputs as they were
 pub read-job : (bytes : List ℕ) (table xc mq : List Float)
-    → Refuses {L = List Float × List Float × List Float} (jobs.job-fault bytes ⨾ jobs.room-fault (jobs.full-job bytes .job) (length table) (length xc) (length mq)) (λ r. job-number (r .0)) (λ r. (r .1, r .2, r .3))
+    → Refuses {L = List Float × List Float × List Float} (jobs.read-job-tests bytes table xc mq) (λ r. job-number (r .0)) (λ r. (r .1, r .2, r .3))
     (table, xc, mq) (jobs.read-job-answer bytes table xc mq)
 unfolding jobs.read-job-answer
 read-job bytes table xc mq = refuses _ _ _ _ _ _ (λ why place. refl) (λ why place. refl) (λ e. refl)
 
 pub read-job-place : (bytes : List ℕ) (table xc mq : List Float) (why : Refusal) (place : ℕ)
-    → (jobs.job-fault bytes ⨾ jobs.room-fault (jobs.full-job bytes .job) (length table) (length xc) (length mq)) ≡ At why place → jobs.read-job-answer bytes table xc mq .0 ≡ NoJob why place
+    → (jobs.read-job-tests bytes table xc mq) ≡ At why place → jobs.read-job-answer bytes table xc mq .0 ≡ NoJob why place
 unfolding jobs.read-job-answer
-read-job-place bytes table xc mq why place e = ap (λ z. z .0) (sym (refused-at _ _ _ (sym e) refl))
+read-job-place bytes table xc mq why place e = ap (λ (z : JobAnswer × List Float × List Float × List Float). z .0) (sym (refused-at _ _ _ (sym e) refl))
 
 pub read-answer : (n : ℕ) (bytes : List ℕ) (out : List Float)
-    → Refuses (answers.answer-fault n bytes ⨾ answers.point-room (answers.point-at n bytes (answers.answer-walk bytes .1)) (length out)) (λ r. read-number (r .0)) (λ r. r .1) out (answers.read-answer-answer n bytes out)
+    → Refuses (answers.read-answer-tests n bytes (length out)) (λ r. read-number (r .0)) (λ r. r .1) out (answers.read-answer-answer n bytes out)
 unfolding answers.read-answer-answer
 read-answer n bytes out = refuses _ _ _ _ _ _ (λ why place. refl) (λ why place. refl) (λ e. refl)
 
 pub read-answer-place : (n : ℕ) (bytes : List ℕ) (out : List Float) (why : Refusal) (place : ℕ)
-    → (answers.answer-fault n bytes ⨾ answers.point-room (answers.point-at n bytes (answers.answer-walk bytes .1)) (length out)) ≡ At why place → answers.read-answer-answer n bytes out .0 ≡ NoAnswer why place
+    → (answers.read-answer-tests n bytes (length out)) ≡ At why place → answers.read-answer-answer n bytes out .0 ≡ NoAnswer why place
 unfolding answers.read-answer-answer
-read-answer-place n bytes out why place e = ap (λ z. z .0) (sym (refused-at _ _ _ (sym e) refl))
+read-answer-place n bytes out why place e = ap (λ (z : AnswerRead × List Float). z .0) (sym (refused-at _ _ _ (sym e) refl))
 
 -- "a short buffer": the writer
 pub write-answer : (n : ℕ) (a : Answer) (point : List Float) (out : List ℕ) → Refuses (answers.write-answer-tests n a point out) (λ r. bytes-number (r .0)) (λ r. r .1) out (answers.write-answer-answer n a point out)
@@ -345,7 +349,32 @@ pub program : (bytes : List ℕ) (why : Refusal) (place : ℕ) → (trace.input-
 unfolding filterrun.program-text
 program bytes why place e = sym (refused-at _ _ _ (sym e) refl)
 
--- "each accepted call finishes": a run within its step limit
+-- `open` tests the input's length, then what `read_job` tests: the slices stay, and `out` has the line that says so, or is as it was where it is too short for a line
+pub open-refused : (bytes : List ℕ) (table xc mq : List Float) (out : List ℕ) (why : Refusal) (place : ℕ) → (trace.input-tests bytes ⨾ jobs.read-job-tests bytes table xc mq) ≡ At why place
+    → trace.open-answer bytes table xc mq out ≡ trace.with-slices table xc mq (trace.opened-over (trace.refused-line-answer why place out))
+unfolding trace.open-answer jobs.read-job-answer
+open-refused bytes table xc mq out why place = go (trace.input-tests bytes) (jobs.read-job-tests bytes table xc mq)
+  where
+    go : (f g : Fault) → (f ⨾ g) ≡ At why place
+        → unless f (λ w p. trace.with-slices table xc mq (trace.opened-over (trace.refused-line-answer w p out)))
+        (let r = unless g (λ w p. (NoJob w p, table, xc, mq)) (read-done bytes table xc mq) in trace.with-slices (r .1) (r .2) (r .3) (trace.opened-read out (r .0)))
+        ≡ trace.with-slices table xc mq (trace.opened-over (trace.refused-line-answer why place out))
+    go Sound g e = ap (λ (k : Fault). let r = unless k (λ w p. (NoJob w p, table, xc, mq)) (read-done bytes table xc mq) in trace.with-slices (r .1) (r .2) (r .3) (trace.opened-read out (r .0))) (sym (is-skip _ _ _ refl) ∙ e)
+    go (At w p) g e = ap (λ (k : Fault). unless k (λ w p. trace.with-slices table xc mq (trace.opened-over (trace.refused-line-answer w p out))) (trace.with-slices table xc mq (trace.opened-over (trace.refused-line-answer why place out)))) (sym (is-hit _ _ _ refl) ∙ e)
+
+-- "each accepted call finishes": a run of either driver, within its step limit
+pub record Finishes (limit : ℕ) (said : FeasAnswer) : Type 0 where
+  pub answer : Answer
+  pub answer-is : said ≡ Ended answer
+  pub within : answer .steps ≤ limit
+
 pub feas-finishes : (options : Options) (rows : ℕ) (table : List Float) (s : run.Space) (best : List Float) → run.run-tests rows table s best ≡ Sound
-    → RunEnded rows table (options .«max_iters») 0 s (run.feas-run rows table (options .tolerance) (options .«max_iters») 0 s)
-feas-finishes options rows table s best e = run-ends rows table (options .tolerance) (options .«max_iters») 0 s (both-sound (run.check-space rows table s) _ e .0)
+    → Finishes (options .«max_iters») (run.feas-answer options rows table s best .0)
+unfolding run.feas-answer
+feas-finishes options rows table s best e =
+    let r = run-ends rows table (options .tolerance) (options .«max_iters») 0 s (both-sound (run.check-space rows table s) _ e .0) in
+    rw e (record { answer = r .answer; answer-is = r .answer-is; within = omega (arith, r .steps-within) })
+
+pub optim-numbers : (options : Options) (rows : ℕ) (table : List Float) (s : run.OptimSpace) → run.run-tests rows table (run.plain s) (s .best) ≡ Sound
+    → (optim-number (run.optim-answer options rows table s .answer) ≡ 0) ⊎ (optim-number (run.optim-answer options rows table s .answer) ≡ 6)
+optim-numbers options rows table s e = elim (optim-finishes options rows table s e .outcome) [ inl o ↦ inl (o .1) | inr o ↦ inr (o .1) ]

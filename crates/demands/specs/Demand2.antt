@@ -12,7 +12,6 @@ use lib.Ieee.Positive.{positive}
 use lib.Ieee.Bits.{nanBits-is}
 use Rattle.numbers.specs.Pick.{pick}
 use Rattle.numbers.specs.Bits.{floatOf, bitsOf}
-use Rattle.numbers.specs.Arr.{isDimension}
 use Rattle.numbers.specs.Sqrt.{sqrtOf, NearestRoot}
 use Rattle.numbers.specs.laws.Nearest.{sqrt-nearest}
 use Rattle.oracles.specs.laws.Known as known-values
@@ -43,7 +42,7 @@ nan-written = refl
 
 -- ---- "the square root is proved to be IEEE 754's"
 
--- "NaN and numbers below zero give NaN. Each zero gives itself. Plus infinity gives itself."
+-- Document 01: "NaN and numbers below zero give NaN. Each zero gives itself. Plus infinity gives itself."
 pub root-of-nan : sqrtOf nan ≡ nan
 unfolding sqrtOf
 root-of-nan = refl
@@ -64,7 +63,7 @@ pub root-of-infinity : sqrtOf (inf false) ≡ inf false
 unfolding sqrtOf
 root-of-infinity = refl
 
--- "Any other input gives the f64 nearest to the true root; a tie can't happen."
+-- "Any other input gives the f64 nearest to the true root, defined by comparing squares of whole numbers; a tie can't happen."
 pub root-nearest : (x : Float) → T (fits binary64 x) → T (positive x) → NearestRoot x (sqrtOf x)
 root-nearest = sqrt-nearest
 

@@ -1,12 +1,11 @@
 -- Demand 3, the cursor rule, clause by clause, of `assess_feas` and of `assess_optim`. Assumes nothing.
 use Prim.Native.Nat.{ℕ, _≤_, _<_, _-_}
-use mathlib.Core.Path.{_≡_, refl, sym, ap, _∙_}
+use mathlib.Core.Path.{_≡_, refl, sym, _∙_}
 use mathlib.Core.Bool.{Bool, true, false, _&&_, _||_, true≢false}
 use mathlib.Core.List.{List}
 use borrow.Author.Tests.{leb-true, ltb-true}
 use lib.Dec.{leb, ltb}
 use lib.ListN.{getD}
-use lib.IntN.{ℤ}
 use lib.Ieee.{Float, nan, inf, fin, isNan, lt, eq}
 use Rattle.numbers.specs.F64.{0ᶠ}
 use Rattle.numbers.specs.Pick.{pick, some}
@@ -14,7 +13,7 @@ use Rattle.numbers.specs.laws.Pick.{and-parts, is-hit, is-skip}
 use Rattle.oracles.specs.LowpassOracle.{offered, assess-feas-answer, assess-optim-answer}
 use Rattle.oracles.specs.Verdict.{Judgement, feasible, pass, stop, middle, sign, refused, Question, pass-end, stop-start, valueIn, pass-breaks, stop-breaks, middle-breaks, sign-breaks, judge, Unbroken, no-stop-value, asked, limits, is-accepted, judgement, side-breaks, cut-breaks, Has, Peak, as-feas, is-six, is-feasible}
 use Rattle.oracles.specs.laws.Judge.{judge-pass, judge-stop, judge-middle, judge-sign, judge-feasible, unbroken-feasible}
-use Rattle.oracles.specs.laws.CursorRule.{feas-rule, optim-rule, six-exactly}
+use Rattle.oracles.specs.laws.CursorRule.{feas-rule, optim-rule}
 use Rattle.oracles.specs.laws.TwoOracles.{same-verdict, same-peak, same-optim, same-optim-peak}
 use Rattle.oracles.specs.declared.lowpass_oracle.LowpassOracle.{LowpassOracle}
 use Rattle.oracles.specs.declared.lowpass_oracle.Verdict.{Verdict}
@@ -52,7 +51,7 @@ RowBreaks q (Cut Sign beta) = sign-breaks q ≡ true
 RowBreaks q (Refused why) = Unit {0}
 
 -- "It is feasible exactly when no pass row's rounded dot product lies outside its two limits, no stop row's above its limit or below zero, no middle row's below zero, and the first
--- coefficient isn't below zero; otherwise the verdict is the first broken group, in that order, and the cut's row, if any, is one of that group's and breaks it."
+-- coefficient isn't below zero" .. "Otherwise the verdict is the first broken group, in that order, and the cut's row, if any, is one of that group's and breaks it."
 pub record Right (q : Question) (v : Verdict) : Type 0 where
   pub feasible-only : judgement v ≡ feasible → Unbroken q
   pub feasible-if : Unbroken q → judgement v ≡ feasible
@@ -153,7 +152,7 @@ module _ (o : LowpassOracle) (n rows : ℕ) (table x grad : List Float) (a : Acc
   pub feas-right : Right (asked o (o .«sp_sq») n rows table x) feas-said
   feas-right = let r = feas-rule o n rows table x grad a in right-of _ _ (r .verdict-is) (r .cut-is)
 
-  -- "A feasible point's largest stop value, minus infinity where no stop row compares, and the row reported with it, if any, has that value"
+  -- "A feasible point's largest stop value, minus infinity where no stop row compares, is one number .. and the row reported with it, if any, has that value."
   pub feas-largest : judgement feas-said ≡ feasible
       → let left = assess-feas-answer o n rows table x grad .0 .oracle in Peak (asked o (o .«sp_sq») n rows table x) (left .fmax) (left .kmax)
   feas-largest h = let r = feas-rule o n rows table x grad a in r .peak (sym (r .verdict-is) ∙ h)
@@ -190,6 +189,15 @@ module _ (o o′ : LowpassOracle) (n rows : ℕ) (table x grad grad′ : List Fl
     pub one-optim-verdict : judgement (optim-said o n rows table x grad a gamma) ≡ judgement (optim-said o′ n rows table x grad′ a′ gamma)
     one-optim-verdict = same-optim o o′ n rows table x grad grad′ gamma e a a′ .0
 
+    -- 6 comes from both or from neither
+    pub one-six : is-six (assess-optim-answer o gamma n rows table x grad .0 .verdict) ≡ is-six (assess-optim-answer o′ gamma n rows table x grad′ .0 .verdict)
+    one-six = same-optim o o′ n rows table x grad grad′ gamma e a a′ .1
+
     pub one-optim-value : judgement (optim-said o n rows table x grad a gamma) ≡ feasible → is-six (assess-optim-answer o gamma n rows table x grad .0 .verdict) ≡ false
         → eq (assess-optim-answer o gamma n rows table x grad .0 .oracle .fmax) (assess-optim-answer o′ gamma n rows table x grad′ .0 .oracle .fmax) ≡ true
     one-optim-value h s = same-optim-peak o o′ n rows table x grad grad′ gamma e a a′ h s .0
+
+    -- and so is the caller's number
+    pub one-offer : judgement (optim-said o n rows table x grad a gamma) ≡ feasible → is-six (assess-optim-answer o gamma n rows table x grad .0 .verdict) ≡ false
+        → eq (assess-optim-answer o gamma n rows table x grad .0 .gamma) (assess-optim-answer o′ gamma n rows table x grad′ .0 .gamma) ≡ true
+    one-offer h s = same-optim-peak o o′ n rows table x grad grad′ gamma e a a′ h s .1

@@ -19,24 +19,24 @@ use Rattle.drivers.specs.declared.answer.AnswerRead.{AnswerRead}
 use Rattle.drivers.specs.declared.answer.AnswerRead.the-variants.{Read, Refused}
 use Rattle.drivers.specs.declared.answer.AnswerWritten.{AnswerWritten}
 use Rattle.drivers.specs.declared.answer.AnswerWritten.the-variants.{Bytes, Refused as NotWritten}
-use Rattle.drivers.specs.Rules.{outcome-tag, steps-tag, found-tag, answer-form}
+use Rattle.drivers.specs.Rules.{outcome-place, steps-place, found-place, answer-form}
 
 -- ---- what a record says; `places` has where the contents begin
 
 -- tag 22 is there
 abbrev pub has-point : List ℕ → Bool
-has-point places = is-met places found-tag
+has-point places = is-met places found-place
 
 -- the outcome, one byte
 abbrev pub outcome-byte : Bool → ℕ
 outcome-byte found = pick found 1 0
 
 abbrev pub answer-at : List ℕ → List ℕ → Answer
-answer-at bytes places = record { found = has-point places; steps = halfAt bytes (place places steps-tag) }
+answer-at bytes places = record { found = has-point places; steps = halfAt bytes (place places steps-place) }
 
 -- its point, n numbers where there is one
 abbrev pub point-at : ℕ → List ℕ → List ℕ → List Float
-point-at n bytes places = pick (has-point places) (numbersAt bytes (place places found-tag) n) []
+point-at n bytes places = pick (has-point places) (numbersAt bytes (place places found-place) n) []
 
 -- ---- the tests
 
@@ -46,7 +46,7 @@ answer-walk bytes = record-fault bytes answer-form no-places
 
 -- 12, at tag 20: the outcome is that of a point where tag 22 is there
 unfoldable pub outcome-fault : List ℕ → List ℕ → Fault
-outcome-fault bytes places = ask-at (startOf (place places outcome-tag)) (eqb (tagAt bytes (place places outcome-tag)) (outcome-byte (has-point places))) Outcome
+outcome-fault bytes places = ask-at (startOf (place places outcome-place)) (eqb (tagAt bytes (place places outcome-place)) (outcome-byte (has-point places))) Outcome
 
 -- the first fault of a record, in document 01's order: the caller's n, the walk and 10, the lengths, 12
 unfoldable pub answer-fault : ℕ → List ℕ → Fault
@@ -59,12 +59,15 @@ point-room point room = ask (leb (length point) room) Room
 
 -- ---- the reader
 
+-- what it refuses: the record's fault, then 11
+abbrev pub read-answer-tests : ℕ → List ℕ → ℕ → Fault
+read-answer-tests n bytes room = answer-fault n bytes ⨾ point-room (point-at n bytes (answer-walk bytes .1)) room
+
 -- `read_answer`: the point, if there is one, to the front of `out`
 unfoldable pub read-answer-answer : ℕ → List ℕ → List Float → AnswerRead × List Float
 read-answer-answer n bytes out =
     let places = answer-walk bytes .1 in
-    let point = point-at n bytes places in
-    unless (answer-fault n bytes ⨾ point-room point (length out)) (λ why place. (Refused why place, out)) (Read (answer-at bytes places), fronted point out)
+    unless (read-answer-tests n bytes (length out)) (λ why place. (Refused why place, out)) (Read (answer-at bytes places), fronted (point-at n bytes places) out)
 
 -- ---- the writer
 

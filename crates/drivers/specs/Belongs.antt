@@ -1,5 +1,5 @@
 -- Whether an answer belongs to a job (document 01, "Job and answer records"). Definitions only.
-use mathlib.Core.Bool.{Bool, true, false, not, _&&_}
+use mathlib.Core.Bool.{Bool, not, _&&_}
 use mathlib.Core.List.{List}
 use lib.Dec.{eqb}
 use lib.ListN.{length}
@@ -20,12 +20,6 @@ use Rattle.drivers.specs.declared.belongs.Belonging.the-variants.{Yes, N
 
 abbrev pub yes-if : Bool → Belonging
 yes-if is-so = pick is-so Yes No
-
--- what a verdict on the point that is asked about says, of an answer that has a point or has none
-abbrev pub said-by : Verdict → Bool → Belonging
-said-by Feasible found = yes-if found
-said-by (Cut group beta) found = yes-if (not found)
-said-by (NotAssessed why) found = Refused why
 
 -- a point is feasible for a job: nothing of the job's cursors is asked
 abbrev pub feasible-for : Job → List Float → List Float → Bool

@@ -3,7 +3,7 @@ use Prim.Native.Nat.{ℕ, _*_, _/_, _%_, _^_}
 use mathlib.Core.Bool.{Bool, _&&_}
 use mathlib.Core.List.{List}
 use lib.Dec.{leb, ltb, eqb}
-use lib.ListN.{length, drop, getD}
+use lib.ListN.{length, drop}
 use lib.IntN.{ℤ, pos, _-ℤ_}
 use lib.Ieee.{Float}
 use Rattle.numbers.specs.Pick.{pick}
@@ -19,7 +19,7 @@ use Rattle.drivers.specs.declared.cutting_plane.Options.{Options}
 use Rattle.drivers.specs.declared.job.Job.{Job}
 use Rattle.drivers.specs.declared.job.JobAnswer.{JobAnswer}
 use Rattle.drivers.specs.declared.job.JobAnswer.the-variants.{Read, Refused}
-use Rattle.drivers.specs.Rules.{ruleLength, n-tag, bands-tag, limits-tag, point-tag, cursors-tag, kappa-tag, matrix-tag, settings-tag, job-form}
+use Rattle.drivers.specs.Rules.{ruleLength, n-place, bands-place, limits-place, point-place, cursors-place, kappa-place, matrix-place, settings-place, job-form}
 
 -- part k of a word of 16-bit numbers, the lowest first
 abbrev pub partOf : ℕ → ℕ → ℕ
@@ -55,11 +55,11 @@ optionsOf bytes p = record { «max_iters» = halfAt (drop p bytes) 0; tolerance 
 -- the job, beside its three lists
 unfoldable pub job-at : List ℕ → List ℕ → Job
 job-at bytes places =
-    let bands = wordAt bytes (place places bands-tag) in
-    let limits = place places limits-tag in
-    let curs = wordAt bytes (place places cursors-tag) in
+    let bands = wordAt bytes (place places bands-place) in
+    let limits = place places limits-place in
+    let curs = wordAt bytes (place places cursors-place) in
     record {
-      n = halfAt bytes (place places n-tag);
+      n = halfAt bytes (place places n-place);
       rows = row-count bytes (fields-of bytes);
       nwpass = pos (partOf bands 0);
       nwstop = pos (partOf bands 1);
@@ -69,8 +69,8 @@ job-at bytes places =
       cur1 = signed (partOf curs 0);
       cur2 = signed (partOf curs 1);
       cur3 = signed (partOf curs 2);
-      kappa = numberAt bytes (place places kappa-tag) 0;
-      options = optionsOf bytes (place places settings-tag);
+      kappa = numberAt bytes (place places kappa-place) 0;
+      options = optionsOf bytes (place places settings-place);
     }
 
 -- with them
@@ -80,8 +80,8 @@ full-job-at bytes places =
     record {
       job = j;
       table = rows-of (j .n) bytes (fields-of bytes);
-      point = numbersAt bytes (place places point-tag) (j .n);
-      matrix = numbersAt bytes (place places matrix-tag) (j .n * j .n);
+      point = numbersAt bytes (place places point-place) (j .n);
+      matrix = numbersAt bytes (place places matrix-place) (j .n * j .n);
     }
 
 -- the walk over tags 01 to 09, and 10, with the places that it notes
@@ -106,10 +106,10 @@ job-fault bytes =
     let places = job-walk bytes .1 in
     let j = job-at bytes places in
     job-walk bytes .0
-    ⨾ size-fault n-tag 2 bytes (place places n-tag)
+    ⨾ size-fault n-place 2 bytes (place places n-place)
     ⨾ lengths-fault (j .n) bytes (fields-of bytes)
-    ⨾ ask-at (startOf (place places bands-tag)) (bands-fit (job-oracle j) (j .rows)) Band
-    ⨾ ask-at (startOf (place places cursors-tag)) (cursors-fit (job-oracle j)) Cursor
+    ⨾ ask-at (startOf (place places bands-place)) (bands-fit (job-oracle j) (j .rows)) Band
+    ⨾ ask-at (startOf (place places cursors-place)) (cursors-fit (job-oracle j)) Cursor
 
 -- 11, behind them: what the outputs for rows, point and matrix must hold
 abbrev pub has-room : Job → ℕ → ℕ → ℕ → Bool
@@ -120,12 +120,19 @@ room-fault j table xc mq = ask (has-room j table xc mq) Room
 
 -- ---- the reader
 
+-- what it refuses: the record's fault, then 11
+abbrev pub read-tests : FullJob → Fault → List Float → List Float → List Float → Fault
+read-tests f fault table xc mq = fault ⨾ room-fault (f .job) (length table) (length xc) (length mq)
+
 -- a job put to the fronts of three slices, if nothing is at fault and they have room; else they stay
 abbrev pub read-into : FullJob → Fault → List Float → List Float → List Float → JobAnswer × List Float × List Float × List Float
 read-into f fault table xc mq =
-    unless (fault ⨾ room-fault (f .job) (length table) (length xc) (length mq)) (λ why place. (Refused why place, table, xc, mq))
+    unless (read-tests f fault table xc mq) (λ why place. (Refused why place, table, xc, mq))
     (Read (f .job), fronted (f .table) table, fronted (f .point) xc, fronted (f .matrix) mq)
 
 -- `read_job`
+abbrev pub read-job-tests : List ℕ → List Float → List Float → List Float → Fault
+read-job-tests bytes table xc mq = read-tests (full-job bytes) (job-fault bytes) table xc mq
+
 unfoldable pub read-job-answer : List ℕ → List Float → List Float → List Float → JobAnswer × List Float × List Float × List Float
 read-job-answer bytes table xc mq = read-into (full-job bytes) (job-fault bytes) table xc mq

@@ -8,7 +8,6 @@ pub mod Fields
 pub mod Answer
 pub mod Belongs
 pub mod Trace
-pub mod Calls
 pub mod Program
 pub mod Numbered
 pub mod laws

@@ -1,5 +1,5 @@
 -- The program `filterrun` (document 01): all that it prints, as one function of its input. Definitions only.
-use Prim.Native.Nat.{ℕ, _*_, _≤_}
+use Prim.Native.Nat.{ℕ, _*_}
 use mathlib.Core.List.{List}
 use lib.ListN.{take, replicate}
 use lib.Ieee.{Float}
@@ -10,10 +10,10 @@ use Rattle.numbers.specs.Refusal.{_⨾_, unless}
 use Rattle.drivers.specs.Text.{joined}
 use Rattle.drivers.specs.CuttingPlane.{Space}
 use Rattle.drivers.specs.Job.{FullJob, job-oracle, full-job, job-fault}
-use Rattle.drivers.specs.Trace.{refused-pieces, input-tests, run-text, text-in, printed-by}
-use Rattle.drivers.specs.declared.trace.Run.{Run}
+use Rattle.drivers.specs.Trace.{refused-pieces, input-tests, run-text}
 use Rattle.drivers.specs.declared.trace.Opened.{Opened}
 use Rattle.drivers.specs.declared.trace.Opened.the-variants.{Going, Over}
+use Rattle.drivers.specs.laws.Trace.{text-in, printed-by}
 
 -- the line of a refusal
 abbrev pub refused-text : Refusal → ℕ → List ℕ
@@ -40,13 +40,3 @@ program-text bytes =
     unless (input-tests bytes ⨾ job-fault bytes) refused-text (job-text (full-job bytes))
 
 -- ---- the calls that print it: `open`, then, if a run goes, `Run::next` while there is more, over the fronts of the slices and scratch of zeros
-
--- what is printed after `open` has answered, by so many calls of `next` at most
-abbrev pub opened-text : ℕ → Opened → List Float → List Float → List Float → List ℕ → List ℕ
-opened-text calls (Over text) table xc mq out = text-in text out
-opened-text calls (Going run) table xc mq out =
-    let n = run .ell .ndim in
-    printed-by calls run (take (run .rows * n) table) (record { mq = take (n * n) mq; xc = take n xc; grad-t = replicate n 0ᶠ }) (replicate n 0ᶠ) out
-
-abbrev pub calls-text : ℕ → Opened × List Float × List Float × List Float × List ℕ → List ℕ
-calls-text calls r = opened-text calls (r .0) (r .1) (r .2) (r .3) (r .4)

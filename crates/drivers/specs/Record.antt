@@ -1,5 +1,5 @@
--- Records (document 01, "Job and answer records" and "When a call says no"): the table of tags, the fields, and the order of the tests. Definitions only.
-use Prim.Native.Nat.{ℕ, zero, suc, _+_, _-_, _*_, _/_, _%_, _^_}
+-- Records (document 01, "Job and answer records" and "When a call says no"): the fields, and the order of the tests. Definitions only.
+use Prim.Native.Nat.{ℕ, zero, suc, _+_, _-_, _*_, _/_, _%_}
 use mathlib.Core.Bool.{Bool, not, _&&_}
 use mathlib.Core.List.{List, [], _∷_, _++_}
 use lib.Dec.{leb, ltb, eqb}
@@ -13,9 +13,8 @@ use Rattle.numbers.specs.Refusal.{is-fault, _⨾_, ask-at}
 use Rattle.numbers.specs.declared.refusal.Refusal.the-variants.{Length, CutShort, ForeignTag, RepeatedTag, MissingTag}
 use Rattle.numbers.specs.declared.refusal.Fault.{Fault}
 use Rattle.numbers.specs.declared.refusal.Fault.the-variants.{Sound}
-use Rattle.drivers.specs.declared.rules.Rule.{Rule}
 use Rattle.drivers.specs.declared.rules.Form.{Form}
-use Rattle.drivers.specs.Rules.{indexOf, is-of, row-tag, ruleLength, tags, optional, repeats}
+use Rattle.drivers.specs.Rules.{indexOf, is-of, row-place, ruleLength, tags, optional, repeats}
 
 -- ---- a field: tag, two bytes of length, content; bytes past the end count as 0
 
@@ -119,7 +118,7 @@ lengths-fault n bytes (at ∷ rest) = ask-at at (eqb (lengthAt bytes at) (ruleLe
 -- ---- rows, in the order of arrival
 
 abbrev pub is-row : List ℕ → ℕ → Bool
-is-row bytes at = eqb (indexAt bytes at) row-tag
+is-row bytes at = eqb (indexAt bytes at) row-place
 
 abbrev pub rows-in : List ℕ → ℕ → ℕ
 rows-in bytes at = pick (is-row bytes at) 1 0

@@ -43,41 +43,41 @@ rules =
     ∷ []
 
 -- its rows by name, and how many there are
-abbrev pub n-tag : ℕ
-n-tag = 0
+abbrev pub n-place : ℕ
+n-place = 0
 
-abbrev pub bands-tag : ℕ
-bands-tag = 1
+abbrev pub bands-place : ℕ
+bands-place = 1
 
-abbrev pub limits-tag : ℕ
-limits-tag = 2
+abbrev pub limits-place : ℕ
+limits-place = 2
 
-abbrev pub row-tag : ℕ
-row-tag = 3
+abbrev pub row-place : ℕ
+row-place = 3
 
-abbrev pub point-tag : ℕ
-point-tag = 4
+abbrev pub point-place : ℕ
+point-place = 4
 
-abbrev pub cursors-tag : ℕ
-cursors-tag = 5
+abbrev pub cursors-place : ℕ
+cursors-place = 5
 
-abbrev pub kappa-tag : ℕ
-kappa-tag = 6
+abbrev pub kappa-place : ℕ
+kappa-place = 6
 
-abbrev pub matrix-tag : ℕ
-matrix-tag = 7
+abbrev pub matrix-place : ℕ
+matrix-place = 7
 
-abbrev pub settings-tag : ℕ
-settings-tag = 8
+abbrev pub settings-place : ℕ
+settings-place = 8
 
-abbrev pub outcome-tag : ℕ
-outcome-tag = 9
+abbrev pub outcome-place : ℕ
+outcome-place = 9
 
-abbrev pub steps-tag : ℕ
-steps-tag = 10
+abbrev pub steps-place : ℕ
+steps-place = 10
 
-abbrev pub found-tag : ℕ
-found-tag = 11
+abbrev pub found-place : ℕ
+found-place = 11
 
 abbrev pub tags : ℕ
 tags = 12

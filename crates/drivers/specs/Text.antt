@@ -6,17 +6,6 @@ use lib.ListN.{length}
 use Rattle.numbers.specs.Pick.{pick}
 use Rattle.numbers.specs.Over.{over}
 
--- a piece of text from `at` on, and where the next one begins; a piece that does not fit is not written
-unfoldable pub put : List ℕ → ℕ → List ℕ → ℕ × List ℕ
-unfolding over
-put out at text = pick (leb (at + length text) (length out)) (at + length text, over out at text) (at, out)
-
--- pieces, one after the other
-unfoldable pub put-all : List ℕ → ℕ → List (List ℕ) → ℕ × List ℕ
-unfolding put
-put-all out at [] = (at, out)
-put-all out at (text ∷ texts) = let r = put out at text in put-all (r .1) (r .0) texts
-
 -- pieces as one text
 unfoldable pub joined : List (List ℕ) → List ℕ
 joined [] = []

@@ -99,9 +99,12 @@ refused-pieces why place =
     (114 ∷ 101 ∷ 102 ∷ 117 ∷ 115 ∷ 101 ∷ 100 ∷ 32 ∷ [])  -- "refused "
     ∷ decimal (refusalNumber why) ∷ (32 ∷ []) ∷ decimal place ∷ (10 ∷ []) ∷ []
 
--- 11 where `out` has fewer than 128 bytes
+-- 11 where `out` has fewer bytes than the longest text may need
+abbrev pub room : ℕ
+room = 128
+
 abbrev pub text-room : List ℕ → Fault
-text-room out = ask (leb 128 (length out)) Room
+text-room out = ask (leb room (length out)) Room
 
 -- a text at the front of `out`, and its length
 unfoldable pub printed : List ℕ → List ℕ → Text × List ℕ
@@ -172,28 +175,6 @@ run-text rows table tolerance (suc left) k s =
     let more = goes-on (r .0) (r .1 .ell .tsq) tolerance in
     step-text k more (r .0) ++ pick more (run-text rows table tolerance left (suc k) (r .1)) []
 
-unfoldable pub cut-lines : ℕ → List Float → Float → ℕ → ℕ → Space → List ℕ
-cut-lines rows table tolerance zero k s = []
-cut-lines rows table tolerance (suc left) k s =
-    let r = feas-step rows table s in
-    joined (said-pieces k (r .0)) ++ pick (goes-on (r .0) (r .1 .ell .tsq) tolerance) (cut-lines rows table tolerance left (suc k) (r .1)) []
-
--- what a run has still to print
-abbrev pub text-left : Run → List Float → EllBuffers → List Float → List ℕ
-text-left run table b grad = run-text (run .rows) table (run .options .tolerance) (run .options .«max_iters» - run .niter) (run .niter) (space-of run b grad)
-
--- the text that a call has put at the front of `out`
-abbrev pub text-in : Text → List ℕ → List ℕ
-text-in (Bytes n) out = take n out
-text-in (Refused why) out = []
-
--- what so many calls of `next` print, one after the other, while there is more
-unfoldable pub printed-by : ℕ → Run → List Float → EllBuffers → List Float → List ℕ → List ℕ
-printed-by zero run table b grad out = []
-printed-by (suc calls) run table b grad out =
-    let p = next-answer run table b grad out in
-    text-in (p .0 .text) (p .3) ++ pick (p .0 .more) (printed-by calls (p .0 .run) table (p .1) (p .2) (p .3)) []
-
 -- ---- a program's input
 
 abbrev pub opened-over : Text × List ℕ → Opened × List ℕ
@@ -211,8 +192,11 @@ opened-read out (Read j) = opened-job j out
 opened-read out (NotRead why place) = opened-over (refused-line-answer why place out)
 
 -- more than 65,536 bytes are refused before all else
+abbrev pub longest : ℕ
+longest = 65536
+
 abbrev pub input-tests : List ℕ → Fault
-input-tests bytes = ask-at 65536 (leb (length bytes) 65536) Room
+input-tests bytes = ask-at longest (leb (length bytes) longest) Room
 
 abbrev pub with-slices : List Float → List Float → List Float → Opened × List ℕ → Opened × List Float × List Float × List Float × List ℕ
 with-slices table xc mq r = (r .0, table, xc, mq, r .1)

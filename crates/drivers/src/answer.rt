@@ -25,9 +25,9 @@ ghost use Rattle.numbers.specs.Pick.{pick};
 ghost use Rattle.numbers.specs.Refusal.{_⨾_};
 ghost use Rattle.numbers.specs.declared.refusal.Fault.the-variants.{Sound};
 ghost use Rattle.drivers.specs.Record.{no-places, fronted};
-ghost use Rattle.drivers.specs.Text.{put-all};
 ghost use Rattle.drivers.specs.Fields.{field-bytes};
-ghost use Rattle.drivers.specs.Answer.{outcome-byte, answer-walk, outcome-fault, answer-fault, point-room, answer-at, point-at, has-point, read-answer-answer, answer-fields, write-answer-answer};
+ghost use Rattle.drivers.specs.Answer.{outcome-byte, answer-walk, outcome-fault, answer-fault, point-room, answer-at, point-at, has-point, read-answer-answer, answer-fields, write-answer-answer, read-answer-tests};
+ghost use Rattle.drivers.specs.laws.Text.{put-all};
 
 // What a run answers, and a record keeps, beside the point: whether there is one, and the steps.
 pub struct Answer {
@@ -70,7 +70,7 @@ fn outcome_fault(bytes: &[u8], places: &[usize; 12]) -> Fault
 // The first fault of an answer record, in document 01's order, 11 the last; `places` becomes where the contents of its tags begin.
 fn answer_fault(n: usize, bytes: &[u8], places: &mut [usize; 12], room: usize) -> Fault
     requires { ⌜ now places ≡ no-places ⌝ }
-    ensures { λ r. ⌜ r ≡ (answer-fault n (now (bytes .entry)) ⨾ point-room (point-at n (now (bytes .entry)) (answer-walk (now (bytes .entry)) .1)) room) ⌝ }
+    ensures { λ r. ⌜ r ≡ read-answer-tests n (now (bytes .entry)) room ⌝ }
     ensures { λ r. ⌜ (r ≡ Sound → now (places .exit) ≡ answer-walk (now (bytes .entry)) .1) ⌝ }
 {
     if !is_dimension(n) {

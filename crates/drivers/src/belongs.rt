@@ -5,7 +5,8 @@ use numbers::arr::is_dimension;
 use numbers::refusal::Refusal;
 use oracles::lowpass_oracle::Verdict;
 ghost use mathlib.Core.Path.{_≡_};
-ghost use Rattle.drivers.specs.Belongs.{yes-if, said-by, belongs-answer};
+ghost use Rattle.drivers.specs.Belongs.{yes-if, belongs-answer};
+ghost use Rattle.drivers.specs.laws.Belongs.{said-by};
 
 pub enum Belonging {
     Yes,

@@ -16,7 +16,6 @@ use oracles::lowpass_oracle::Verdict;
 use oracles::scan::table_fits;
 ghost use mathlib.Core.Path.{_≡_};
 ghost use mathlib.Core.Bool.{false};
-ghost use lib.ListN.{length};
 ghost use Rattle.oracles.specs.Ell.{updated};
 ghost use mathlib.Core.List.{List};
 ghost use lib.Ieee.{Float};

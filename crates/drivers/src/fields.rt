@@ -6,8 +6,8 @@ ghost use Prim.Native.Nat.{_+_, _*_, _<_};
 ghost use lib.Dec.{leb};
 ghost use lib.ListN.{length};
 ghost use Rattle.numbers.specs.Bits.{leBytes};
-ghost use Rattle.drivers.specs.Text.{put, put-all};
 ghost use Rattle.drivers.specs.Fields.{header, field-bytes, number-pieces, number-bytes};
+ghost use Rattle.drivers.specs.laws.Text.{put, put-all};
 
 // A tag, and two bytes of length.
 pub(crate) const HEADER: usize = 3;

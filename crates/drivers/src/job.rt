@@ -33,7 +33,7 @@ ghost use Prim.Native.Nat.{_*_, _+_, _≤_, _<_};
 ghost use lib.ListN.{length};
 ghost use Rattle.drivers.specs.Record.{fields-of, no-places, numbersAt, row-count, rows-in, rows-of, fronted, place};
 ghost use Rattle.drivers.specs.Job.{signed, partOf, row-end, job-oracle, optionsOf, job-at, full-job-at, job-walk, size-fault, job-fault, has-room, read-into, read-job-answer};
-ghost use Rattle.drivers.specs.Rules.{matrix-tag, point-tag};
+ghost use Rattle.drivers.specs.Rules.{matrix-place, point-place};
 ghost use Rattle.drivers.specs.laws.Record.{row-filled};
 ghost use Rattle.numbers.specs.declared.refusal.Fault.the-variants.{Sound};
 
@@ -245,8 +245,8 @@ fn fill_job(
 )
     requires { ⌜ (n ≤ 32) × (row-count (now bytes) (fields-of (now bytes)) * n ≤ length (now table)) × (n ≤ length (now xc)) × (n * n ≤ length (now mq)) ⌝ }
     ensures { λ _. ⌜ now (table .exit) ≡ fronted (rows-of n (now (bytes .entry)) (fields-of (now (bytes .entry)))) (now (table .entry)) ⌝ }
-    ensures { λ _. ⌜ now (xc .exit) ≡ fronted (numbersAt (now (bytes .entry)) (place (now (places .entry)) point-tag) n) (now (xc .entry)) ⌝ }
-    ensures { λ _. ⌜ now (mq .exit) ≡ fronted (numbersAt (now (bytes .entry)) (place (now (places .entry)) matrix-tag) (n * n)) (now (mq .entry)) ⌝ }
+    ensures { λ _. ⌜ now (xc .exit) ≡ fronted (numbersAt (now (bytes .entry)) (place (now (places .entry)) point-place) n) (now (xc .entry)) ⌝ }
+    ensures { λ _. ⌜ now (mq .exit) ≡ fronted (numbersAt (now (bytes .entry)) (place (now (places .entry)) matrix-place) (n * n)) (now (mq .entry)) ⌝ }
 {
     let nn = n * n;
     fill_table(bytes, n, table);

@@ -17,7 +17,6 @@ ghost use mathlib.Core.Path.{_≡_};
 ghost use Prim.Native.Nat.{_≤_, _<_};
 ghost use lib.ListN.{length};
 ghost use Rattle.drivers.specs.Record.{tagAt, lengthAt, halfAt, numberAt, numbersAt, startOf, contentOf, is-row, rows-in, after, field-fault, first-place, fields-of, walk-of, missing-fault, record-fault, lengths-fault, row-count};
-ghost use Rattle.numbers.specs.Refusal.{is-fault};
 
 // ---- a field's header, and numbers in its content; bytes past the end count as 0
 

@@ -1,7 +1,8 @@
 // Text into a lent slice, piece by piece. A piece that does not fit is not written, and the place stays: no piece asks anything of its caller.
 ghost use mathlib.Core.Path.{_≡_};
 ghost use Prim.Native.Nat.{_+_, _≤_, _<_};
-ghost use Rattle.drivers.specs.Text.{put, digitChar, digitsOf, digit-count, decimal, hex};
+ghost use Rattle.drivers.specs.Text.{digitChar, digitsOf, digit-count, decimal, hex};
+ghost use Rattle.drivers.specs.laws.Text.{put};
 
 // A digit to a base up to 16, in upper case.
 fn digit_char(d: u64) -> u8

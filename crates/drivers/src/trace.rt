@@ -24,9 +24,9 @@ use oracles::lowpass_oracle::Group;
 use oracles::lowpass_oracle::LowpassOracle;
 ghost use mathlib.Core.Path.{_≡_};
 ghost use lib.ListN.{length};
-ghost use Rattle.drivers.specs.Text.{put, put-all};
-ghost use Rattle.drivers.specs.Trace.{group-word, row-text, side-word, beta-pieces, status-word, cut-pieces, said-pieces, outcome-word, last-pieces, ended-pieces, refused-pieces, refused-line-answer, new-run-answer, step-printed, next-answer, opened-job, open-answer};
+ghost use Rattle.drivers.specs.Trace.{room, group-word, row-text, side-word, beta-pieces, status-word, cut-pieces, said-pieces, outcome-word, last-pieces, ended-pieces, refused-pieces, refused-line-answer, new-run-answer, step-printed, next-answer, opened-job, open-answer};
 ghost use Rattle.drivers.specs.declared.trace.Text.the-variants.{Refused};
+ghost use Rattle.drivers.specs.laws.Text.{put, put-all};
 ghost use Prim.Native.Nat.{_≤_, _<_};
 ghost use mathlib.Core.Bool.{true, false};
 
@@ -272,7 +272,7 @@ impl Run {
         grad_t: &mut [f64],
         out: &mut [u8],
     ) -> Printed
-        requires { ⌜ (self .niter < self .options .«max_iters») × (128 ≤ length (now out)) ⌝ }
+        requires { ⌜ (self .niter < self .options .«max_iters») × (room ≤ length (now out)) ⌝ }
         ensures { λ r. ⌜ (r, record { mq = now (mq .exit); xc = now (xc .exit); grad-t = now («grad_t» .exit) }, now (grad .exit), now (out .exit)) ≡ step-printed self (now (table .entry)) (record { mq = now (mq .entry); xc = now (xc .entry); grad-t = now («grad_t» .entry) }) (now (grad .entry)) (now (out .entry)) ⌝ }
     {
         let oracle = self.oracle;

@@ -1,13 +1,13 @@
 -- Signed numbers of 32 bits: which sums fit, and what is read back from the bits. Assumes nothing.
 use mathlib.Core.Path.{_≡_, refl, sym, ap, _∙_, subst}
 use mathlib.Core.Bool.{Bool, true, false, true≢false}
-use Prim.Native.Nat.{ℕ, zero, suc, _≤_, _<_, _+_, _^_}
+use Prim.Native.Nat.{ℕ, zero, suc, _≤_, _+_}
 use native.Mathlib.Omega.{arith}
 use borrow.Author.Tests.{ltb-true, eqb-true, eqb-false}
 use lib.IntN.{ℤ, pos, negsuc, predℤ, sucℤ, natAbs, _+ℤ_, _-ℤ_, +ℤ-one, -ℤ-one, suc-pred}
 use lib.Signed.{ltZ, leZ, nonNeg}
 use lib.Dec.{T, eqb}
-use mir.Syntax.{Width, w32, w64}
+use mir.Syntax.{w32, w64}
 use mir.Val.{Fits, SFits, toZ, ofZ}
 use mir.Facts.{toZ-ofZ, fits-natAbs}
 use Rattle.numbers.specs.Pick.{pick}

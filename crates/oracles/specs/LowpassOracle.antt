@@ -1,6 +1,5 @@
 -- The lowpass oracle (lowpass_oracle.rs): the assessment of a point, in the Rust's order. Definitions only.
-use Prim.Native.Nat.{ℕ, _≤_}
-use mathlib.Core.Path.{_≡_}
+use Prim.Native.Nat.{ℕ}
 use mathlib.Core.Bool.{Bool, true, false, _&&_}
 use mathlib.Core.List.{List}
 use lib.Dec.{eqb}
@@ -22,12 +21,10 @@ use Rattle.oracles.specs.declared.round_robin.RoundRobin.{RoundRobin}
 use Rattle.oracles.specs.declared.round_robin.CursorAnswer.{CursorAnswer}
 use Rattle.oracles.specs.declared.round_robin.CursorAnswer.the-variants.{At as Fresh, Refused as NoBand}
 use Rattle.oracles.specs.declared.scan.Upper.the-variants.{Absent, At}
-use Rattle.oracles.specs.declared.scan.Scan.{Scan}
 use Rattle.oracles.specs.declared.lowpass_oracle.Group.{Group}
 use Rattle.oracles.specs.declared.lowpass_oracle.Group.the-variants.{Pass, Stop, Middle, Sign}
 use Rattle.oracles.specs.declared.lowpass_oracle.Verdict.{Verdict}
 use Rattle.oracles.specs.declared.lowpass_oracle.Verdict.the-variants.{Feasible, Cut, Refused}
-use Rattle.oracles.specs.declared.lowpass_oracle.OptimVerdict.{OptimVerdict}
 use Rattle.oracles.specs.declared.lowpass_oracle.OptimVerdict.the-variants.{Improved, Cut as CutOptim, Refused as RefusedOptim}
 use Rattle.oracles.specs.declared.lowpass_oracle.LowpassOracle.{LowpassOracle}
 use Rattle.oracles.specs.declared.lowpass_oracle.Assessed.{Assessed}

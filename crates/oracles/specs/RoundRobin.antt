@@ -1,9 +1,7 @@
 -- The cursor (round_robin.rs) and document 01's legal cursors. Definitions only.
-use Prim.Native.Nat.{ℕ, _≤_}
-use mathlib.Core.Path.{_≡_}
-use mathlib.Core.Bool.{Bool, true, false, _&&_}
+use mathlib.Core.Bool.{Bool, false, _&&_}
 use lib.Dec.{eqb}
-use lib.IntN.{ℤ, pos, negsuc, predℤ, _+ℤ_, _-ℤ_}
+use lib.IntN.{ℤ, pos, negsuc, _+ℤ_, _-ℤ_}
 use lib.Signed.{leZ, ltZ}
 use Rattle.numbers.specs.Pick.{pick}
 use Rattle.numbers.specs.Refusal.{_⨾_, unless, ask}

@@ -1,6 +1,5 @@
 -- A scan of a band of rows (`scan_band` of lowpass_oracle.rs), in the Rust's order. Definitions only.
-use Prim.Native.Nat.{ℕ, zero, suc, _≤_, _<_, _*_}
-use mathlib.Core.Path.{_≡_}
+use Prim.Native.Nat.{ℕ, zero, suc, _*_}
 use mathlib.Core.Bool.{Bool, true, false, _&&_}
 use mathlib.Core.List.{List, map}
 use lib.Dec.{leb, eqb}
@@ -25,7 +24,6 @@ use Rattle.oracles.specs.declared.scan.Violation.the-variants.{Nothing, 
 use Rattle.oracles.specs.declared.scan.Scan.{Scan}
 use Rattle.oracles.specs.declared.scan.ScanAnswer.{ScanAnswer}
 use Rattle.oracles.specs.declared.scan.ScanAnswer.the-variants.{Scanned, Refused as NotScanned}
-use Rattle.oracles.specs.laws.RoundRobin.{Legal}
 
 -- minus infinity, and the row number that stands for none
 abbrev pub −∞ : Float

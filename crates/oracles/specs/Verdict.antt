@@ -1,5 +1,5 @@
 -- Demand 3 in document 01's words ("Verdict"): what a point breaks, said without a cursor, and what an assessment has to answer. Definitions only.
-use Prim.Native.Nat.{ℕ, zero, suc, _≤_, _<_, _+_, _-_}
+use Prim.Native.Nat.{ℕ, _≤_, _<_, _-_}
 use mathlib.Core.Path.{_≡_}
 use mathlib.Core.Bool.{Bool, true, false, not, _&&_, _||_}
 use mathlib.Core.List.{List}

@@ -4,7 +4,6 @@ use numbers::refusal::Refusal;
 ghost use mathlib.Core.Path.{_≡_};
 ghost use Prim.Native.Nat.{suc, _+_, _-_, _*_, _≤_, _<_};
 ghost use lib.ListN.{length};
-ghost use lib.Ieee.{neg};
 ghost use Rattle.numbers.specs.F64.{_⊕_, _⊗_, 0ᶠ};
 ghost use Rattle.oracles.specs.Matrix.{entry, at, total};
 ghost use Rattle.oracles.specs.LdltMgr.{isOrder, get-elem, reduced, filled, rowsOf, factor-answer, witnessOf, witness-answer, quad-term, quadOf, sym-quad-answer};

@@ -9,10 +9,11 @@ ghost use mathlib.Core.Path.{_≡_};
 ghost use Prim.Native.Nat.{_*_, _≤_};
 ghost use lib.ListN.{length, take, replicate};
 ghost use Rattle.numbers.specs.F64.{0ᶠ};
-ghost use Rattle.drivers.specs.Trace.{next-answer, text-in};
-ghost use Rattle.drivers.specs.Calls.{run-all-answer, run-all-text};
+ghost use Rattle.drivers.specs.Trace.{next-answer};
 ghost use Rattle.drivers.specs.Program.{program-text};
 ghost use Rattle.drivers.specs.laws.Program.{RunHeld};
+ghost use Rattle.drivers.specs.laws.Trace.{text-in};
+ghost use Rattle.drivers.specs.laws.Calls.{run-all-answer, run-all-text};
 ghost use Rattle.runner.specs.Mark.{marked, mark-of};
 ghost use Rattle.runner.specs.Run.{Ran};
 

@@ -15,8 +15,8 @@ use Rattle.numbers.specs.declared.refusal.Refusal.the-variants.{Dimension, Leng
 use Rattle.numbers.specs.laws.Pick.{is-hit, is-skip, both-ways}
 use Rattle.numbers.specs.laws.Refusal.{failed, held, at-first, at-next, refuses, accepts}
 use Rattle.numbers.specs.declared.refusal.Fault.the-variants.{Sound}
-use Rattle.drivers.specs.Text.{put, put-all, joined}
-use Rattle.drivers.specs.laws.Text.{put-then, put-one, put-front}
+use Rattle.drivers.specs.Text.{joined}
+use Rattle.drivers.specs.laws.Text.{put-then, put-one, put-front, put, put-all}
 use Rattle.drivers.specs.Fields.{Field, field-bytes, record-bytes, number-bytes}
 use Rattle.drivers.specs.laws.Fields.{length-numbers}
 use Rattle.drivers.specs.Answer.{outcome-byte, outcome-field, steps-field, point-field, answer-fields, answer-bytes, write-answer-tests, write-answer-answer}

@@ -1,16 +1,15 @@
 -- A run from its next step: it goes on with what the step left, or ends there. Assumes nothing.
-use mathlib.Core.Path.{_≡_, refl, sym, ap, _∙_}
-use mathlib.Core.Bool.{Bool, true, false}
+use mathlib.Core.Path.{_≡_, sym, ap, _∙_}
+use mathlib.Core.Bool.{true, false}
 use mathlib.Core.List.{List}
-use Prim.Native.Nat.{ℕ, zero, suc, _≤_, _<_, _+_, _-_}
+use Prim.Native.Nat.{ℕ, suc, _≤_, _<_, _+_, _-_}
 use native.Mathlib.Numerals.{add-one}
 use native.Mathlib.Omega.{arith}
 use lib.Ieee.{Float}
 use Rattle.numbers.specs.Pick.{pick}
 use Rattle.numbers.specs.laws.Pick.{is-hit, is-skip}
 use Rattle.oracles.specs.declared.ell_common.Update.{Update}
-use Rattle.drivers.specs.CuttingPlane.{Space, feas-step, goes-on, feas-ended, feas-run, OptimSpace, OptimLeft, leaves, optim-step, optim-goes-on, optim-ended, optim-run}
-use Rattle.drivers.specs.declared.answer.Answer.{Answer}
+use Rattle.drivers.specs.CuttingPlane.{Space, feas-step, goes-on, feas-ended, feas-run, OptimSpace, leaves, optim-step, optim-goes-on, optim-ended, optim-run}
 use Rattle.drivers.specs.declared.cutting_plane.Said.{Said}
 use Rattle.drivers.specs.declared.cutting_plane.FeasAnswer.{FeasAnswer}
 use Rattle.drivers.specs.declared.cutting_plane.FeasAnswer.the-variants.{Ended}

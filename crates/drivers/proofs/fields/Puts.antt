@@ -13,8 +13,8 @@ use lib.Ieee.{Float, nan}
 use Rattle.numbers.specs.Bits.{bitsOf, leBytes, putBytes}
 use Rattle.numbers.specs.laws.Bits.{length-bytes, put-fits}
 use Rattle.numbers.specs.laws.Pick.{says-no, says-yes}
-use Rattle.drivers.specs.Text.{put, put-all, joined}
-use Rattle.drivers.specs.laws.Text.{put-fits as piece-fits, put-none, put-not, put-joined}
+use Rattle.drivers.specs.Text.{joined}
+use Rattle.drivers.specs.laws.Text.{put-fits as piece-fits, put-none, put-not, put-joined, put, put-all}
 use Rattle.drivers.specs.Fields.{header, field-bytes, number-pieces, number-bytes}
 use Rattle.drivers.specs.laws.Fields.{length-numbers, length-field}
 

@@ -9,8 +9,8 @@ use borrow.Author.Tests.{lt-ltb, le-ltb}
 use lib.Dec.{ltb}
 use lib.ListN.{length, take, drop, set, getD, length-set}
 use lib.Seq.{paste, paste-zero, paste-suc, take-length}
-use Rattle.drivers.specs.Text.{put, digitChar, digitsOf, digit-count-to, digit-count}
-use Rattle.drivers.specs.laws.Text.{put-fits, digits-more, length-digits}
+use Rattle.drivers.specs.Text.{digitChar, digitsOf, digit-count-to, digit-count}
+use Rattle.drivers.specs.laws.Text.{put-fits, digits-more, length-digits, put}
 use Rattle.numbers.specs.laws.Pick.{is-hit, is-skip}
 use Rattle.numbers.specs.Over.{over}
 use Rattle.numbers.specs.laws.Over.{over-none, store-before}

@@ -15,8 +15,7 @@ use Rattle.numbers.specs.declared.refusal.Fault.the-variants.{Sound, At}
 use Rattle.numbers.specs.laws.Refusal.{failed, held, at-first, at-next, refuses, accepts}
 use Rattle.numbers.specs.laws.Pick.{hit, skip}
 use Rattle.oracles.specs.Ell.{EllBuffers}
-use Rattle.drivers.specs.Text.{put-all}
-use Rattle.drivers.specs.laws.Text.{put-front}
+use Rattle.drivers.specs.laws.Text.{put-front, put-all}
 use Rattle.drivers.specs.CuttingPlane.{Space, check-space, feas-step, goes-on, feas-ended}
 use Rattle.drivers.specs.Trace.{said-pieces, last-pieces, ended-pieces, space-of, run-at, step-printed, limit-printed, not-printed, next-tests, next-answer}
 use Rattle.drivers.specs.laws.Trace.{last-most, step-pieces}

@@ -14,9 +14,9 @@ use Rattle.numbers.specs.laws.Refusal.{both-sound, ask-sound}
 use Rattle.numbers.specs.laws.Arr.{length-tab}
 use Rattle.numbers.specs.declared.refusal.Refusal.the-variants.{Dimension, Room}
 use Rattle.numbers.specs.declared.refusal.Fault.the-variants.{Sound}
-use Rattle.drivers.specs.Rules.{found-tag}
+use Rattle.drivers.specs.Rules.{found-place}
 use Rattle.drivers.specs.Record.{numberAt, numbersAt, fields-of, place, lengths-fault}
-use Rattle.drivers.specs.Answer.{has-point, point-at, answer-walk, outcome-fault, answer-fault, point-room}
+use Rattle.drivers.specs.Answer.{has-point, point-at, answer-walk, outcome-fault, answer-fault, point-room, read-answer-tests}
 
 -- n is in its range, and a point that is there has room
 pub record AnswerSound (n : ℕ) (places : List ℕ) (room : ℕ) : Type 0 where
@@ -26,10 +26,10 @@ pub record AnswerSound (n : ℕ) (places : List ℕ) (room : ℕ) : Type 0 where
 -- the room that a point needs: n numbers, or none
 module _ (n : ℕ) (bytes places : List ℕ) where
   found-long : has-point places ≡ true → length (point-at n bytes places) ≡ n
-  found-long h = ap length (is-hit (has-point places) (numbersAt bytes (place places found-tag) n) [] h) ∙ length-tab (λ k. numberAt bytes (place places found-tag) k) n
+  found-long h = ap length (is-hit (has-point places) (numbersAt bytes (place places found-place) n) [] h) ∙ length-tab (λ k. numberAt bytes (place places found-place) k) n
 
   none-long : has-point places ≡ false → length (point-at n bytes places) ≡ 0
-  none-long h = ap length (is-skip (has-point places) (numbersAt bytes (place places found-tag) n) [] h)
+  none-long h = ap length (is-skip (has-point places) (numbersAt bytes (place places found-place) n) [] h)
 
   pub no-room : (room : ℕ) → (has-point places && ltb room n) ≡ true → leb (length (point-at n bytes places)) room ≡ false
   no-room room h =
@@ -43,7 +43,7 @@ module _ (n : ℕ) (bytes places : List ℕ) where
       go true e = le-leb (length (point-at n bytes places)) room (rw (found-long e) (ltb-false room n (sym (ap (λ (b : Bool). b && ltb room n) e) ∙ h)))
       go false e = le-leb (length (point-at n bytes places)) room (rw (none-long e) (omega arith))
 
-pub answer-sound : (n : ℕ) (bytes : List ℕ) (room : ℕ) → let places = answer-walk bytes .1 in (answer-fault n bytes ⨾ point-room (point-at n bytes places) room) ≡ Sound → AnswerSound n places room
+pub answer-sound : (n : ℕ) (bytes : List ℕ) (room : ℕ) → read-answer-tests n bytes room ≡ Sound → AnswerSound n (answer-walk bytes .1) room
 unfolding answer-fault
 answer-sound n bytes room e =
     let places = answer-walk bytes .1 in

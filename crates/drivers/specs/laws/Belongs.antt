@@ -2,7 +2,7 @@
 use mathlib.Core.Path.{_≡_, refl, sym, ap, _∙_}
 use mathlib.Core.Bool.{Bool, true, false, not, _&&_, true≢false}
 use mathlib.Core.List.{List}
-use Prim.Native.Nat.{ℕ, _*_}
+use Prim.Native.Nat.{_*_}
 use borrow.Author.Tests.{eq-eqb, eqb-true}
 use lib.Dec.{eqb}
 use lib.ListN.{length}
@@ -16,18 +16,26 @@ use Rattle.numbers.specs.declared.refusal.Fault.{Fault}
 use Rattle.numbers.specs.laws.Pick.{is-hit, is-skip, by-test, pick-cong, and-parts}
 use Rattle.oracles.specs.Scan.{table-fits}
 use Rattle.oracles.specs.LowpassOracle.{oracle-tests, assess-tests, assess-feas-answer}
-use Rattle.oracles.specs.Verdict.{Judgement, feasible, pass, stop, middle, sign, refused, Question, judge, judgement, is-feasible, asked, is-accepted, FeasRule}
+use Rattle.oracles.specs.Verdict.{Judgement, feasible, pass, stop, middle, sign, refused, Question, judge, judgement, is-feasible, is-accepted}
 use Rattle.oracles.specs.laws.CursorRule.{feas-rule}
 use Rattle.oracles.specs.declared.lowpass_oracle.Assessed.{Assessed}
 use Rattle.oracles.specs.declared.lowpass_oracle.Group.the-variants.{Pass, Stop, Middle, Sign}
 use Rattle.oracles.specs.declared.lowpass_oracle.Verdict.{Verdict}
 use Rattle.oracles.specs.declared.lowpass_oracle.Verdict.the-variants.{Feasible, Cut, Refused as NotAssessed}
-use Rattle.drivers.specs.Belongs.{yes-if, said-by, feasible-for, is-of, asked-point, belongs-tests, belongs-answer}
+use Rattle.drivers.specs.Belongs.{yes-if, feasible-for, is-of, asked-point, belongs-tests, belongs-answer}
 use Rattle.drivers.specs.Job.{job-oracle}
 use Rattle.drivers.specs.declared.answer.Answer.{Answer}
 use Rattle.drivers.specs.declared.job.Job.{Job}
 use Rattle.drivers.specs.declared.belongs.Belonging.{Belonging}
 use Rattle.drivers.specs.declared.belongs.Belonging.the-variants.{Refused}
+
+-- ---- what the code makes of a verdict
+
+-- what a verdict on the point that is asked about says, of an answer that has a point or has none
+abbrev pub said-by : Verdict → Bool → Belonging
+said-by Feasible found = yes-if found
+said-by (Cut group beta) found = yes-if (not found)
+said-by (NotAssessed why) found = Refused why
 
 and-true : (t : Bool) → (t && true) ≡ t
 and-true true = refl

@@ -26,7 +26,7 @@ use Rattle.drivers.specs.laws.Text.{joined-append}
 use Rattle.drivers.specs.Record.{tagAt, lengthAt, indexAt, overruns, after, contentOf, numberAt, numbersAt, fields-of, is-met, noted, field-fault, walk-of, missing-fault, record-fault, lengths-fault, row-count, rows-of}
 use Rattle.drivers.specs.laws.Record.{fields-after, fields-start, fields-turn, fields-end}
 use Rattle.drivers.specs.Fields.{Field, header, field-bytes, record-bytes, number-bytes}
-use Rattle.drivers.specs.Rules.{rules, ruleAt, is-of, repeats, indexOf, ruleLength, row-tag}
+use Rattle.drivers.specs.Rules.{rules, ruleAt, is-of, repeats, indexOf, ruleLength, row-place}
 
 -- every number of a list is one of the format, as each f64 is
 abbrev pub AllF64 : List Float → Type 0
@@ -137,7 +137,7 @@ module _ (bytes : List ℕ) where
             ∙ ap (λ (b : List ℕ). floatOf (leNumber b)) (take-append-le 8 (drop (8 * k) (f .1)) rest (omega (arith, length-drop (8 * k) (f .1))))
 
 -- the length that the table asks of a row
-pub size-row : (n : ℕ) → ruleLength row-tag n ≡ 8 * n
+pub size-row : (n : ℕ) → ruleLength row-place n ≡ 8 * n
 unfolding ruleLength ruleAt rules
 size-row n = let e : n ^ 1 ≡ n = rw (pow-suc, pow-zero) (one-mul n) in omega arith
 
@@ -186,7 +186,7 @@ sizes-sound n (f ∷ fs) at h = rw (eq-eqb (length (f .1)) (ruleLength (indexOf 
 
 -- the rows
 abbrev pub is-row-field : Field → Bool
-is-row-field f = eqb (indexOf (f .0)) row-tag
+is-row-field f = eqb (indexOf (f .0)) row-place
 
 unfoldable pub count-rows : List Field → ℕ
 count-rows [] = 0
@@ -282,13 +282,13 @@ module _ (bytes : List ℕ) where
       let r = rows-are n fs (past at f) (w .1) (z .1) (s .next-is) in
       let numbers : is-row-field f ≡ true → numbersAt bytes (contentOf bytes at) n ≡ numbersAt (f .1) 0 n =
       λ t. ap (λ (p : ℕ). numbersAt bytes p n) (content-at bytes s) ∙ numbers-are bytes s n (omega (arith, z .0, row-size n (f .0) t)) in (
-        (λ j. pick (eqb (index-is bytes s j) row-tag) 1 0 + r .0 j),
-        ap (λ (i : ℕ). pick (eqb i row-tag) (numbersAt bytes (contentOf bytes at) n) [] ++ rows-of n bytes (starts (past at f) fs)) (index-is bytes s)
+        (λ j. pick (eqb (index-is bytes s j) row-place) 1 0 + r .0 j),
+        ap (λ (i : ℕ). pick (eqb i row-place) (numbersAt bytes (contentOf bytes at) n) [] ++ rows-of n bytes (starts (past at f) fs)) (index-is bytes s)
             ∙ (λ j. pick-cong (is-row-field f) {b = []} numbers (λ _. refl) j ++ r .1 j),
       )
     where
-      row-size : (n tag : ℕ) → eqb (indexOf tag) row-tag ≡ true → ruleLength (indexOf tag) n ≡ 8 * n
-      row-size n tag t = ap (λ (i : ℕ). ruleLength i n) (eqb-true (indexOf tag) row-tag t) ∙ size-row n
+      row-size : (n tag : ℕ) → eqb (indexOf tag) row-place ≡ true → ruleLength (indexOf tag) n ≡ 8 * n
+      row-size n tag t = ap (λ (i : ℕ). ruleLength i n) (eqb-true (indexOf tag) row-place t) ∙ size-row n
 
 -- ---- the laws of a written record
 

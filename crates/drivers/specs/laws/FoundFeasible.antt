@@ -6,8 +6,7 @@ use mathlib.Core.List.{List}
 use native.Mathlib.Omega.{arith}
 use borrow.Author.Tests.{le-leb}
 use lib.Dec.{leb}
-use lib.ListN.{length, take, drop}
-use lib.Seq.{take-at}
+use lib.ListN.{length, take}
 use lib.Ieee.{Float}
 use Rattle.oracles.specs.Verdict.{judge, is-feasible}
 use Rattle.oracles.specs.Ell.{EllBuffers}

@@ -1,6 +1,6 @@
 -- Laws of jobs: what a record without a fault has. Assumes nothing.
-use mathlib.Core.Path.{_≡_, refl, sym, ap, subst, _∙_}
-use mathlib.Core.Bool.{Bool, true, false, _&&_, true≢false}
+use mathlib.Core.Path.{_≡_, sym, subst, _∙_}
+use mathlib.Core.Bool.{true, false, _&&_}
 use mathlib.Core.List.{List}
 use Prim.Native.Nat.{ℕ, _≤_}
 use borrow.Author.Tests.{leb-true}
@@ -9,11 +9,10 @@ use lib.IntN.{ℤ, pos, _-ℤ_}
 use lib.Signed.{leZ}
 use Rattle.numbers.specs.Arr.{isDimension}
 use Rattle.numbers.specs.laws.Arr.{dimension-most}
-use Rattle.numbers.specs.declared.refusal.Refusal.{Refusal}
 use Rattle.numbers.specs.declared.refusal.Refusal.the-variants.{Dimension, Length, Band, Cursor}
 use Rattle.numbers.specs.declared.refusal.Fault.{Fault}
-use Rattle.numbers.specs.declared.refusal.Fault.the-variants.{Sound, At}
-use Rattle.numbers.specs.laws.Pick.{is-hit, is-skip, and-parts}
+use Rattle.numbers.specs.declared.refusal.Fault.the-variants.{Sound}
+use Rattle.numbers.specs.laws.Pick.{is-hit, and-parts}
 use Rattle.numbers.specs.Refusal.{is-fault, _⨾_, ask-at}
 use Rattle.numbers.specs.laws.Refusal.{no-fault, both-sound, ask-sound}
 use Rattle.oracles.specs.Scan.{none, isRows}
@@ -23,7 +22,7 @@ use Rattle.oracles.specs.declared.lowpass_oracle.LowpassOracle.{LowpassOracle}
 use Rattle.drivers.specs.Record.{lengthAt, startOf, halfAt, fields-of, lengths-fault, place}
 use Rattle.drivers.specs.Job.{row-end, job-oracle, job-at, job-walk, size-fault, job-fault}
 use Rattle.drivers.specs.declared.job.Job.{Job}
-use Rattle.drivers.specs.Rules.{ruleLength, bands-tag, cursors-tag, n-tag}
+use Rattle.drivers.specs.Rules.{ruleLength, bands-place, cursors-place, n-place}
 
 -- the range of a dimension that no fault comes from
 pub size-sound : (rule least : ℕ) (bytes : List ℕ) (p : ℕ) → size-fault rule least bytes p ≡ Sound → (leb least (halfAt bytes p) && leb (halfAt bytes p) 32) ≡ true
@@ -79,14 +78,14 @@ unfolding job-fault job-at
 sound-job bytes e =
     let places = job-walk bytes .1 in
     let j = job-at bytes places in
-    let f₁ = size-fault n-tag 2 bytes (place places n-tag) in
+    let f₁ = size-fault n-place 2 bytes (place places n-place) in
     let f₂ = lengths-fault (j .n) bytes (fields-of bytes) in
-    let f₃ = ask-at (startOf (place places bands-tag)) (bands-fit (job-oracle j) (j .rows)) Band in
-    let f₄ = ask-at (startOf (place places cursors-tag)) (cursors-fit (job-oracle j)) Cursor in
+    let f₃ = ask-at (startOf (place places bands-place)) (bands-fit (job-oracle j) (j .rows)) Band in
+    let f₄ = ask-at (startOf (place places cursors-place)) (cursors-fit (job-oracle j)) Cursor in
     let s₁ = both-sound f₁ (f₂ ⨾ f₃ ⨾ f₄) (both-sound (job-walk bytes .0) (f₁ ⨾ f₂ ⨾ f₃ ⨾ f₄) e .1) in
     let s₃ = both-sound f₃ f₄ (both-sound f₂ (f₃ ⨾ f₄) (s₁ .1) .1) in
     record {
-      dimension = size-sound n-tag 2 bytes (place places n-tag) (s₁ .0);
+      dimension = size-sound n-place 2 bytes (place places n-place) (s₁ .0);
       bands = ask-sound _ Band _ (s₃ .0);
       cursors = ask-sound _ Cursor _ (s₃ .1);
     }

@@ -7,7 +7,7 @@ use native.Mathlib.Nat.{zero-mul, one-mul, add-mul}
 use native.Mathlib.Omega.{arith}
 use borrow.Author.Tests.{leb-true}
 use lib.Dec.{leb}
-use lib.ListN.{length, take, drop, length-append, length-drop}
+use lib.ListN.{length, take, length-append}
 use lib.Seq.{length-take-le}
 use lib.Ieee.{Float}
 use Rattle.numbers.specs.F64.{0ᶠ}
@@ -34,7 +34,7 @@ use Rattle.drivers.specs.declared.job.JobAnswer.{JobAnswer}
 use Rattle.drivers.specs.declared.job.JobAnswer.the-variants.{Read, Refused}
 use Rattle.drivers.specs.declared.trace.Run.{Run}
 use Rattle.drivers.specs.declared.trace.NewRun.the-variants.{Made}
-use Rattle.drivers.specs.Rules.{matrix-tag, point-tag}
+use Rattle.drivers.specs.Rules.{matrix-place, point-place}
 use Rattle.numbers.specs.laws.Over.{length-over}
 
 -- the slices that a job's numbers are read into
@@ -68,8 +68,8 @@ full-long bytes places =
     let n = job-at bytes places .n in
     record {
       table-is = rows-long n bytes (fields-of bytes);
-      point-is = length-tab (λ k. numberAt bytes (place places point-tag) k) n;
-      matrix-is = length-tab (λ k. numberAt bytes (place places matrix-tag) k) (n * n);
+      point-is = length-tab (λ k. numberAt bytes (place places point-place) k) n;
+      matrix-is = length-tab (λ k. numberAt bytes (place places matrix-place) k) (n * n);
     }
 
 -- what has room holds them

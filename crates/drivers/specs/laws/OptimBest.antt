@@ -7,8 +7,7 @@ use mathlib.Core.Logic.{inl, inr}
 use native.Mathlib.Omega.{arith}
 use borrow.Author.Tests.{le-leb, leb-true}
 use lib.Dec.{leb}
-use lib.ListN.{length, take, drop, length-append, length-drop}
-use lib.Seq.{take-at}
+use lib.ListN.{length, take}
 use lib.IntN.{ℤ}
 use lib.Ieee.{Float, lt}
 use Rattle.oracles.specs.Verdict.{feasible, Has, asked, judge, valueIn}

@@ -6,8 +6,7 @@ use mathlib.Core.List.{List}
 use native.Mathlib.Nat.{mul-le-mul}
 use native.Mathlib.Omega.{arith}
 use borrow.Author.Tests.{le-leb}
-use lib.ListN.{length, take, drop, replicate, length-replicate}
-use lib.Seq.{take-at}
+use lib.ListN.{length, take, replicate, length-replicate}
 use lib.Ieee.{Float}
 use Rattle.numbers.specs.F64.{0ᶠ}
 use Rattle.numbers.specs.declared.refusal.Refusal.{Refusal}
@@ -17,13 +16,12 @@ use Rattle.oracles.specs.Ell.{EllBuffers}
 use Rattle.drivers.specs.Record.{fronted}
 use Rattle.drivers.specs.Job.{FullJob, job-oracle, optionsOf, job-at, full-job-at, job-walk, full-job, job-fault, has-room, room-fault, read-into, read-job-answer}
 use Rattle.drivers.specs.laws.Job.{JobSound, n-to, rows-to, sound-job}
-use Rattle.drivers.specs.Trace.{text-room, printed, input-tests, new-run-answer, opened-run, opened-read, with-slices, run-text, text-in, printed-by, open-answer}
+use Rattle.drivers.specs.Trace.{text-room, printed, input-tests, new-run-answer, opened-run, opened-read, with-slices, run-text, open-answer}
 use Rattle.numbers.specs.laws.Over.{front-over}
-use Rattle.drivers.specs.laws.Trace.{calls-print}
-use Rattle.drivers.specs.Calls.{run-all-text}
-use Rattle.drivers.specs.laws.Calls.{calls-enough}
+use Rattle.drivers.specs.laws.Trace.{calls-print, text-in, printed-by}
+use Rattle.drivers.specs.laws.Calls.{calls-enough, run-all-text}
 use Rattle.drivers.specs.laws.JobRuns.{JobHeld, FullLong, full-long, room-held, job-sound, held-slices, job-run, job-right, run-made}
-use Rattle.drivers.specs.Program.{refused-text, first-space, job-text, program-text, opened-text, calls-text}
+use Rattle.drivers.specs.Program.{refused-text, first-space, job-text, program-text}
 use Rattle.numbers.specs.declared.refusal.Fault.{Fault}
 use Rattle.numbers.specs.declared.refusal.Fault.the-variants.{Sound, At}
 use Rattle.drivers.specs.declared.job.Job.{Job}
@@ -37,6 +35,18 @@ use Rattle.drivers.specs.declared.trace.Opened.the-variants.{Going, Over
 use Rattle.drivers.specs.declared.trace.Text.{Text}
 use Rattle.drivers.specs.declared.trace.Text.the-variants.{Bytes, Refused as NoLine}
 use Rattle.numbers.specs.laws.Pick.{is-skip, is-hit}
+
+-- ---- what is printed by `open`, and then by calls of `Run::next`
+
+-- what is printed after `open` has answered, by so many calls of `next` at most
+abbrev pub opened-text : ℕ → Opened → List Float → List Float → List Float → List ℕ → List ℕ
+opened-text calls (Over text) table xc mq out = text-in text out
+opened-text calls (Going run) table xc mq out =
+    let n = run .ell .ndim in
+    printed-by calls run (take (run .rows * n) table) (record { mq = take (n * n) mq; xc = take n xc; grad-t = replicate n 0ᶠ }) (replicate n 0ᶠ) out
+
+abbrev pub calls-text : ℕ → Opened × List Float × List Float × List Float × List ℕ → List ℕ
+calls-text calls r = opened-text calls (r .0) (r .1) (r .2) (r .3) (r .4)
 
 -- a run's numbers stand at the fronts of the slices that they were read into
 pub record RunHeld (run : Run) (table xc mq : List Float) : Type 0 where

@@ -1,21 +1,14 @@
 -- Laws of records: the fields that a walk has left. Assumes nothing.
 use mathlib.Core.Path.{_≡_, refl, sym, ap, _∙_}
-use mathlib.Core.Bool.{Bool, true, false, _&&_, and-eq-true-iff, true≢false}
 use mathlib.Core.List.{List, [], _∷_, _++_}
-use Prim.Native.Nat.{ℕ, zero, suc, _≤_, _<_, _+_, _-_, _/_, _%_}
-use native.Mathlib.Nat.{zero-div}
-use native.Mathlib.Numerals.{add-one}
+use Prim.Native.Nat.{ℕ, zero, suc, _≤_, _<_, _+_, _-_}
 use native.Mathlib.Omega.{arith}
-use borrow.Author.Tests.{ltb-true, ltb-false, leb-true, lt-ltb, le-ltb, eq-eqb, ne-eqb}
-use lib.Dec.{leb, ltb, eqb}
-use lib.ListN.{length, drop, getD, List·getD-eq-default, take}
-use lib.Seq.{drop-cons}
+use borrow.Author.Tests.{ltb-true, lt-ltb, le-ltb}
+use lib.Dec.{ltb}
+use lib.ListN.{length, drop, take}
 use Rattle.numbers.specs.Pick.{pick}
 use Rattle.numbers.specs.laws.Pick.{is-hit, is-skip, pick-cong, by-test}
 use Rattle.drivers.specs.Record.{lengthAt, overruns, after, fields-from, fields-of, is-row, numbersAt, contentOf}
-use Rattle.drivers.specs.declared.rules.Rule.{Rule}
-use Rattle.drivers.specs.declared.rules.Form.{Form}
-use Rattle.drivers.specs.Rules.{no-rule, tags, is-of, rules, ruleAt, indexIn, indexOf}
 use lib.Ieee.{Float}
 
 -- ---- the fields from `at` on

@@ -12,7 +12,7 @@ use Rattle.numbers.specs.Pick.{pick, some}
 use Rattle.numbers.specs.Bits.{leBytes}
 use Rattle.numbers.specs.Over.{over}
 use Rattle.numbers.specs.Arr.{isDimension, sized}
-use Rattle.numbers.specs.Refusal.{_⨾_, ask}
+use Rattle.numbers.specs.Refusal.{ask}
 use Rattle.numbers.specs.laws.Over.{over-none, front-over}
 use Rattle.numbers.specs.laws.Bits.{word-low}
 use Rattle.numbers.specs.laws.Arr.{dimension-most}
@@ -22,16 +22,16 @@ use Rattle.numbers.specs.declared.refusal.Refusal.the-variants.{Dimension, Leng
 use Rattle.numbers.specs.declared.refusal.Fault.{Fault}
 use Rattle.numbers.specs.declared.refusal.Fault.the-variants.{Sound}
 use Rattle.drivers.specs.Text.{joined}
-use Rattle.drivers.specs.Record.{tagAt, halfAt, numbersAt, fields-of, no-places, place, missing-fault, lengths-fault, fronted}
+use Rattle.drivers.specs.Record.{tagAt, halfAt, numbersAt, no-places, place, missing-fault, fronted}
 use Rattle.drivers.specs.Fields.{Field, record-bytes}
-use Rattle.drivers.specs.Answer.{has-point, outcome-byte, answer-at, point-at, answer-walk, outcome-fault, answer-fault, point-room, read-answer-answer, outcome-field, steps-field, point-field, answer-bytes, write-answer-tests, write-answer-answer}
+use Rattle.drivers.specs.Answer.{has-point, outcome-byte, answer-at, point-at, answer-walk, outcome-fault, answer-fault, read-answer-answer, outcome-field, steps-field, point-field, answer-bytes, write-answer-tests, write-answer-answer}
 use Rattle.drivers.specs.laws.Answer.{room-there}
 use Rattle.drivers.specs.laws.Fields.{AllF64, length-numbers, numbers-read, Writable, Each, Sized, size-row, sizes-sound, walk-tags, record-written, lengths-written, content-written}
 use Rattle.drivers.specs.declared.answer.Answer.{Answer}
 use Rattle.drivers.specs.declared.answer.AnswerRead.the-variants.{Read}
 use Rattle.drivers.specs.declared.answer.AnswerWritten.{AnswerWritten}
 use Rattle.drivers.specs.declared.answer.AnswerWritten.the-variants.{Bytes, Refused as NotWritten}
-use Rattle.drivers.specs.Rules.{rules, ruleAt, indexIn, indexOf, ruleLength, answer-form, outcome-tag, steps-tag, found-tag}
+use Rattle.drivers.specs.Rules.{rules, ruleAt, indexIn, indexOf, ruleLength, answer-form, outcome-place, steps-place, found-place}
 
 -- ---- fields that an answer's reader takes, and where it finds their contents
 
@@ -45,7 +45,7 @@ module _ (n : ℕ) (fs : List Field) (places : List ℕ) (point : List Float) wh
     sized : Each (Sized n) fs
     walked : walk-tags answer-form 0 fs no-places ≡ (Sound, places)
     none-missing : missing-fault (length bytes) answer-form places ≡ Sound
-    outcome : tagAt bytes (place places outcome-tag) ≡ outcome-byte (has-point places)
+    outcome : tagAt bytes (place places outcome-place) ≡ outcome-byte (has-point places)
     room : (has-point places && ltb (length point) n) ≡ false
 
   module _ (t : Taken) where
@@ -67,7 +67,7 @@ module _ (n : ℕ) (fs : List Field) (places : List ℕ) (point : List Float) wh
 
 -- where the contents of tags 20 and 21 begin
 abbrev head-places : List ℕ
-head-places = set (set no-places outcome-tag 3) steps-tag 7
+head-places = set (set no-places outcome-place 3) steps-place 7
 
 module _ (n s : ℕ) (point : List Float) (dimension : isDimension n ≡ true) (small : s < 65536) where
   module _ (t : Bool) (o : outcome-byte t < 256) (fs : List Field) where
@@ -104,7 +104,7 @@ module _ (n s : ℕ) (point : List Float) (dimension : isDimension n ≡ true) (
       let bytes = answer-bytes (record { found = true; steps = s }) x in
       let numbers : numbersAt bytes 12 n ≡ x =
       ap (λ (k : ℕ). numbersAt bytes 12 k) (sym long) ∙ numbers-read bytes 12 x [] f64 (content-written (outcome-field true ∷ steps-field s ∷ []) (point-field x) []) in
-      read-is n (outcome-field true ∷ steps-field s ∷ last) (set head-places found-tag 12) point (record {
+      read-is n (outcome-field true ∷ steps-field s ∷ last) (set head-places found-place 12) point (record {
         dimension = dimension;
         writable = ((omega arith, omega arith), ((omega arith, omega arith), ((omega arith, omega (arith, length-numbers x, long, dimension-most n dimension)), tt)));
         sized = (omega arith, (omega arith, (length-numbers x ∙ ap (λ (k : ℕ). 8 * k) long ∙ sym (size-row n), tt)));

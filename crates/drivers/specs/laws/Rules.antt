@@ -6,13 +6,12 @@ use Prim.Native.Nat.{ℕ, zero, suc, _≤_, _<_, _+_, _-_, _/_, _%_}
 use native.Mathlib.Nat.{zero-div}
 use native.Mathlib.Numerals.{add-one}
 use native.Mathlib.Omega.{arith}
-use borrow.Author.Tests.{ltb-true, ltb-false, leb-true, lt-ltb, le-ltb, eq-eqb, ne-eqb}
+use borrow.Author.Tests.{ltb-true, ltb-false, leb-true, eq-eqb, ne-eqb}
 use lib.Dec.{leb, ltb, eqb}
-use lib.ListN.{length, drop, getD, List·getD-eq-default}
+use lib.ListN.{drop, getD, List·getD-eq-default}
 use lib.Seq.{drop-cons}
 use Rattle.numbers.specs.Pick.{pick}
-use Rattle.numbers.specs.laws.Pick.{is-hit, is-skip, pick-cong, by-test}
-use Rattle.drivers.specs.Record.{lengthAt, overruns, after, fields-from, fields-of}
+use Rattle.numbers.specs.laws.Pick.{is-hit, is-skip}
 use Rattle.drivers.specs.declared.rules.Rule.{Rule}
 use Rattle.drivers.specs.declared.rules.Form.{Form}
 use Rattle.drivers.specs.Rules.{no-rule, tags, is-of, rules, ruleAt, indexIn, indexOf}

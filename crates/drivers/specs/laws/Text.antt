@@ -5,13 +5,27 @@ use mathlib.Core.List.{List, [], _∷_, _++_, append-assoc}
 use native.Mathlib.Nat.{add-zero, zero-add}
 use native.Mathlib.Omega.{arith}
 use borrow.Author.Tests.{le-leb, lt-leb}
-use lib.Dec.{ltb}
+use lib.Dec.{ltb, leb}
 use lib.ListN.{length, length-append}
+use Rattle.numbers.specs.Pick.{pick}
 use Rattle.numbers.specs.Over.{over}
 use Rattle.numbers.specs.laws.Over.{over-none, length-over, over-on}
 use Rattle.numbers.specs.laws.Bits.{shift}
 use Rattle.numbers.specs.laws.Pick.{hit, skip, by-test}
-use Rattle.drivers.specs.Text.{put, put-all, joined, digitChar, digitsOf, digit-count-to, digit-count, decimal, hex}
+use Rattle.drivers.specs.Text.{joined, digitChar, digitsOf, digit-count-to, digit-count, decimal, hex}
+
+-- ---- what the inner functions write: a piece where it fits, and pieces one after the other
+
+-- a piece of text from `at` on, and where the next one begins; a piece that does not fit is not written
+unfoldable pub put : List ℕ → ℕ → List ℕ → ℕ × List ℕ
+unfolding over
+put out at text = pick (leb (at + length text) (length out)) (at + length text, over out at text) (at, out)
+
+-- pieces, one after the other
+unfoldable pub put-all : List ℕ → ℕ → List (List ℕ) → ℕ × List ℕ
+unfolding put
+put-all out at [] = (at, out)
+put-all out at (text ∷ texts) = let r = put out at text in put-all (r .1) (r .0) texts
 
 -- ---- pieces
 

@@ -24,9 +24,9 @@ use Rattle.oracles.specs.LowpassOracle.{groupSide}
 use Rattle.oracles.specs.Ell.{EllBuffers}
 use Rattle.oracles.specs.declared.lowpass_oracle.Group.{Group}
 use Rattle.oracles.specs.declared.lowpass_oracle.Group.the-variants.{Pass, Stop, Middle, Sign}
-use Rattle.drivers.specs.Text.{put-all, joined, hex}
-use Rattle.drivers.specs.laws.Text.{length-decimal, length-hex, most-more, most-on, most-none, put-front, joined-append, joined-none}
-use Rattle.drivers.specs.Trace.{group-word, row-text, side-word, beta-pieces, status-word, said-pieces, outcome-word, last-pieces, ended-pieces, refused-pieces, text-room, printed, step-text, space-of, run-at, step-printed, limit-printed, next-tests, next-answer, run-text, cut-lines, text-left, text-in, printed-by}
+use Rattle.drivers.specs.Text.{joined, hex}
+use Rattle.drivers.specs.laws.Text.{length-decimal, length-hex, most-more, most-on, most-none, put-front, joined-append, joined-none, put-all}
+use Rattle.drivers.specs.Trace.{group-word, row-text, side-word, beta-pieces, status-word, said-pieces, outcome-word, last-pieces, ended-pieces, refused-pieces, text-room, printed, step-text, space-of, run-at, step-printed, limit-printed, next-tests, next-answer, run-text}
 use Rattle.drivers.specs.CuttingPlane.{Space, check-space, feas-step, goes-on, feas-ended, feas-run}
 use Rattle.drivers.specs.laws.StepRight.{step-right}
 use Rattle.drivers.specs.declared.answer.Answer.{Answer}
@@ -39,6 +39,31 @@ use Rattle.numbers.specs.laws.Refusal.{held, at-next, accepts, failed, refuses}
 use Rattle.drivers.specs.declared.trace.Run.{Run}
 use Rattle.drivers.specs.declared.trace.Printed.{Printed}
 use Rattle.drivers.specs.declared.trace.Text.the-variants.{Bytes, Refused}
+use Rattle.drivers.specs.declared.trace.Text.{Text}
+
+-- ---- what calls of `Run::next` print
+
+unfoldable pub cut-lines : ℕ → List Float → Float → ℕ → ℕ → Space → List ℕ
+cut-lines rows table tolerance zero k s = []
+cut-lines rows table tolerance (suc left) k s =
+    let r = feas-step rows table s in
+    joined (said-pieces k (r .0)) ++ pick (goes-on (r .0) (r .1 .ell .tsq) tolerance) (cut-lines rows table tolerance left (suc k) (r .1)) []
+
+-- what a run has still to print
+abbrev pub text-left : Run → List Float → EllBuffers → List Float → List ℕ
+text-left run table b grad = run-text (run .rows) table (run .options .tolerance) (run .options .«max_iters» - run .niter) (run .niter) (space-of run b grad)
+
+-- the text that a call has put at the front of `out`
+abbrev pub text-in : Text → List ℕ → List ℕ
+text-in (Bytes n) out = take n out
+text-in (Refused why) out = []
+
+-- what so many calls of `next` print, one after the other, while there is more
+unfoldable pub printed-by : ℕ → Run → List Float → EllBuffers → List Float → List ℕ → List ℕ
+printed-by zero run table b grad out = []
+printed-by (suc calls) run table b grad out =
+    let p = next-answer run table b grad out in
+    text-in (p .0 .text) (p .3) ++ pick (p .0 .more) (printed-by calls (p .0 .run) table (p .1) (p .2) (p .3)) []
 
 -- ---- how long the texts are
 

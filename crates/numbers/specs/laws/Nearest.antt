@@ -1,6 +1,6 @@
 -- `sqrtOf` is IEEE 754's squareRoot with rounding to nearest: no tie occurs, and every other value of binary64 lies farther from the true root. Assumes nothing.
 use mathlib.Core.Path.{_≡_, refl, sym, ap, _∙_, subst}
-use mathlib.Core.Logic.{_⊎_, inl, inr}
+use mathlib.Core.Logic.{inl, inr}
 use mathlib.Core.Bool.{Bool, true, false, not}
 use Prim.Native.Nat.{ℕ, zero, suc, _+_, _-_, _*_, _/_, _%_, _^_, _≤_, _<_}
 use native.Mathlib.Nat.{mul-le-mul, mul-le-mul-right, lt-of-mul-lt-mul-right, lt-of-not-le, not-le-of-lt, le-of-lt, le-trans, lt-of-lt-of-le, lt-of-le-of-lt, le-of-eq, le-of-suc-le-suc, mul-pos, pow-succ', mul-lt-mul-of-pos-left, sub-le, not-suc-le-zero, zero-lt-suc}

@@ -2,11 +2,10 @@
 use mathlib.Core.Path.{_≡_, refl, sym, ap, _∙_}
 use mathlib.Core.Bool.{true, false, _&&_}
 use mathlib.Core.List.{List}
-use Prim.Native.Nat.{ℕ, _≤_, _<_, _*_}
+use Prim.Native.Nat.{ℕ, _≤_, _*_}
 use native.Mathlib.Nat.{mul-le-mul-right, le-trans, le-of-eq}
-use native.Mathlib.Omega.{arith}
 use borrow.Author.Tests.{leb-true, eqb-true}
-use lib.Dec.{leb, eqb}
+use lib.Dec.{eqb}
 use lib.IntN.{ℤ, pos}
 use lib.Signed.{leZ}
 use lib.ListN.{length}
@@ -16,11 +15,10 @@ use Rattle.numbers.specs.laws.Refusal.{failed, held, at-first, at-next, refuses
 use Rattle.numbers.specs.declared.refusal.Refusal.the-variants.{Dimension, Length, Band, Cursor}
 use Rattle.numbers.specs.laws.Pick.{and-parts}
 use Rattle.oracles.specs.RoundRobin.{isBand, isAt, moved}
-use Rattle.oracles.specs.laws.RoundRobin.{legal-of, Legal}
+use Rattle.oracles.specs.laws.RoundRobin.{legal-of}
 use Rattle.oracles.specs.Scan.{isRows, table-fits, band-fits, scanOf, scan-band-answer}
 use Rattle.oracles.specs.declared.round_robin.RoundRobin.{RoundRobin}
 use Rattle.oracles.specs.declared.scan.Upper.{Upper}
-use Rattle.oracles.specs.declared.scan.Scan.{Scan}
 use Rattle.oracles.specs.declared.scan.ScanAnswer.the-variants.{Scanned, Refused}
 use Rattle.oracles.specs.laws.Scan.{Ready, Scannable}
 

@@ -2,7 +2,7 @@
 -- A row has what a definition gives and what the document says, each as words: a float as its bits, an answer as its numbers in order.
 use Prim.Native.Nat.{ℕ, _-_}
 use mathlib.Core.Path.{_≡_, refl}
-use mathlib.Core.Bool.{Bool, true, cond}
+use mathlib.Core.Bool.{true, cond}
 use mathlib.Core.List.{List, [], _∷_, _++_, map}
 use lib.IntN.{ℤ, pos, negsuc}
 use lib.Ieee.{Float, binary64, add, neg, lt, sub, mul, div, le, ofInt, ofBits, toBits}
@@ -14,7 +14,7 @@ use Rattle.numbers.specs.Cut.{statusNumber, chosen}
 use Rattle.numbers.specs.EllCalcCore.{core-new, core-parallel-bias-cut-fast, core-bias-cut-fast, core-bias-cut}
 use Rattle.numbers.specs.EllCalc.{made, calc-bias-cut, calc-bias-cut-q, calc-parallel-impl, calc-parallel-bias-cut}
 use Rattle.oracles.specs.RoundRobin.{fresh, advanced}
-use Rattle.oracles.specs.Scan.{−∞, none, valueOf, scanFrom, scanOf, band-beta}
+use Rattle.oracles.specs.Scan.{−∞, none, valueOf, scanFrom, scanOf}
 use Rattle.oracles.specs.LowpassOracle.{groupNumber, groupSide, assess-sign, assess-middle, assess-stop, assessOf, assess-feas-answer}
 use Rattle.oracles.specs.Matrix.{grid, total}
 use Rattle.oracles.specs.LdltMgr.{get-elem, taken, reduced, stored, stop-from, stopOf, filled, posOf, rowsOf, factorOf, factor-answer, witness-tail, witnessOf, witness-answer, quad-term, quadOf, sym-quad-answer}

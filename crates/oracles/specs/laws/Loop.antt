@@ -1,12 +1,10 @@
 -- Laws of tests and choices, of loops that write vectors and matrices entry by entry, and of parts that were lent. Assumes nothing.
 use mathlib.Core.Path.{_≡_, refl, sym, ap, _∙_}
-use mathlib.Core.Bool.{Bool, true, false, not}
+use mathlib.Core.Bool.{Bool, true, false}
 use mathlib.Core.List.{List, _++_}
-use mathlib.Core.Logic.{⊎-elim}
 use Prim.Native.Nat.{ℕ, _≤_, _<_, _+_, _*_, _-_}
-use native.Mathlib.Nat.{eq-or-lt-of-le}
 use native.Mathlib.Omega.{arith}
-use borrow.Author.Tests.{ltb-true, ltb-false, eqb-true, eqb-false, lt-ltb, le-ltb, not-true, not-false}
+use borrow.Author.Tests.{ltb-true, ltb-false, eqb-true, eqb-false, lt-ltb, le-ltb}
 use borrow.Rule.Slice.PartMut.{putMid, same-len-mid}
 use lib.Dec.{ltb, eqb}
 use lib.Ieee.{Float, nan}
@@ -15,7 +13,7 @@ use lib.Seq.{getD-append-add, getD-set-same, getD-set-other, getD-take, getD-dro
 use Rattle.numbers.specs.Pick.{pick}
 use Rattle.numbers.specs.Arr.{tab}
 use Rattle.numbers.specs.laws.Arr.{row-in, row-unique, tab-ext}
-use Rattle.numbers.specs.laws.Pick.{hit, skip, both-ways, is-hit, is-skip, pick-grow}
+use Rattle.numbers.specs.laws.Pick.{hit, both-ways, is-hit, is-skip, pick-grow}
 use Rattle.oracles.specs.Matrix.{entry, at, grid}
 use Rattle.oracles.specs.laws.Matrix.{place-in, grid-ext, at-set-same, at-set-other}
 

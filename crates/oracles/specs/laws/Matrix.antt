@@ -1,6 +1,6 @@
 -- Laws of matrices over flat lists and of sums, for the proofs here and in the crate above. Assumes nothing.
 use mathlib.Core.Path.{_≡_, refl, sym, ap, _∙_}
-use mathlib.Core.List.{List, [], _∷_, _++_, append-assoc}
+use mathlib.Core.List.{List, _∷_, _++_, append-assoc}
 use mathlib.Core.Logic.{⊎-elim}
 use Prim.Native.Nat.{ℕ, zero, suc, _≤_, _<_, _+_, _-_, _*_}
 use native.Mathlib.Nat.{le-of-suc-le-suc, eq-or-lt-of-le, suc-mul, zero-mul, mul-le-mul}
@@ -8,7 +8,7 @@ use native.Mathlib.Numerals.{add-one}
 use native.Mathlib.Omega.{arith}
 use lib.Ieee.{Float, nan}
 use lib.ListN.{length, take, drop, getD, set, length-append, length-drop, List·getD-append}
-use lib.Seq.{take-suc, append-snoc, set-at, getD-at, getD-append-add, getD-set-same, getD-set-other, getD-take, getD-drop, ext-getD, take-add, take-all, length-take-le}
+use lib.Seq.{take-suc, append-snoc, set-at, getD-append-add, getD-set-same, getD-set-other, getD-take, getD-drop, take-add, take-all, length-take-le}
 use Rattle.numbers.specs.Arr.{tab}
 use Rattle.numbers.specs.laws.Arr.{length-tab, row-in, row-unique, tab-entry, tab-ext}
 use Rattle.oracles.specs.Matrix.{entry, at, grid, total}

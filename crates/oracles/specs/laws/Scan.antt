@@ -11,7 +11,7 @@ use native.Mathlib.Omega.{arith}
 use lib.IntN.{ℤ, pos, predℤ, natAbs, _-ℤ_}
 use lib.Ieee.{Float, lt, isNan}
 use Rattle.numbers.specs.Pick.{pick, some}
-use Rattle.numbers.specs.laws.Pick.{or-parts, none-some, some-holds}
+use Rattle.numbers.specs.laws.Pick.{none-some, some-holds}
 use Rattle.oracles.specs.RoundRobin.{isBand, isAt, moved, advanced}
 use Rattle.oracles.specs.laws.RoundRobin.{canon, legal-canon, adv-next, adv-wrap, band-is, legal-band, legal-at, Legal}
 use Rattle.oracles.specs.laws.FloatOrder.{nlt-trans, lt-asym, lt-irrefl, above-compares}

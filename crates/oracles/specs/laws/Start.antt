@@ -10,11 +10,10 @@ use lib.Signed.{leZ}
 use lib.Ieee.{Float}
 use Rattle.numbers.specs.laws.Pick.{and-parts}
 use Rattle.numbers.specs.laws.Refusal.{held, accepts}
-use Rattle.oracles.specs.RoundRobin.{isBand, fresh, new-range-tests, new-range-answer}
+use Rattle.oracles.specs.RoundRobin.{isBand, new-range-tests, new-range-answer}
 use Rattle.oracles.specs.Scan.{none, isRows}
 use Rattle.oracles.specs.LowpassOracle.{fresh-cur, start-oracle, isOf, bands-fit}
 use Rattle.oracles.specs.declared.lowpass_oracle.LowpassOracle.{LowpassOracle}
-use Rattle.oracles.specs.declared.round_robin.CursorAnswer.the-variants.{At}
 
 -- before a band stands lo − 1
 pub fresh-before : (lo hi : ℤ) → isBand lo hi ≡ true → fresh-cur (new-range-answer lo hi) ≡ lo -ℤ pos 1

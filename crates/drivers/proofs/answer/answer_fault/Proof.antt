@@ -1,6 +1,6 @@
 -- `drivers::answer::answer_fault` meets its contract, a fault at a time. Assumes nothing.
 use mathlib.Core.Path.{_≡_, refl, sym, ap, _∙_}
-use mathlib.Core.Bool.{Bool, true, false, not, _&&_, true≢false}
+use mathlib.Core.Bool.{true, false, _&&_, true≢false}
 use mathlib.Core.List.{List}
 use Prim.Native.Nat.{ℕ}
 use borrow.Author.Needs.{needs}
@@ -15,7 +15,7 @@ use Rattle.numbers.specs.declared.refusal.Fault.{Fault}
 use Rattle.numbers.specs.declared.refusal.Fault.the-variants.{Sound, At}
 use Rattle.drivers.specs.Rules.{answer-form}
 use Rattle.drivers.specs.Record.{fields-of, no-places, record-fault, lengths-fault}
-use Rattle.drivers.specs.Answer.{has-point, point-at, answer-walk, outcome-fault, answer-fault, point-room}
+use Rattle.drivers.specs.Answer.{has-point, point-at, answer-walk, outcome-fault, answer-fault, point-room, read-answer-tests}
 use Rattle.drivers.specs.laws.Answer.{no-room, room-there}
 use Rattle.drivers.proofs.answer.answer_fault.Statement.{statement}
 use Rattle.drivers.proofs.answer.answer_fault.Tie as tie
@@ -26,7 +26,7 @@ first f g h e t = e ∙ stops g h (ap is-fault (sym e) ∙ t)
 
 module _ (n : ℕ) (bytes : List ℕ) (room : ℕ) where
   abbrev tests : Fault
-  tests = answer-fault n bytes ⨾ point-room (point-at n bytes (answer-walk bytes .1)) room
+  tests = read-answer-tests n bytes room
 
   -- r is what the tests find, and without a fault the walk's places are noted
   abbrev Right : Fault → List ℕ → Type 0

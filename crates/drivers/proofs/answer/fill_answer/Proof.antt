@@ -1,18 +1,17 @@
 -- `drivers::answer::fill_answer` meets its contract. Assumes nothing.
-use mathlib.Core.Path.{_≡_, refl, sym, ap, _∙_}
-use mathlib.Core.Bool.{Bool, true, false, not}
+use mathlib.Core.Path.{_≡_, sym, ap, _∙_}
+use mathlib.Core.Bool.{true, false, not}
 use mathlib.Core.List.{List, [], _++_}
 use Prim.Native.Nat.{ℕ, _≤_}
 use native.Mathlib.Omega.{arith}
 use borrow.Author.Needs.{needs}
 use borrow.Author.Tests.{eq-eqb, ne-eqb}
-use lib.Dec.{eqb}
 use lib.ListN.{length, take, drop, length-append, length-drop}
 use lib.Seq.{length-take-le}
 use lib.Ieee.{Float}
 use Rattle.numbers.specs.laws.Arr.{length-tab}
 use Rattle.numbers.specs.laws.Pick.{is-hit, is-skip}
-use Rattle.drivers.specs.Rules.{steps-tag, found-tag}
+use Rattle.drivers.specs.Rules.{steps-place, found-place}
 use Rattle.drivers.specs.Record.{halfAt, numberAt, numbersAt, place, fronted}
 use Rattle.drivers.specs.Answer.{has-point, answer-at, point-at}
 use Rattle.drivers.specs.declared.answer.Answer.{Answer}
@@ -20,25 +19,25 @@ use Rattle.drivers.proofs.answer.fill_answer.Statement.{statement}
 use Rattle.drivers.proofs.answer.fill_answer.Tie as tie
 use Rattle.numbers.specs.laws.Over.{over-none, over-front}
 
-module _ (n : ℕ) (bytes places : List ℕ) (point : List Float) (h : ℕ) (e : h ≡ halfAt bytes (place places steps-tag)) where
+module _ (n : ℕ) (bytes places : List ℕ) (point : List Float) (h : ℕ) (e : h ≡ halfAt bytes (place places steps-place)) where
   abbrev Right : Answer → List Float → Type 0
   Right a out = (a ≡ answer-at bytes places) × (out ≡ fronted (point-at n bytes places) point)
 
-  none : place places found-tag ≡ 0 → Right (record { found = false; steps = h }) point
+  none : place places found-place ≡ 0 → Right (record { found = false; steps = h }) point
   none z =
-      let p : has-point places ≡ false = ap not (eq-eqb (place places found-tag) 0 z) in
-      let q : point-at n bytes places ≡ [] = is-skip (has-point places) (numbersAt bytes (place places found-tag) n) [] p in
+      let p : has-point places ≡ false = ap not (eq-eqb (place places found-place) 0 z) in
+      let q : point-at n bytes places ≡ [] = is-skip (has-point places) (numbersAt bytes (place places found-place) n) [] p in
       ((λ i. record { found = sym p i; steps = e i }), rw q (sym (over-none point 0)))
 
   -- the part xs has been filled
-  found : (place places found-tag ≡ 0 → ⊥) → (xs : List Float) → xs ≡ numbersAt bytes (place places found-tag) (length (take n point)) → n ≤ length point
+  found : (place places found-place ≡ 0 → ⊥) → (xs : List Float) → xs ≡ numbersAt bytes (place places found-place) (length (take n point)) → n ≤ length point
       → Right (record { found = true; steps = h }) (xs ++ drop n point)
   found z xs q l =
-      let p : has-point places ≡ true = ap not (ne-eqb (place places found-tag) 0 z) in
+      let p : has-point places ≡ true = ap not (ne-eqb (place places found-place) 0 z) in
       let w : length (take n point) ≡ n = length-take-le n point l in
-      let y : xs ≡ numbersAt bytes (place places found-tag) n = q ∙ ap (numbersAt bytes (place places found-tag)) w in
-      let r : point-at n bytes places ≡ xs = is-hit (has-point places) (numbersAt bytes (place places found-tag) n) [] p ∙ sym y in
-      let m : length xs ≡ n = ap length y ∙ length-tab (λ k. numberAt bytes (place places found-tag) k) n in
+      let y : xs ≡ numbersAt bytes (place places found-place) n = q ∙ ap (numbersAt bytes (place places found-place)) w in
+      let r : point-at n bytes places ≡ xs = is-hit (has-point places) (numbersAt bytes (place places found-place) n) [] p ∙ sym y in
+      let m : length xs ≡ n = ap length y ∙ length-tab (λ k. numberAt bytes (place places found-place) k) n in
       ((λ i. record { found = sym p i; steps = e i }), rw r (ap (λ (k : ℕ). xs ++ drop k point) (sym m) ∙ sym (over-front point xs)))
 
 -- a front that was lent and came back
@@ -46,8 +45,8 @@ rejoined : (n : ℕ) (xs point : List Float) → length xs ≡ length (take n po
 rejoined n xs point e l = length-append xs (drop n point) ∙ omega (arith, e, length-take-le n point l, length-drop n point)
 
 -- a point that is there has room
-roomy : (places : List ℕ) {n : ℕ} {l : ℕ} → (has-point places ≡ true → n ≤ l) → (place places found-tag ≡ 0 → ⊥) → n ≤ l
-roomy places h z = h (ap not (ne-eqb (place places found-tag) 0 z))
+roomy : (places : List ℕ) {n : ℕ} {l : ℕ} → (has-point places ≡ true → n ≤ l) → (place places found-place ≡ 0 → ⊥) → n ≤ l
+roomy places h z = h (ap not (ne-eqb (place places found-place) 0 z))
 
 element-copy-out-half-at : tie.Need-element-copy-out-half-at
 element-copy-out-half-at c = search needs

@@ -10,18 +10,17 @@ use Rattle.numbers.specs.declared.refusal.Refusal.{Refusal}
 use Rattle.numbers.specs.Refusal.{_⨾_}
 use Rattle.numbers.specs.laws.Refusal.{refuses, accepts}
 use Rattle.drivers.specs.Record.{fronted}
-use Rattle.drivers.specs.Answer.{answer-at, point-at, answer-walk, answer-fault, point-room, read-answer-answer}
+use Rattle.drivers.specs.Answer.{answer-at, point-at, answer-walk, answer-fault, point-room, read-answer-answer, read-answer-tests}
 use Rattle.drivers.specs.laws.Answer.{AnswerSound, answer-sound}
 use Rattle.numbers.specs.declared.refusal.Fault.{Fault}
 use Rattle.numbers.specs.declared.refusal.Fault.the-variants.{Sound, At}
 use Rattle.drivers.specs.declared.answer.Answer.{Answer}
-use Rattle.drivers.specs.declared.answer.AnswerRead.{AnswerRead}
 use Rattle.drivers.specs.declared.answer.AnswerRead.the-variants.{Read, Refused}
 use Rattle.drivers.proofs.answer.read_answer.Statement.{statement}
 use Rattle.drivers.proofs.answer.read_answer.Tie as tie
 
 -- the tests found f, and without a fault the places are the walk's
-module _ (n : ℕ) (bytes : List ℕ) (point : List Float) (f : Fault) (e : f ≡ (answer-fault n bytes ⨾ point-room (point-at n bytes (answer-walk bytes .1)) (length point))) where
+module _ (n : ℕ) (bytes : List ℕ) (point : List Float) (f : Fault) (e : f ≡ read-answer-tests n bytes (length point)) where
   refused : (why : Refusal) (place : ℕ) → f ≡ At why place → (Refused why place, point) ≡ read-answer-answer n bytes point
   unfolding read-answer-answer
   refused why place v = refuses _ _ _ (sym v ∙ e) refl

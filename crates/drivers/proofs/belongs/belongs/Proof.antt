@@ -7,8 +7,7 @@ use borrow.Author.Needs.{needs}
 use Rattle.oracles.specs.LowpassOracle.{assess-feas-answer}
 use Rattle.oracles.specs.declared.lowpass_oracle.LowpassOracle.{LowpassOracle}
 use Rattle.oracles.specs.declared.lowpass_oracle.Assessed.{Assessed}
-use Rattle.drivers.specs.Belongs.{said-by}
-use Rattle.drivers.specs.laws.Belongs.{no-dimension, no-length, belongs-said}
+use Rattle.drivers.specs.laws.Belongs.{no-dimension, no-length, belongs-said, said-by}
 use Rattle.drivers.proofs.belongs.belongs.Statement.{statement}
 use Rattle.drivers.proofs.belongs.belongs.Tie as tie
 use Rattle.numbers.specs.laws.Pick.{hit, skip, says-no, says-yes}

@@ -1,8 +1,8 @@
 -- `drivers::cutting_plane::keep` meets its contract. The invariant: the loop has written the numbers below i. Assumes nothing.
 use mathlib.Core.Path.{_≡_, refl, ap, _∙_, sym}
-use mathlib.Core.Bool.{Bool, true, false, not, _&&_}
+use mathlib.Core.Bool.{Bool, false, not, _&&_}
 use mathlib.Core.List.{List, _++_}
-use Prim.Native.Nat.{ℕ, _≤_, _<_, _-_}
+use Prim.Native.Nat.{ℕ, _≤_, _-_}
 use native.Mathlib.Omega.{arith}
 use borrow.Author.Needs.{needs}
 use borrow.Author.Tests.{leb-true, not-true, not-false}
@@ -10,7 +10,6 @@ use lib.Dec.{leb}
 use lib.ListN.{length, getD, drop}
 use lib.Seq.{take-all}
 use lib.Ieee.{Float, nan}
-use Rattle.numbers.specs.Pick.{pick}
 use Rattle.numbers.specs.laws.Arr.{FilledTo, filled-start, filled-turn, tab-getD}
 use Rattle.numbers.specs.laws.Pick.{hit, skip, and-parts}
 use Rattle.drivers.specs.CuttingPlane.{kept}

@@ -1,5 +1,5 @@
 -- `drivers::cutting_plane::run_feas` meets its contract. The invariant: the steps that are left compute the answer. Assumes nothing.
-use mathlib.Core.Path.{_≡_, refl, sym, ap, _∙_}
+use mathlib.Core.Path.{_≡_, refl, sym, _∙_}
 use mathlib.Core.List.{List}
 use Prim.Native.Nat.{_≤_, _-_}
 use native.Mathlib.Omega.{arith}
@@ -9,7 +9,6 @@ use Rattle.oracles.specs.declared.ell.Ell.{Ell}
 use Rattle.oracles.specs.declared.lowpass_oracle.LowpassOracle.{LowpassOracle}
 use Rattle.drivers.specs.CuttingPlane.{Space, feas-run}
 use Rattle.drivers.proofs.cutting_plane.Runs.{all-left, feas-more, feas-ends, feas-out}
-use borrow.Author.Needs.{needs}
 use Rattle.drivers.proofs.cutting_plane.run_feas.Statement.{statement}
 use Rattle.drivers.proofs.cutting_plane.run_feas.Tie as tie
 use Rattle.numbers.specs.laws.Pick.{says-no, says-yes}

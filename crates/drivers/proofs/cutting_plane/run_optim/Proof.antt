@@ -1,5 +1,5 @@
 -- `drivers::cutting_plane::run_optim` meets its contract. The invariant: the steps that are left compute the answer. Assumes nothing.
-use mathlib.Core.Path.{_≡_, refl, sym, ap, _∙_}
+use mathlib.Core.Path.{_≡_, refl, sym, _∙_}
 use mathlib.Core.Bool.{Bool, false}
 use mathlib.Core.List.{List}
 use Prim.Native.Nat.{_≤_, _-_}
@@ -8,8 +8,7 @@ use lib.ListN.{length}
 use lib.Ieee.{Float}
 use Rattle.oracles.specs.declared.ell.Ell.{Ell}
 use Rattle.oracles.specs.declared.lowpass_oracle.LowpassOracle.{LowpassOracle}
-use Rattle.drivers.specs.CuttingPlane.{OptimSpace, leaves, optim-left, optim-run}
-use Rattle.drivers.specs.declared.cutting_plane.OptimAnswer.{OptimAnswer}
+use Rattle.drivers.specs.CuttingPlane.{OptimSpace, optim-run}
 use Rattle.drivers.proofs.cutting_plane.Runs.{all-left, optim-more, optim-ends, optim-out}
 use Rattle.drivers.proofs.cutting_plane.run_optim.Statement.{statement}
 use Rattle.drivers.proofs.cutting_plane.run_optim.Tie as tie

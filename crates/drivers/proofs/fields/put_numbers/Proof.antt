@@ -3,8 +3,8 @@ use Prim.Native.Nat.{_-_, _≤_}
 use mathlib.Core.Path.{_≡_, refl, _∙_}
 use native.Mathlib.Omega.{arith}
 use lib.ListN.{length, drop}
-use Rattle.drivers.specs.Text.{put-all}
 use Rattle.drivers.specs.Fields.{number-pieces}
+use Rattle.drivers.specs.laws.Text.{put-all}
 use Rattle.drivers.proofs.fields.Puts.{numbers-turn, numbers-done}
 use borrow.Author.Needs.{needs}
 use Rattle.drivers.proofs.fields.put_numbers.Statement.{statement}

@@ -11,7 +11,7 @@ use Rattle.numbers.specs.Bits.{wordAt}
 use Rattle.drivers.specs.Record.{halfAt, numberAt, fields-of, row-count, place}
 use Rattle.drivers.specs.Job.{partOf, signed, optionsOf, job-at}
 use Rattle.drivers.specs.declared.cutting_plane.Options.{Options}
-use Rattle.drivers.specs.Rules.{bands-tag, cursors-tag, kappa-tag, limits-tag, n-tag, settings-tag}
+use Rattle.drivers.specs.Rules.{bands-place, cursors-place, kappa-place, limits-place, n-place, settings-place}
 use Rattle.drivers.proofs.job.Signs.{signed-fits, reads-half, part-small}
 use borrow.Author.Needs.{needs}
 use Rattle.drivers.proofs.job.job_at.Statement.{statement}
@@ -29,11 +29,11 @@ cursor : (w w′ k h : ℕ) (z : ℤ) → w ≡ w′ → h ≡ partOf w k → z 
 cursor w w′ k h z a b d = rw (d, b, a) (toZ-ofZ (signed-fits (partOf w′ k) (part-small w′ k)))
 
 is : (bytes places : List ℕ) (n rows : ℕ) (np ns : ℤ) (x y z : Float) (p q r : ℤ) (k : Float) (o : Options)
-    → n ≡ halfAt bytes (place places n-tag) → rows ≡ row-count bytes (fields-of bytes)
-    → np ≡ pos (partOf (wordAt bytes (place places bands-tag)) 0) → ns ≡ pos (partOf (wordAt bytes (place places bands-tag)) 1)
-    → x ≡ numberAt bytes (place places limits-tag) 0 → y ≡ numberAt bytes (place places limits-tag) 1 → z ≡ numberAt bytes (place places limits-tag) 2
-    → p ≡ signed (partOf (wordAt bytes (place places cursors-tag)) 0) → q ≡ signed (partOf (wordAt bytes (place places cursors-tag)) 1) → r ≡ signed (partOf (wordAt bytes (place places cursors-tag)) 2)
-    → k ≡ numberAt bytes (place places kappa-tag) 0 → o ≡ optionsOf bytes (place places settings-tag)
+    → n ≡ halfAt bytes (place places n-place) → rows ≡ row-count bytes (fields-of bytes)
+    → np ≡ pos (partOf (wordAt bytes (place places bands-place)) 0) → ns ≡ pos (partOf (wordAt bytes (place places bands-place)) 1)
+    → x ≡ numberAt bytes (place places limits-place) 0 → y ≡ numberAt bytes (place places limits-place) 1 → z ≡ numberAt bytes (place places limits-place) 2
+    → p ≡ signed (partOf (wordAt bytes (place places cursors-place)) 0) → q ≡ signed (partOf (wordAt bytes (place places cursors-place)) 1) → r ≡ signed (partOf (wordAt bytes (place places cursors-place)) 2)
+    → k ≡ numberAt bytes (place places kappa-place) 0 → o ≡ optionsOf bytes (place places settings-place)
     → record { n = n; rows = rows; nwpass = np; nwstop = ns; «lp_sq» = x; «up_sq» = y; «sp_sq» = z; cur1 = p; cur2 = q; cur3 = r; kappa = k; options = o } ≡ job-at bytes places
 unfolding job-at
 is bytes places n rows np ns x y z p q r k o e₁ e₂ e₃ e₄ e₅ e₆ e₇ e₈ e₉ f₁ f₂ f₃ = rw (e₁, e₂, e₃, e₄, e₅, e₆, e₇, e₈, e₉, f₁, f₂, f₃)

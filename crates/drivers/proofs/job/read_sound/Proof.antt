@@ -17,7 +17,7 @@ use Rattle.drivers.specs.Job.{job-at, full-job-at, has-room, room-fault,
 use Rattle.drivers.specs.declared.job.Job.{Job}
 use Rattle.drivers.specs.declared.job.JobAnswer.{JobAnswer}
 use Rattle.drivers.specs.declared.job.JobAnswer.the-variants.{Read, Refused}
-use Rattle.drivers.specs.Rules.{matrix-tag, point-tag}
+use Rattle.drivers.specs.Rules.{matrix-place, point-place}
 use borrow.Author.Needs.{needs}
 use Rattle.drivers.proofs.job.read_sound.Statement.{statement}
 use Rattle.drivers.proofs.job.read_sound.Tie as tie
@@ -43,8 +43,8 @@ module _ (bytes places : List ℕ) (table xc mq : List Float) (j : Job) (d : j �
       rw f refl
 
   module _ (h : not t ≡ false) where
-    read : (table′ xc′ mq′ : List Float) → table′ ≡ fronted (rows-of (j .n) bytes (fields-of bytes)) table → xc′ ≡ fronted (numbersAt bytes (place places point-tag) (j .n)) xc
-        → mq′ ≡ fronted (numbersAt bytes (place places matrix-tag) (j .n * j .n)) mq → _≡_ {A = Answer} (Read j, table′, xc′, mq′) (read-into (full-job-at bytes places) Sound table xc mq)
+    read : (table′ xc′ mq′ : List Float) → table′ ≡ fronted (rows-of (j .n) bytes (fields-of bytes)) table → xc′ ≡ fronted (numbersAt bytes (place places point-place) (j .n)) xc
+        → mq′ ≡ fronted (numbersAt bytes (place places matrix-place) (j .n * j .n)) mq → _≡_ {A = Answer} (Read j, table′, xc′, mq′) (read-into (full-job-at bytes places) Sound table xc mq)
     unfolding full-job-at
     read table′ xc′ mq′ a b c =
         let f : (Sound ⨾ fault) ≡ Sound = is-skip false Sound fault refl ∙ is-hit _ _ _ (has ∙ not-false t h) in

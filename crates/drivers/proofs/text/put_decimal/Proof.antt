@@ -2,7 +2,8 @@
 use Prim.Native.Nat.{ℕ}
 use mathlib.Core.Path.{ap, _∙_}
 use borrow.Author.Needs.{needs}
-use Rattle.drivers.specs.Text.{put, digitsOf, decimal}
+use Rattle.drivers.specs.Text.{digitsOf, decimal}
+use Rattle.drivers.specs.laws.Text.{put}
 use Rattle.drivers.proofs.text.put_decimal.Statement.{statement}
 use Rattle.drivers.proofs.text.put_decimal.Tie as tie
 

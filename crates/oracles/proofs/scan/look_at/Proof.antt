@@ -1,14 +1,10 @@
 -- `oracles::scan::look_at` meets its contract. Assumes nothing.
 use mathlib.Core.Path.{_≡_, refl, sym, ap, _∙_}
 use mathlib.Core.Logic.{_⊎_, inl, inr}
-use mathlib.Core.List.{List}
-use Prim.Native.Nat.{ℕ, _+_, _*_, _≤_}
+use Prim.Native.Nat.{ℕ, _*_}
 use native.Mathlib.Omega.{arith}
-use lib.IntN.{ℤ}
-use lib.Ieee.{Float}
 use mir.Facts.{toZ-ofZ}
 use Rattle.oracles.specs.laws.ScanRun.{runOf}
-use Rattle.oracles.specs.declared.scan.Scan.{Scan}
 use Rattle.oracles.proofs.scan.Run.{as-judged, run-one}
 use Rattle.oracles.proofs.scan.look_at.Statement.{statement}
 use Rattle.oracles.proofs.scan.look_at.Tie as tie

@@ -1,10 +1,10 @@
 -- `oracles::scan::table_fits` meets its contract: the quotient is rows and the remainder 0 exactly where the length is rows × n. Assumes nothing.
-use mathlib.Core.Path.{_≡_, refl, sym, ap, _∙_}
+use mathlib.Core.Path.{_≡_, refl, ap}
 use mathlib.Core.Bool.{Bool, true, false, _&&_}
 use Prim.Native.Nat.{ℕ, _≤_, _<_, _+_, _*_, _/_, _%_}
 use native.Mathlib.Nat.{mul-le-mul, mul-div-cancel, mul-mod-left, div-add-mod'}
 use native.Mathlib.Omega.{arith}
-use borrow.Author.Tests.{leb-true, eqb-true, eqb-false, eq-eqb, ne-eqb}
+use borrow.Author.Tests.{leb-true, eqb-true, eqb-false, eq-eqb}
 use borrow.Author.Needs.{needs}
 use lib.Dec.{leb, eqb}
 use Rattle.oracles.proofs.scan.table_fits.Statement.{statement}

@@ -6,8 +6,7 @@ use borrow.Author.Needs.{needs}
 use lib.ListN.{length}
 use lib.Ieee.{Float}
 use Rattle.drivers.specs.declared.trace.Printed.{Printed}
-use Rattle.drivers.specs.Calls.{Left, calls-left, last-of, text-of, texts-after}
-use Rattle.drivers.specs.laws.Calls.{last-done, calls-fewer, calls-turn, all-from, texts-done, texts-turn, texts-from}
+use Rattle.drivers.specs.laws.Calls.{last-done, calls-fewer, calls-turn, all-from, texts-done, texts-turn, texts-from, Left, calls-left, last-of, text-of, texts-after}
 use Rattle.runner.specs.Mark.{marked}
 use Rattle.runner.specs.laws.Mark.{marked-append, marked-none}
 use Rattle.runner.proofs.run.run_all.Statement.{statement}

@@ -7,13 +7,13 @@ use borrow.Author.Needs.{needs}
 use lib.ListN.{length, take, replicate}
 use lib.Ieee.{Float}
 use Rattle.numbers.specs.F64.{0ᶠ}
-use Rattle.drivers.specs.Program.{program-text, calls-text}
-use Rattle.drivers.specs.laws.Program.{program-prints, run-all-prints, open-held}
+use Rattle.drivers.specs.Program.{program-text}
+use Rattle.drivers.specs.laws.Program.{program-prints, run-all-prints, open-held, calls-text}
 use Rattle.drivers.specs.Trace.{open-answer}
-use Rattle.drivers.specs.Calls.{run-all-text}
 use Rattle.drivers.specs.declared.trace.Run.{Run}
 use Rattle.drivers.specs.declared.trace.Opened.{Opened}
 use Rattle.drivers.specs.declared.trace.Opened.the-variants.{Going}
+use Rattle.drivers.specs.laws.Calls.{run-all-text}
 use Rattle.runner.specs.Mark.{marked}
 use Rattle.runner.proofs.run.run_lent.Statement.{statement}
 use Rattle.runner.proofs.run.run_lent.Tie as tie

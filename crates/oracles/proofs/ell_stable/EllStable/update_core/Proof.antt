@@ -1,6 +1,5 @@
 -- `oracles::ell_stable::EllStable::update_core` meets its contract. Assumes nothing.
 use mathlib.Core.Path.{refl, _∙_}
-use borrow.Author.Needs.{needs}
 use Rattle.numbers.specs.laws.Arr.{dimension-most}
 use Rattle.numbers.specs.laws.Pick.{says-no, says-yes}
 use Rattle.numbers.specs.laws.Refusal.{failed, held, at-first, at-next, refuses, accepts}

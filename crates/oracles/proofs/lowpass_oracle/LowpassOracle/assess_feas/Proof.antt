@@ -1,7 +1,6 @@
 -- `oracles::lowpass_oracle::LowpassOracle::assess_feas` meets its contract. Assumes nothing.
-use mathlib.Core.Path.{_∙_, ap}
+use mathlib.Core.Path.{ap}
 use mathlib.Core.Bool.{Bool, _&&_}
-use native.Mathlib.Omega.{arith}
 use borrow.Author.Needs.{needs}
 use lib.Dec.{eqb}
 use lib.ListN.{length}

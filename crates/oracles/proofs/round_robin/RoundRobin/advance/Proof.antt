@@ -6,7 +6,7 @@ use mir.Syntax.{w32}
 use mir.Val.{SFits}
 use mir.Facts.{toZ-ofZ}
 use Rattle.oracles.specs.RoundRobin.{isBand, isAt, advanced, advance-answer}
-use Rattle.oracles.specs.laws.RoundRobin.{legal-of, Legal}
+use Rattle.oracles.specs.laws.RoundRobin.{legal-of}
 use Rattle.oracles.specs.declared.round_robin.RoundRobin.{RoundRobin}
 use Rattle.oracles.specs.declared.round_robin.CursorAnswer.the-variants.{At, Refused}
 use Rattle.numbers.specs.declared.refusal.Refusal.the-variants.{Band, Cursor}
