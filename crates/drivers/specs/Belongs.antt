@@ -10,8 +10,6 @@ use Rattle.numbers.specs.declared.refusal.Fault.{Fault}
 use Rattle.oracles.specs.Scan.{table-fits}
 use Rattle.oracles.specs.LowpassOracle.{oracle-tests, assess-feas-answer}
 use Rattle.oracles.specs.Verdict.{asked, judge, is-feasible}
-use Rattle.oracles.specs.declared.lowpass_oracle.Verdict.{Verdict}
-use Rattle.oracles.specs.declared.lowpass_oracle.Verdict.the-variants.{Feasible, Cut, Refused as NotAssessed}
 use Rattle.drivers.specs.Job.{job-oracle}
 use Rattle.drivers.specs.declared.answer.Answer.{Answer}
 use Rattle.drivers.specs.declared.job.Job.{Job}

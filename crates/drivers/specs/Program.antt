@@ -1,8 +1,7 @@
 -- The program `filterrun` (document 01): all that it prints, as one function of its input. Definitions only.
-use Prim.Native.Nat.{ℕ, _*_}
+use Prim.Native.Nat.{ℕ}
 use mathlib.Core.List.{List}
-use lib.ListN.{take, replicate}
-use lib.Ieee.{Float}
+use lib.ListN.{replicate}
 use Rattle.numbers.specs.F64.{0ᶠ}
 use Rattle.numbers.specs.EllCalc.{made}
 use Rattle.numbers.specs.declared.refusal.Refusal.{Refusal}
@@ -11,9 +10,6 @@ use Rattle.drivers.specs.Text.{joined}
 use Rattle.drivers.specs.CuttingPlane.{Space}
 use Rattle.drivers.specs.Job.{FullJob, job-oracle, full-job, job-fault}
 use Rattle.drivers.specs.Trace.{refused-pieces, input-tests, run-text}
-use Rattle.drivers.specs.declared.trace.Opened.{Opened}
-use Rattle.drivers.specs.declared.trace.Opened.the-variants.{Going, Over}
-use Rattle.drivers.specs.laws.Trace.{text-in, printed-by}
 
 -- the line of a refusal
 abbrev pub refused-text : Refusal → ℕ → List ℕ

@@ -1,10 +1,8 @@
 -- Text: numbers as digits, and pieces written one after the other. Definitions only.
 use Prim.Native.Nat.{ℕ, zero, suc, _+_, _/_, _%_}
 use mathlib.Core.List.{List, [], _∷_, _++_}
-use lib.Dec.{leb, ltb}
-use lib.ListN.{length}
+use lib.Dec.{ltb}
 use Rattle.numbers.specs.Pick.{pick}
-use Rattle.numbers.specs.Over.{over}
 
 -- pieces as one text
 unfoldable pub joined : List (List ℕ) → List ℕ

@@ -22,11 +22,10 @@ ghost use mathlib.Core.List.{map};
 ghost use Prim.Native.Nat.{_+_, _*_, _≤_};
 ghost use lib.ListN.{length};
 ghost use Rattle.numbers.specs.Pick.{pick};
-ghost use Rattle.numbers.specs.Refusal.{_⨾_};
 ghost use Rattle.numbers.specs.declared.refusal.Fault.the-variants.{Sound};
 ghost use Rattle.drivers.specs.Record.{no-places, fronted};
 ghost use Rattle.drivers.specs.Fields.{field-bytes};
-ghost use Rattle.drivers.specs.Answer.{outcome-byte, answer-walk, outcome-fault, answer-fault, point-room, answer-at, point-at, has-point, read-answer-answer, answer-fields, write-answer-answer, read-answer-tests};
+ghost use Rattle.drivers.specs.Answer.{outcome-byte, answer-walk, outcome-fault, answer-at, point-at, has-point, read-answer-answer, answer-fields, write-answer-answer, read-answer-tests};
 ghost use Rattle.drivers.specs.laws.Text.{put-all};
 
 // What a run answers, and a record keeps, beside the point: whether there is one, and the steps.

@@ -7,10 +7,9 @@ use lib.ListN.{length}
 use lib.Ieee.{Float}
 use Rattle.numbers.specs.laws.Arr.{dimension-most}
 use Rattle.numbers.specs.declared.refusal.Refusal.{Refusal}
-use Rattle.numbers.specs.Refusal.{_⨾_}
 use Rattle.numbers.specs.laws.Refusal.{refuses, accepts}
 use Rattle.drivers.specs.Record.{fronted}
-use Rattle.drivers.specs.Answer.{answer-at, point-at, answer-walk, answer-fault, point-room, read-answer-answer, read-answer-tests}
+use Rattle.drivers.specs.Answer.{answer-at, point-at, answer-walk, read-answer-answer, read-answer-tests}
 use Rattle.drivers.specs.laws.Answer.{AnswerSound, answer-sound}
 use Rattle.numbers.specs.declared.refusal.Fault.{Fault}
 use Rattle.numbers.specs.declared.refusal.Fault.the-variants.{Sound, At}
