@@ -2,10 +2,11 @@
 -- with no comparable stop row, a bad or overlong record, a short buffer. A refusal writes nothing; a driver halted midway keeps its finished steps. Accepted: everything else,
 -- NaN and infinity too, and each accepted call finishes." (It finishes since what it answers is a definition's value, and the code's loops are proved to end.) The exported functions of the
 -- static library are these calls again (ponduvizh/specs). Assumes nothing.
-use Prim.Native.Nat.{ℕ}
+use Prim.Native.Nat.{ℕ, _≤_}
 use mathlib.Core.Path.{_≡_, refl, sym, ap, _∙_}
 use mathlib.Core.Bool.{Bool, true, false, not, true≢false, _&&_}
 use mathlib.Core.List.{List}
+use mathlib.Core.Logic.{_⊎_, inl, inr}
 use lib.ListN.{length}
 use native.Mathlib.Omega.{arith}
 use borrow.Author.Tests.{eqb-true, leb-true}
@@ -52,11 +53,12 @@ use Rattle.oracles.specs.declared.lowpass_oracle.OptimVerdict.{OptimVerdict}
 use Rattle.oracles.specs.declared.lowpass_oracle.OptimVerdict.the-variants.{Improved, Cut as CutOptim, Refused as NotOptim}
 use Rattle.drivers.specs.CuttingPlane as run
 use Rattle.drivers.specs.Trace as trace
+use Rattle.drivers.specs.Record.{fronted}
 use Rattle.drivers.specs.Job as jobs
 use Rattle.drivers.specs.Answer as answers
 use Rattle.drivers.specs.Belongs as belonging
 use Rattle.drivers.specs.Program as filterrun
-use Rattle.drivers.specs.Numbered.{feas-number, job-number, read-number, bytes-number, belonging-number, text-number}
+use Rattle.drivers.specs.Numbered.{feas-number, job-number, read-number, bytes-number, belonging-number, text-number, optim-number}
 use Rattle.drivers.specs.laws.RunEnds.{run-ends}
 use Rattle.drivers.specs.laws.OptimEnds.{OptimRunEnded, optim-answered}
 use Rattle.drivers.specs.declared.cutting_plane.Options.{Options}
@@ -67,7 +69,7 @@ use Rattle.drivers.specs.declared.trace.Run.{Run}
 use Rattle.drivers.specs.declared.trace.Printed.{Printed}
 use Rattle.drivers.specs.declared.job.Job.{Job}
 use Rattle.drivers.specs.declared.job.JobAnswer.{JobAnswer}
-use Rattle.drivers.specs.declared.job.JobAnswer.the-variants.{Refused as NoJob}
+use Rattle.drivers.specs.declared.job.JobAnswer.the-variants.{Read as ReadJob, Refused as NoJob}
 use Rattle.drivers.specs.declared.answer.AnswerRead.{AnswerRead}
 use Rattle.drivers.specs.declared.answer.AnswerRead.the-variants.{Refused as NoAnswer}
 use Rattle.drivers.specs.declared.answer.Answer.{Answer}
@@ -348,6 +350,10 @@ write-answer n a point out = refuses _ _ _ _ _ _ (λ why place. refl) (λ why pl
 pub program : (bytes : List ℕ) (why : Refusal) (place : ℕ) → (trace.input-tests bytes ⨾ jobs.job-fault bytes) ≡ At why place → filterrun.program-text bytes ≡ filterrun.refused-text why place
 unfolding filterrun.program-text
 program bytes why place e = sym (refused-at _ _ _ (sym e) refl)
+
+-- what a job that is read is put into
+abbrev pub read-done : List ℕ → List Float → List Float → List Float → JobAnswer × List Float × List Float × List Float
+read-done bytes table xc mq = let f = jobs.full-job bytes in (ReadJob (f .job), fronted (f .table) table, fronted (f .point) xc, fronted (f .matrix) mq)
 
 -- `open` tests the input's length, then what `read_job` tests: the slices stay, and `out` has the line that says so, or is as it was where it is too short for a line
 pub open-refused : (bytes : List ℕ) (table xc mq : List Float) (out : List ℕ) (why : Refusal) (place : ℕ) → (trace.input-tests bytes ⨾ jobs.read-job-tests bytes table xc mq) ≡ At why place
