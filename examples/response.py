@@ -3,7 +3,7 @@
 
 usage: response.py JOB ANSWER PICTURE.svg
 
-Needs Debian's python3-matplotlib (apt-get install python3-matplotlib) for /usr/bin/python3. ANSWER is what `oracle answer < JOB` writes.
+Needs Debian's python3-matplotlib (apt-get install python3-matplotlib) for /usr/bin/python3. ANSWER is what `reference answer < JOB` writes.
 """
 
 import math

@@ -14,7 +14,7 @@ use lib.Dec.{eqb}
 use lib.IntN.{ℤ}
 use lib.Ieee.{Float}
 use Rattle.numbers.specs.Pick.{pick}
-use Rattle.numbers.specs.Refusal.{refusalNumber, is-fault, _⨾_, unless, fault-number, ask}
+use Rattle.numbers.specs.Refusal.{refusal-number, is-fault, _⨾_, unless, fault-number, ask}
 use Rattle.numbers.specs.laws.Pick.{is-hit, is-skip, by-test}
 use Rattle.numbers.specs.laws.Refusal.{both-sound, ask-sound, number-is, by-tests, refuses as refused-at}
 use Rattle.numbers.specs.Arr as arr
@@ -87,7 +87,7 @@ pub record Refuses {X L : Type 0} (tests : Fault) (number : X → ℕ) (left : X
   pub writes-nothing : is-fault tests ≡ true → left answer ≡ before
 
 refuses : {X L : Type 0} (tests : Fault) (number : X → ℕ) (left : X → L) (before : L) (refused : Refusal → ℕ → X) (done : X)
-    → ((why : Refusal) (place : ℕ) → number (refused why place) ≡ refusalNumber why) → ((why : Refusal) (place : ℕ) → left (refused why place) ≡ before)
+    → ((why : Refusal) (place : ℕ) → number (refused why place) ≡ refusal-number why) → ((why : Refusal) (place : ℕ) → left (refused why place) ≡ before)
     → (tests ≡ Sound → number done ≡ 0) → Refuses tests number left before (unless tests refused done)
 refuses tests number left before refused done h k d = record {
   by-number = number-is number tests refused done h d;
@@ -142,7 +142,7 @@ said (NotAssessed why) h = absurd (h refl)
 accepted : (o : LowpassOracle) (n rows : ℕ) (table x grad : List Float) → lowpass.assess-tests o n rows table x grad ≡ Sound → is-accepted o n rows table x grad ≡ true
 accepted o n rows table x grad e = ap (λ (f : Fault). not (is-fault f)) e
 
-assessed : (o : LowpassOracle) (n rows : ℕ) (table x grad : List Float) → lowpass.assess-tests o n rows table x grad ≡ Sound → verdict-number (lowpass.assessOf o n table x grad .0 .verdict) ≡ 0
+assessed : (o : LowpassOracle) (n rows : ℕ) (table x grad : List Float) → lowpass.assess-tests o n rows table x grad ≡ Sound → verdict-number (lowpass.assess-of o n table x grad .0 .verdict) ≡ 0
 assessed o n rows table x grad e =
     let a = accepted o n rows table x grad e in
     let r = feas-rule o n rows table x grad a in
@@ -153,8 +153,8 @@ pub assess-feas : (o : LowpassOracle) (n rows : ℕ) (table x grad : List Float)
 unfolding lowpass.assess-feas-answer
 assess-feas o n rows table x grad = refuses _ _ _ _ _ _ (λ why place. refl) (λ why place. refl) (assessed o n rows table x grad)
 
-factored : (A : ℕ → ℕ → Float) (m : ℕ) (storage : List Float) → factored-number (ldlt.factorOf A m storage .0) ≡ 0
-unfolding ldlt.factorOf
+factored : (A : ℕ → ℕ → Float) (m : ℕ) (storage : List Float) → factored-number (ldlt.factor-of A m storage .0) ≡ 0
+unfolding ldlt.factor-of
 factored A m storage = by-test (λ v. factored-number v ≡ 0) _ _ _ (λ e. refl) (λ e. refl)
 
 pub factor : (m : ℕ) (mat storage : List Float) → Refuses (ldlt.factor-tests m mat storage) (λ r. factored-number (r .0)) (λ r. r .1) storage (ldlt.factor-answer m mat storage)
@@ -166,8 +166,8 @@ witness m p storage wit = refuses _ _ _ _ _ _ (λ why place. refl) (λ why place
 pub sym-quad : (m : ℕ) (p : Pos) (wit mat : List Float) → Refuses (ldlt.sym-quad-tests m p wit mat) value-number nothing tt (ldlt.sym-quad-answer m p wit mat)
 sym-quad m p wit mat = refuses _ _ _ _ _ _ (λ why place. refl) (λ why place. refl) (λ e. refl)
 
-lmi-assessed : (m n : ℕ) (mat-b mat-f xc : List Float) (b : lmi.LmiBuffers) → lmi-number (lmi.lmi-assessOf m n mat-b mat-f xc b .0) ≡ 0
-unfolding lmi.lmi-assessOf
+lmi-assessed : (m n : ℕ) (mat-b mat-f xc : List Float) (b : lmi.LmiBuffers) → lmi-number (lmi.lmi-assess-of m n mat-b mat-f xc b .0) ≡ 0
+unfolding lmi.lmi-assess-of
 lmi-assessed m n mat-b mat-f xc b = by-test (λ (r : LmiVerdict × lmi.LmiBuffers). lmi-number (r .0) ≡ 0) _ _ _ (λ e. refl) (λ e. refl)
 
 pub lmi-assess-feas : (m n : ℕ) (mat-b mat-f xc : List Float) (b : lmi.LmiBuffers) → Refuses (lmi.lmi-tests m n mat-b mat-f xc b) (λ r. lmi-number (r .0)) (λ r. r .1) b (lmi.lmi-answer m n mat-b mat-f xc b)
@@ -178,8 +178,8 @@ pub new-ell : (n : ℕ) (kappa : Float) → Refuses (calc.new-tests n) new-ell-n
 unfolding ell.new-ell-answer
 new-ell n kappa = refuses _ _ _ _ _ _ (λ why place. refl) (λ why place. refl) (λ e. refl)
 
-ell-updated : (e : Ell) (s : CutStrategy) (grad : List Float) (beta : CutChoice) (b : ell.EllBuffers) → update-number (ell.ell-updateOf e s grad beta b .0 .answer) ≡ 0
-unfolding ell.ell-updateOf
+ell-updated : (e : Ell) (s : CutStrategy) (grad : List Float) (beta : CutChoice) (b : ell.EllBuffers) → update-number (ell.ell-update-of e s grad beta b .0 .answer) ≡ 0
+unfolding ell.ell-update-of
 ell-updated e s grad beta b =
     by-test P _ _ _ (λ h. refl) (λ h. by-test P _ _ _ (λ h. refl) (λ h. refl))
   where
@@ -193,8 +193,8 @@ pub new-ell-stable : (n : ℕ) (kappa : Float) → Refuses (calc.new-tests n) ne
 unfolding stable.new-ell-stable-answer
 new-ell-stable n kappa = refuses _ _ _ _ _ _ (λ why place. refl) (λ why place. refl) (λ e. refl)
 
-stable-updated : (e : EllStable) (s : CutStrategy) (grad : List Float) (beta : CutChoice) (b : stable.StableBuffers) → update-number (stable.stable-updateOf e s grad beta b .0 .answer) ≡ 0
-unfolding stable.stable-updateOf
+stable-updated : (e : EllStable) (s : CutStrategy) (grad : List Float) (beta : CutChoice) (b : stable.StableBuffers) → update-number (stable.stable-update-of e s grad beta b .0 .answer) ≡ 0
+unfolding stable.stable-update-of
 stable-updated e s grad beta b =
     by-test P _ _ _ (λ h. refl) (λ h. by-test P _ _ _ (λ h. refl) (λ h. refl))
   where
@@ -215,10 +215,10 @@ assess-optim-tests o gamma n rows table x grad = lowpass.assess-tests o n rows t
 six-or-none : (v : OptimVerdict) → (judgement (as-feas v) ≡ unanswered → ⊥) → optim-verdict-number v ≡ pick (is-six v) 6 0
 six-or-none (Improved beta) h = sym (is-skip _ _ _ refl)
 six-or-none (CutOptim group beta) h = sym (is-skip _ _ _ refl)
-six-or-none (NotOptim why) h = go (eqb (refusalNumber why) 6) refl h
+six-or-none (NotOptim why) h = go (eqb (refusal-number why) 6) refl h
   where
-    go : (t : Bool) → eqb (refusalNumber why) 6 ≡ t → (judgement (pick t Feasible (NotAssessed why)) ≡ unanswered → ⊥) → refusalNumber why ≡ pick (eqb (refusalNumber why) 6) 6 0
-    go true e h = eqb-true (refusalNumber why) 6 e ∙ sym (is-hit _ _ _ e)
+    go : (t : Bool) → eqb (refusal-number why) 6 ≡ t → (judgement (pick t Feasible (NotAssessed why)) ≡ unanswered → ⊥) → refusal-number why ≡ pick (eqb (refusal-number why) 6) 6 0
+    go true e h = eqb-true (refusal-number why) 6 e ∙ sym (is-hit _ _ _ e)
     go false e h = absurd (h (ap judgement (is-skip false Feasible (NotAssessed why) refl)))
 
 by-six : (t : Bool) → pick t 6 0 ≡ fault-number (ask (not t) NoStopValue)
@@ -272,7 +272,7 @@ module _ (o : LowpassOracle) (gamma : Float) (n rows : ℕ) (table x grad : List
       go : (f : Fault) → lowpass.assess-tests o n rows table x grad ≡ f → optim-verdict-number (answer .0 .verdict) ≡ fault-number (f ⨾ ask (improves o gamma n rows table x) NoStopValue)
       go Sound e = worked e ∙ ap fault-number (sym (is-skip _ _ _ refl))
       go (At why place) e =
-          ap (λ (f : Fault). let a = unless f (λ w p. (lowpass.refusedOf (lowpass.offered o gamma) w, grad)) (lowpass.assessOf (lowpass.offered o gamma) n table x grad) in
+          ap (λ (f : Fault). let a = unless f (λ w p. (lowpass.refused-of (lowpass.offered o gamma) w, grad)) (lowpass.assess-of (lowpass.offered o gamma) n table x grad) in
           optim-verdict-number (lowpass.optim-of o gamma n table (a .0 .oracle) (a .0 .verdict) (a .1) .0 .verdict)) e
           ∙ ap fault-number (sym (is-hit _ _ _ refl))
 
@@ -287,15 +287,15 @@ module _ (o : LowpassOracle) (gamma : Float) (n rows : ℕ) (table x grad : List
 
 -- ---- drivers and records
 
-pub cutting-plane-feas : (options : Options) (rows : ℕ) (table : List Float) (s : run.Space) (best : List Float)
-    → Refuses {L = run.Space × List Float} (run.run-tests rows table s best) (λ r. feas-number (r .0)) (λ r. (r .1, r .2)) (s, best) (run.feas-answer options rows table s best)
+pub cutting-plane-feas : (options : Options) (rows : ℕ) (table : List Float) (s : run.State) (best : List Float)
+    → Refuses {L = run.State × List Float} (run.run-tests rows table s best) (λ r. feas-number (r .0)) (λ r. (r .1, r .2)) (s, best) (run.feas-answer options rows table s best)
 unfolding run.feas-answer
 cutting-plane-feas options rows table s best =
     refuses _ _ _ _ _ _ (λ why place. refl) (λ why place. refl)
     (λ e. ap feas-number (run-ends rows table (options .tolerance) (options .«max_iters») 0 s (both-sound (run.check-space rows table s) _ e .0) .answer-is))
 
 -- `cutting_plane_optim`: a refusal gives everything back ..
-module _ (options : Options) (rows : ℕ) (table : List Float) (s : run.OptimSpace) where
+module _ (options : Options) (rows : ℕ) (table : List Float) (s : run.OptimState) where
   pub optim-refused-by : (why : Refusal) (place : ℕ) → run.run-tests rows table (run.plain s) (s .best) ≡ At why place → run.optim-answer options rows table s ≡ run.leaves (NotRunOptim why) s
   unfolding run.optim-answer
   optim-refused-by why place e = ap (λ (f : Fault). unless f (λ w p. run.leaves (NotRunOptim w) s) (run.optim-run rows table (options .tolerance) (options .«max_iters») 0 s)) e
@@ -374,13 +374,13 @@ pub record Finishes (limit : ℕ) (said : FeasAnswer) : Type 0 where
   pub answer-is : said ≡ Ended answer
   pub within : answer .steps ≤ limit
 
-pub feas-finishes : (options : Options) (rows : ℕ) (table : List Float) (s : run.Space) (best : List Float) → run.run-tests rows table s best ≡ Sound
+pub feas-finishes : (options : Options) (rows : ℕ) (table : List Float) (s : run.State) (best : List Float) → run.run-tests rows table s best ≡ Sound
     → Finishes (options .«max_iters») (run.feas-answer options rows table s best .0)
 unfolding run.feas-answer
 feas-finishes options rows table s best e =
     let r = run-ends rows table (options .tolerance) (options .«max_iters») 0 s (both-sound (run.check-space rows table s) _ e .0) in
     rw e (record { answer = r .answer; answer-is = r .answer-is; within = omega (arith, r .steps-within) })
 
-pub optim-numbers : (options : Options) (rows : ℕ) (table : List Float) (s : run.OptimSpace) → run.run-tests rows table (run.plain s) (s .best) ≡ Sound
+pub optim-numbers : (options : Options) (rows : ℕ) (table : List Float) (s : run.OptimState) → run.run-tests rows table (run.plain s) (s .best) ≡ Sound
     → (optim-number (run.optim-answer options rows table s .answer) ≡ 0) ⊎ (optim-number (run.optim-answer options rows table s .answer) ≡ 6)
 optim-numbers options rows table s e = elim (optim-finishes options rows table s e .outcome) [ inl o ↦ inl (o .1) | inr o ↦ inr (o .1) ]

@@ -11,8 +11,8 @@ use lib.Ieee.{Float, nan, inf, fin, binary64, fits, isNan, nanBits, toBits}
 use lib.Ieee.Positive.{positive}
 use lib.Ieee.Bits.{nanBits-is}
 use Rattle.numbers.specs.Pick.{pick}
-use Rattle.numbers.specs.Bits.{floatOf, bitsOf}
-use Rattle.numbers.specs.Sqrt.{sqrtOf, NearestRoot}
+use Rattle.numbers.specs.Bits.{float-of, bits-of}
+use Rattle.numbers.specs.Sqrt.{sqrt-of, NearestRoot}
 use Rattle.numbers.specs.laws.Nearest.{sqrt-nearest}
 use Rattle.oracles.specs.laws.Known as known-values
 use Rattle.drivers.specs.Record.{fronted}
@@ -33,38 +33,38 @@ one-nan nan e = refl
 one-nan (inf s) e = absurd (true≢false (sym e))
 one-nan (fin s m k) e = absurd (true≢false (sym e))
 
-pub nan-read : (w : ℕ) → nanBits binary64 w ≡ true → floatOf w ≡ nan
-nan-read w h = one-nan (floatOf w) (sym (nanBits-is binary64 w) ∙ h)
+pub nan-read : (w : ℕ) → nanBits binary64 w ≡ true → float-of w ≡ nan
+nan-read w h = one-nan (float-of w) (sym (nanBits-is binary64 w) ∙ h)
 
-pub nan-written : bitsOf nan ≡ 0x7ff8_0000_0000_0000
+pub nan-written : bits-of nan ≡ 0x7ff8_0000_0000_0000
 unfolding toBits
 nan-written = refl
 
 -- ---- "the square root is proved to be IEEE 754's"
 
 -- Document 01: "NaN and numbers below zero give NaN. Each zero gives itself. Plus infinity gives itself."
-pub root-of-nan : sqrtOf nan ≡ nan
-unfolding sqrtOf
+pub root-of-nan : sqrt-of nan ≡ nan
+unfolding sqrt-of
 root-of-nan = refl
 
-pub root-below-zero : (m : ℕ) (e : ℤ) → sqrtOf (fin true (suc m) e) ≡ nan
-unfolding sqrtOf
+pub root-below-zero : (m : ℕ) (e : ℤ) → sqrt-of (fin true (suc m) e) ≡ nan
+unfolding sqrt-of
 root-below-zero m e = refl
 
-pub root-minus-infinity : sqrtOf (inf true) ≡ nan
-unfolding sqrtOf
+pub root-minus-infinity : sqrt-of (inf true) ≡ nan
+unfolding sqrt-of
 root-minus-infinity = refl
 
-pub root-of-zero : (s : Bool) (e : ℤ) → sqrtOf (fin s 0 e) ≡ fin s 0 e
-unfolding sqrtOf
+pub root-of-zero : (s : Bool) (e : ℤ) → sqrt-of (fin s 0 e) ≡ fin s 0 e
+unfolding sqrt-of
 root-of-zero s e = refl
 
-pub root-of-infinity : sqrtOf (inf false) ≡ inf false
-unfolding sqrtOf
+pub root-of-infinity : sqrt-of (inf false) ≡ inf false
+unfolding sqrt-of
 root-of-infinity = refl
 
 -- "Any other input gives the f64 nearest to the true root, defined by comparing squares of whole numbers; a tie can't happen."
-pub root-nearest : (x : Float) → T (fits binary64 x) → T (positive x) → NearestRoot x (sqrtOf x)
+pub root-nearest : (x : Float) → T (fits binary64 x) → T (positive x) → NearestRoot x (sqrt-of x)
 root-nearest = sqrt-nearest
 
 -- ---- "An answer record written and read again is the same answer", whatever stood in the outputs

@@ -11,7 +11,7 @@ use Rattle.numbers.specs.F64.{0ᶠ}
 use Rattle.numbers.specs.Pick.{pick, some}
 use Rattle.numbers.specs.laws.Pick.{and-parts, is-hit, is-skip}
 use Rattle.oracles.specs.LowpassOracle.{offered, assess-feas-answer, assess-optim-answer}
-use Rattle.oracles.specs.Verdict.{Judgement, feasible, pass, stop, middle, sign, refused, Question, pass-end, stop-start, valueIn, pass-breaks, stop-breaks, middle-breaks, sign-breaks, judge, Unbroken, no-stop-value, asked, limits, is-accepted, judgement, side-breaks, cut-breaks, Has, Peak, as-feas, is-six, is-feasible}
+use Rattle.oracles.specs.Verdict.{Judgement, feasible, pass, stop, middle, sign, refused, Question, pass-end, stop-start, value-in, pass-breaks, stop-breaks, middle-breaks, sign-breaks, judge, Unbroken, no-stop-value, asked, limits, is-accepted, judgement, side-breaks, cut-breaks, Has, Peak, as-feas, is-six, is-feasible}
 use Rattle.oracles.specs.laws.Judge.{judge-pass, judge-stop, judge-middle, judge-sign, judge-feasible, unbroken-feasible}
 use Rattle.oracles.specs.laws.CursorRule.{feas-rule, optim-rule}
 use Rattle.oracles.specs.laws.TwoOracles.{same-verdict, same-peak, same-optim, same-optim-peak}
@@ -98,14 +98,14 @@ either-side false upper lower v e = go (lt upper v)
 row-of : (q : Question) (v : Verdict) → cut-breaks q v ≡ true → RowBreaks q v
 row-of q Feasible e = tt
 row-of q (Cut (Pass row over) beta) e =
-    let a = and-parts (ltb row (pass-end q)) (side-breaks over (q .limits .up-sq) (q .limits .lp-sq) (valueIn q row)) e in
+    let a = and-parts (ltb row (pass-end q)) (side-breaks over (q .limits .up-sq) (q .limits .lp-sq) (value-in q row)) e in
     (ltb-true row (pass-end q) (a .0), either-side over _ _ _ (a .1))
 row-of q (Cut (Stop row over) beta) e =
-    let a = and-parts (leb (stop-start q) row && ltb row (q .rows)) (side-breaks over (q .limits .sp-sq) 0ᶠ (valueIn q row)) e in
+    let a = and-parts (leb (stop-start q) row && ltb row (q .rows)) (side-breaks over (q .limits .sp-sq) 0ᶠ (value-in q row)) e in
     let b = and-parts (leb (stop-start q) row) (ltb row (q .rows)) (a .0) in
     (leb-true (stop-start q) row (b .0), ltb-true row (q .rows) (b .1), either-side over _ _ _ (a .1))
 row-of q (Cut (Middle row) beta) e =
-    let a = and-parts (leb (pass-end q) row && ltb row (stop-start q)) (lt (valueIn q row) 0ᶠ) e in
+    let a = and-parts (leb (pass-end q) row && ltb row (stop-start q)) (lt (value-in q row) 0ᶠ) e in
     let b = and-parts (leb (pass-end q) row) (ltb row (stop-start q)) (a .0) in
     (leb-true (pass-end q) row (b .0), ltb-true row (stop-start q) (b .1), a .1)
 row-of q (Cut Sign beta) e = e
@@ -134,11 +134,11 @@ nan-above nan b e = refl
 nan-above (inf s) b e = absurd (true≢false (sym e))
 nan-above (fin s m k) b e = absurd (true≢false (sym e))
 
-pub nan-breaks-nothing : (q : Question) (i : ℕ) → isNan (valueIn q i) ≡ true → Unordered q i
+pub nan-breaks-nothing : (q : Question) (i : ℕ) → isNan (value-in q i) ≡ true → Unordered q i
 nan-breaks-nothing q i h = record {
-  no-pass = rw (nan-below (q .limits .up-sq) (valueIn q i) h, nan-above (valueIn q i) (q .limits .lp-sq) h);
-  no-stop = rw (nan-below (q .limits .sp-sq) (valueIn q i) h, nan-above (valueIn q i) 0ᶠ h);
-  no-middle = nan-above (valueIn q i) 0ᶠ h;
+  no-pass = rw (nan-below (q .limits .up-sq) (value-in q i) h, nan-above (value-in q i) (q .limits .lp-sq) h);
+  no-stop = rw (nan-below (q .limits .sp-sq) (value-in q i) h, nan-above (value-in q i) 0ᶠ h);
+  no-middle = nan-above (value-in q i) 0ᶠ h;
 }
 
 pub nan-sign : (q : Question) → isNan (getD (q .x) 0 nan) ≡ true → sign-breaks q ≡ false

@@ -6,12 +6,12 @@ use lib.Dec.{leb, eqb}
 use lib.ListN.{length}
 use lib.Ieee.{Float}
 use Rattle.numbers.specs.Pick.{pick}
-use Rattle.numbers.specs.Bits.{leBytes}
-use Rattle.numbers.specs.Arr.{isDimension, sized}
+use Rattle.numbers.specs.Bits.{le-bytes}
+use Rattle.numbers.specs.Arr.{is-dimension, sized}
 use Rattle.numbers.specs.declared.refusal.Refusal.the-variants.{Dimension, Room, Outcome}
 use Rattle.numbers.specs.Refusal.{_⨾_, unless, ask, ask-at}
 use Rattle.drivers.specs.Fields.{Field, record-bytes, number-bytes}
-use Rattle.drivers.specs.Record.{tagAt, startOf, halfAt, numbersAt, fields-of, no-places, place, is-met, record-fault, lengths-fault, fronted}
+use Rattle.drivers.specs.Record.{tag-at, start-of, half-at, numbers-at, fields-of, no-places, place, is-met, record-fault, lengths-fault, fronted}
 use Rattle.numbers.specs.declared.refusal.Fault.{Fault}
 use Rattle.numbers.specs.Over.{over}
 use Rattle.drivers.specs.declared.answer.Answer.{Answer}
@@ -32,11 +32,11 @@ abbrev pub outcome-byte : Bool → ℕ
 outcome-byte found = pick found 1 0
 
 abbrev pub answer-at : List ℕ → List ℕ → Answer
-answer-at bytes places = record { found = has-point places; steps = halfAt bytes (place places steps-place) }
+answer-at bytes places = record { found = has-point places; steps = half-at bytes (place places steps-place) }
 
 -- its point, n numbers where there is one
 abbrev pub point-at : ℕ → List ℕ → List ℕ → List Float
-point-at n bytes places = pick (has-point places) (numbersAt bytes (place places found-place) n) []
+point-at n bytes places = pick (has-point places) (numbers-at bytes (place places found-place) n) []
 
 -- ---- the tests
 
@@ -46,12 +46,12 @@ answer-walk bytes = record-fault bytes answer-form no-places
 
 -- 12, at tag 20: the outcome is that of a point where tag 22 is there
 unfoldable pub outcome-fault : List ℕ → List ℕ → Fault
-outcome-fault bytes places = ask-at (startOf (place places outcome-place)) (eqb (tagAt bytes (place places outcome-place)) (outcome-byte (has-point places))) Outcome
+outcome-fault bytes places = ask-at (start-of (place places outcome-place)) (eqb (tag-at bytes (place places outcome-place)) (outcome-byte (has-point places))) Outcome
 
 -- the first fault of a record, in document 01's order: the caller's n, the walk and 10, the lengths, 12
 unfoldable pub answer-fault : ℕ → List ℕ → Fault
 answer-fault n bytes =
-    ask (isDimension n) Dimension ⨾ answer-walk bytes .0 ⨾ lengths-fault n bytes (fields-of bytes) ⨾ outcome-fault bytes (answer-walk bytes .1)
+    ask (is-dimension n) Dimension ⨾ answer-walk bytes .0 ⨾ lengths-fault n bytes (fields-of bytes) ⨾ outcome-fault bytes (answer-walk bytes .1)
 
 -- 11, behind them: what the output for a point must hold
 abbrev pub point-room : List Float → ℕ → Fault
@@ -73,10 +73,10 @@ read-answer-answer n bytes out =
 
 -- the fields of an answer, their tags rising: the outcome, the steps and, if one was found, the point
 abbrev pub outcome-field : Bool → Field
-outcome-field found = (0x20, leBytes 1 (outcome-byte found))
+outcome-field found = (0x20, le-bytes 1 (outcome-byte found))
 
 abbrev pub steps-field : ℕ → Field
-steps-field steps = (0x21, leBytes 2 steps)
+steps-field steps = (0x21, le-bytes 2 steps)
 
 abbrev pub point-field : List Float → Field
 point-field point = (0x22, number-bytes point)

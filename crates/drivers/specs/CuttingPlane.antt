@@ -39,7 +39,7 @@ abbrev pub default-options : Options
 default-options = record { «max_iters» = 2000; tolerance = ofBits binary64 0x3bc7_9ca1_0c92_4223 }
 
 -- all that a run moves: the oracle, the ellipsoid with its matrix and centre, and the scratch
-pub record Space : Type 0 where
+pub record State : Type 0 where
   pub oracle : LowpassOracle
   pub ell : Ell
   pub buffers : EllBuffers
@@ -50,16 +50,16 @@ abbrev pub run-fits : ℕ → ℕ → ℕ → ℕ → ℕ → ℕ → ℕ → Bo
 run-fits n rows table mq xc grad grad-t = eqb table (rows * n) && eqb xc n && eqb mq (n * n) && eqb grad n && eqb grad-t n
 
 -- refusals 1 to 4, from the slices' lengths
-unfoldable pub checkOf : LowpassOracle → ℕ → ℕ → ℕ → ℕ → ℕ → ℕ → ℕ → Fault
-checkOf o n rows table mq xc grad grad-t = oracle-tests o n rows (run-fits n rows table mq xc grad grad-t)
+unfoldable pub check-of : LowpassOracle → ℕ → ℕ → ℕ → ℕ → ℕ → ℕ → ℕ → Fault
+check-of o n rows table mq xc grad grad-t = oracle-tests o n rows (run-fits n rows table mq xc grad grad-t)
 
 -- of a space over a table of so many rows
-abbrev pub check-space : ℕ → List Float → Space → Fault
+abbrev pub check-space : ℕ → List Float → State → Fault
 check-space rows table s =
-    checkOf (s .oracle) (s .ell .ndim) rows (length table) (length (s .buffers .mq)) (length (s .buffers .xc)) (length (s .grad)) (length (s .buffers .grad-t))
+    check-of (s .oracle) (s .ell .ndim) rows (length table) (length (s .buffers .mq)) (length (s .buffers .xc)) (length (s .grad)) (length (s .buffers .grad-t))
 
 -- both drivers: then 11, where x_best has no room for a point
-abbrev pub run-tests : ℕ → List Float → Space → List Float → Fault
+abbrev pub run-tests : ℕ → List Float → State → List Float → Fault
 run-tests rows table s best = check-space rows table s ⨾ ask (leb (s .ell .ndim) (length best)) Room
 
 -- the point at the front of x_best, where it is to be kept and there is room; the rest stays
@@ -78,7 +78,7 @@ said-of group beta (Status status) = Cut group beta status
 said-of group beta (NotUpdated why) = Refused why
 
 -- the step after the assessment of the centre, with the oracle and the gradient that it left
-abbrev pub feas-cut : Space → LowpassOracle → Verdict → List Float → Said × Space
+abbrev pub feas-cut : State → LowpassOracle → Verdict → List Float → Said × State
 feas-cut s o IsFeasible grad = (Feasible, record { oracle = o; ell = s .ell; buffers = s .buffers; grad = grad })
 feas-cut s o (IsCut group beta) grad =
     let u = ell-update-answer (s .ell) BiasCut grad beta (s .buffers) in
@@ -86,7 +86,7 @@ feas-cut s o (IsCut group beta) grad =
 feas-cut s o (NotAssessed why) grad = (Refused why, record { oracle = o; ell = s .ell; buffers = s .buffers; grad = grad })
 
 -- a step: assess the centre, and cut it off unless it is feasible
-unfoldable pub feas-step : ℕ → List Float → Space → Said × Space
+unfoldable pub feas-step : ℕ → List Float → State → Said × State
 feas-step rows table s =
     let a = assess-feas-answer (s .oracle) (s .ell .ndim) rows table (s .buffers .xc) (s .grad) in
     feas-cut s (a .0 .oracle) (a .0 .verdict) (a .1)
@@ -104,7 +104,7 @@ feas-ended (Cut group beta status) k = Ended (record { found = false; steps = k 
 feas-ended (Refused why) k = NotRun why
 
 -- the steps k, k + 1, .. of a run of which so many are left, and the space that they leave; without one, none is found at k
-unfoldable pub feas-run : ℕ → List Float → Float → ℕ → ℕ → Space → FeasAnswer × Space
+unfoldable pub feas-run : ℕ → List Float → Float → ℕ → ℕ → State → FeasAnswer × State
 feas-run rows table tolerance zero k s = (Ended (record { found = false; steps = k }), s)
 feas-run rows table tolerance (suc left) k s =
     let r = feas-step rows table s in
@@ -115,7 +115,7 @@ is-found (Ended a) = a .found
 is-found (NotRun why) = false
 
 -- `cutting_plane_feas`: the answer, the space, and x_best, which has the point if one is found
-unfoldable pub feas-answer : Options → ℕ → List Float → Space → List Float → FeasAnswer × Space × List Float
+unfoldable pub feas-answer : Options → ℕ → List Float → State → List Float → FeasAnswer × State × List Float
 feas-answer options rows table s best =
     let r = feas-run rows table (options .tolerance) (options .«max_iters») 0 s in
     unless (run-tests rows table s best) (λ why place. (NotRun why, s, best)) (r .0, r .1, kept (is-found (r .0)) (r .1 .buffers .xc) best)
@@ -123,7 +123,7 @@ feas-answer options rows table s best =
 -- ---- cutting_plane_optim
 
 -- all that a run moves, with the caller's number, and the best point so far if there is one
-pub record OptimSpace : Type 0 where
+pub record OptimState : Type 0 where
   pub oracle : LowpassOracle
   pub ell : Ell
   pub buffers : EllBuffers
@@ -133,23 +133,23 @@ pub record OptimSpace : Type 0 where
   pub best : List Float
 
 -- without what only an optimizing run has
-abbrev pub plain : OptimSpace → Space
+abbrev pub plain : OptimState → State
 plain s = record { oracle = s .oracle; ell = s .ell; buffers = s .buffers; grad = s .grad }
 
 -- after an update, with the oracle, the gradient and the number that the assessment left, and the best point
-abbrev pub optim-updated : OptimSpace → LowpassOracle → Float → List Float → Bool → List Float → EllUpdate × EllBuffers → Update × OptimSpace
+abbrev pub optim-updated : OptimState → LowpassOracle → Float → List Float → Bool → List Float → EllUpdate × EllBuffers → Update × OptimState
 optim-updated s o gamma grad found best u =
     (u .0 .answer, record { oracle = o; ell = u .0 .ell; buffers = u .1; grad = grad; gamma = gamma; found = found; best = best })
 
 -- the step after the assessment: a feasible centre is kept and cut centrally, any other is cut off; a refusal changes nothing
-abbrev pub optim-cut : OptimSpace → LowpassOracle → Float → OptimVerdict → List Float → Update × OptimSpace
+abbrev pub optim-cut : OptimState → LowpassOracle → Float → OptimVerdict → List Float → Update × OptimState
 optim-cut s o gamma (Improved beta) grad =
     optim-updated s o gamma grad true (kept true (s .buffers .xc) (s .best)) (ell-update-answer (s .ell) CentralCut grad beta (s .buffers))
 optim-cut s o gamma (CutOptim group beta) grad = optim-updated s o gamma grad (s .found) (s .best) (ell-update-answer (s .ell) BiasCut grad beta (s .buffers))
 optim-cut s o gamma (NotOptim why) grad =
     (NotUpdated why, record { oracle = o; ell = s .ell; buffers = s .buffers; grad = grad; gamma = gamma; found = s .found; best = s .best })
 
-unfoldable pub optim-step : ℕ → List Float → OptimSpace → Update × OptimSpace
+unfoldable pub optim-step : ℕ → List Float → OptimState → Update × OptimState
 optim-step rows table s =
     let a = assess-optim-answer (s .oracle) (s .gamma) (s .ell .ndim) rows table (s .buffers .xc) (s .grad) in
     optim-cut s (a .0 .oracle) (a .0 .gamma) (a .0 .verdict) (a .1)
@@ -166,24 +166,24 @@ optim-ended (NotUpdated why) found k = Halted (record { found = found; steps = k
 -- what a run leaves: its answer, the space, gamma and x_best
 pub record OptimLeft : Type 0 where
   pub answer : OptimAnswer
-  pub space : Space
+  pub space : State
   pub gamma : Float
   pub best : List Float
 
 abbrev pub optim-left : OptimAnswer → LowpassOracle → Ell → Float → EllBuffers → List Float → List Float → OptimLeft
 optim-left answer o e gamma b grad best = record { answer = answer; space = record { oracle = o; ell = e; buffers = b; grad = grad }; gamma = gamma; best = best }
 
-abbrev pub leaves : OptimAnswer → OptimSpace → OptimLeft
+abbrev pub leaves : OptimAnswer → OptimState → OptimLeft
 leaves answer s = record { answer = answer; space = plain s; gamma = s .gamma; best = s .best }
 
 -- the steps k, k + 1, .. of a run of which so many are left
-unfoldable pub optim-run : ℕ → List Float → Float → ℕ → ℕ → OptimSpace → OptimLeft
+unfoldable pub optim-run : ℕ → List Float → Float → ℕ → ℕ → OptimState → OptimLeft
 optim-run rows table tolerance zero k s = leaves (EndedOptim (record { found = s .found; steps = k })) s
 optim-run rows table tolerance (suc left) k s =
     let r = optim-step rows table s in
     pick (optim-goes-on (r .0) (r .1 .ell .tsq) tolerance) (optim-run rows table tolerance left (suc k) (r .1)) (leaves (optim-ended (r .0) (r .1 .found) k) (r .1))
 
 -- `cutting_plane_optim`
-unfoldable pub optim-answer : Options → ℕ → List Float → OptimSpace → OptimLeft
+unfoldable pub optim-answer : Options → ℕ → List Float → OptimState → OptimLeft
 optim-answer options rows table s =
     unless (run-tests rows table (plain s) (s .best)) (λ why place. leaves (NotRunOptim why) s) (optim-run rows table (options .tolerance) (options .«max_iters») 0 s)

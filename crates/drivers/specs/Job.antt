@@ -7,23 +7,23 @@ use lib.ListN.{length, drop}
 use lib.IntN.{ℤ, pos, _-ℤ_}
 use lib.Ieee.{Float}
 use Rattle.numbers.specs.Pick.{pick}
-use Rattle.numbers.specs.Bits.{floatOf, wordAt}
+use Rattle.numbers.specs.Bits.{float-of, word-at}
 use Rattle.numbers.specs.declared.refusal.Refusal.the-variants.{Dimension, Length, Band, Cursor, Room}
 use Rattle.numbers.specs.Refusal.{_⨾_, unless, ask-at, ask}
-use Rattle.oracles.specs.Scan.{none, isRows}
+use Rattle.oracles.specs.Scan.{none, is-rows}
 use Rattle.oracles.specs.LowpassOracle.{start-oracle, bands-fit, cursors-fit}
 use Rattle.oracles.specs.declared.lowpass_oracle.LowpassOracle.{LowpassOracle}
-use Rattle.drivers.specs.Record.{lengthAt, startOf, halfAt, numberAt, numbersAt, fields-of, no-places, place, record-fault, lengths-fault, row-count, rows-of, fronted}
+use Rattle.drivers.specs.Record.{length-at, start-of, half-at, number-at, numbers-at, fields-of, no-places, place, record-fault, lengths-fault, row-count, rows-of, fronted}
 use Rattle.numbers.specs.declared.refusal.Fault.{Fault}
 use Rattle.drivers.specs.declared.cutting_plane.Options.{Options}
 use Rattle.drivers.specs.declared.job.Job.{Job}
 use Rattle.drivers.specs.declared.job.JobAnswer.{JobAnswer}
 use Rattle.drivers.specs.declared.job.JobAnswer.the-variants.{Read, Refused}
-use Rattle.drivers.specs.Rules.{ruleLength, n-place, bands-place, limits-place, point-place, cursors-place, kappa-place, matrix-place, settings-place, job-form}
+use Rattle.drivers.specs.Rules.{rule-length, n-place, bands-place, limits-place, point-place, cursors-place, kappa-place, matrix-place, settings-place, job-form}
 
 -- part k of a word of 16-bit numbers, the lowest first
-abbrev pub partOf : ℕ → ℕ → ℕ
-partOf w k = w / 65536 ^ k % 65536
+abbrev pub part-of : ℕ → ℕ → ℕ
+part-of w k = w / 65536 ^ k % 65536
 
 -- a 16-bit number as a signed one
 unfoldable pub signed : ℕ → ℤ
@@ -33,7 +33,7 @@ signed h = pick (ltb h 32768) (pos h) (pos h -ℤ pos 65536)
 
 -- the end of the stop rows; −1 where no table has so many rows, and every call refuses the job
 abbrev pub row-end : ℕ → ℤ
-row-end rows = pick (isRows rows) (pos rows) none
+row-end rows = pick (is-rows rows) (pos rows) none
 
 -- `Job::oracle`: what a job's oracle starts with
 abbrev pub job-oracle : Job → LowpassOracle
@@ -49,28 +49,28 @@ pub record FullJob : Type 0 where
 -- ---- what a record says; `places` has where the contents begin, tag 01's first
 
 -- the step limit, and the tolerance two bytes on
-unfoldable pub optionsOf : List ℕ → ℕ → Options
-optionsOf bytes p = record { «max_iters» = halfAt (drop p bytes) 0; tolerance = floatOf (wordAt (drop p bytes) 2) }
+unfoldable pub options-of : List ℕ → ℕ → Options
+options-of bytes p = record { «max_iters» = half-at (drop p bytes) 0; tolerance = float-of (word-at (drop p bytes) 2) }
 
 -- the job, beside its three lists
 unfoldable pub job-at : List ℕ → List ℕ → Job
 job-at bytes places =
-    let bands = wordAt bytes (place places bands-place) in
+    let bands = word-at bytes (place places bands-place) in
     let limits = place places limits-place in
-    let curs = wordAt bytes (place places cursors-place) in
+    let curs = word-at bytes (place places cursors-place) in
     record {
-      n = halfAt bytes (place places n-place);
+      n = half-at bytes (place places n-place);
       rows = row-count bytes (fields-of bytes);
-      nwpass = pos (partOf bands 0);
-      nwstop = pos (partOf bands 1);
-      «lp_sq» = numberAt bytes limits 0;
-      «up_sq» = numberAt bytes limits 1;
-      «sp_sq» = numberAt bytes limits 2;
-      cur1 = signed (partOf curs 0);
-      cur2 = signed (partOf curs 1);
-      cur3 = signed (partOf curs 2);
-      kappa = numberAt bytes (place places kappa-place) 0;
-      options = optionsOf bytes (place places settings-place);
+      nwpass = pos (part-of bands 0);
+      nwstop = pos (part-of bands 1);
+      «lp_sq» = number-at bytes limits 0;
+      «up_sq» = number-at bytes limits 1;
+      «sp_sq» = number-at bytes limits 2;
+      cur1 = signed (part-of curs 0);
+      cur2 = signed (part-of curs 1);
+      cur3 = signed (part-of curs 2);
+      kappa = number-at bytes (place places kappa-place) 0;
+      options = options-of bytes (place places settings-place);
     }
 
 -- with them
@@ -80,8 +80,8 @@ full-job-at bytes places =
     record {
       job = j;
       table = rows-of (j .n) bytes (fields-of bytes);
-      point = numbersAt bytes (place places point-place) (j .n);
-      matrix = numbersAt bytes (place places matrix-place) (j .n * j .n);
+      point = numbers-at bytes (place places point-place) (j .n);
+      matrix = numbers-at bytes (place places matrix-place) (j .n * j .n);
     }
 
 -- the walk over tags 01 to 09, and 10, with the places that it notes
@@ -97,8 +97,8 @@ full-job bytes = full-job-at bytes (job-walk bytes .1)
 -- a tag that gives a dimension, by its rule and the least value: its own length, then its range
 unfoldable pub size-fault : ℕ → ℕ → List ℕ → ℕ → Fault
 size-fault rule least bytes p =
-    ask-at (startOf p) (eqb (lengthAt bytes (startOf p)) (ruleLength rule 0)) Length
-    ⨾ ask-at (startOf p) (leb least (halfAt bytes p) && leb (halfAt bytes p) 32) Dimension
+    ask-at (start-of p) (eqb (length-at bytes (start-of p)) (rule-length rule 0)) Length
+    ⨾ ask-at (start-of p) (leb least (half-at bytes p) && leb (half-at bytes p) 32) Dimension
 
 -- the first fault of a record, in document 01's order: the walk and 10, tag 01, the other lengths, 3 at tag 02, 4 at tag 06
 unfoldable pub job-fault : List ℕ → Fault
@@ -108,8 +108,8 @@ job-fault bytes =
     job-walk bytes .0
     ⨾ size-fault n-place 2 bytes (place places n-place)
     ⨾ lengths-fault (j .n) bytes (fields-of bytes)
-    ⨾ ask-at (startOf (place places bands-place)) (bands-fit (job-oracle j) (j .rows)) Band
-    ⨾ ask-at (startOf (place places cursors-place)) (cursors-fit (job-oracle j)) Cursor
+    ⨾ ask-at (start-of (place places bands-place)) (bands-fit (job-oracle j) (j .rows)) Band
+    ⨾ ask-at (start-of (place places cursors-place)) (cursors-fit (job-oracle j)) Cursor
 
 -- 11, behind them: what the outputs for rows, point and matrix must hold
 abbrev pub has-room : Job → ℕ → ℕ → ℕ → Bool

@@ -1,6 +1,6 @@
 -- Document 01's number of each answer of this layer: 0, or the refusal's. Definitions only.
 use Prim.Native.Nat.{ℕ}
-use Rattle.numbers.specs.Refusal.{refusalNumber}
+use Rattle.numbers.specs.Refusal.{refusal-number}
 use Rattle.numbers.specs.declared.refusal.Refusal.the-variants.{NoStopValue}
 use Rattle.drivers.specs.declared.cutting_plane.FeasAnswer.{FeasAnswer}
 use Rattle.drivers.specs.declared.cutting_plane.FeasAnswer.the-variants.{Ended, Refused as NotRun}
@@ -20,36 +20,36 @@ use Rattle.drivers.specs.declared.trace.Text.the-variants.{Bytes as Byte
 -- of `cutting_plane_feas`
 abbrev pub feas-number : FeasAnswer → ℕ
 feas-number (Ended a) = 0
-feas-number (NotRun why) = refusalNumber why
+feas-number (NotRun why) = refusal-number why
 
 -- of `cutting_plane_optim`, which only refusal 6 halts
 abbrev pub optim-number : OptimAnswer → ℕ
 optim-number (EndedOptim a) = 0
-optim-number (Halted a) = refusalNumber NoStopValue
-optim-number (NotRunOptim why) = refusalNumber why
+optim-number (Halted a) = refusal-number NoStopValue
+optim-number (NotRunOptim why) = refusal-number why
 
 -- of `read_job`, beside its place
 abbrev pub job-number : JobAnswer → ℕ
 job-number (ReadJob j) = 0
-job-number (NoJob why place) = refusalNumber why
+job-number (NoJob why place) = refusal-number why
 
 -- of `read_answer`, beside its place
 abbrev pub read-number : AnswerRead → ℕ
 read-number (Read a) = 0
-read-number (NotRead why place) = refusalNumber why
+read-number (NotRead why place) = refusal-number why
 
 -- of `write_answer`
 abbrev pub bytes-number : AnswerWritten → ℕ
 bytes-number (Bytes count) = 0
-bytes-number (NotWritten why) = refusalNumber why
+bytes-number (NotWritten why) = refusal-number why
 
 -- of `belongs`
 abbrev pub belonging-number : Belonging → ℕ
 belonging-number Yes = 0
 belonging-number No = 0
-belonging-number (NotAsked why) = refusalNumber why
+belonging-number (NotAsked why) = refusal-number why
 
 -- of a text of a run. What `open` answers has no number of its own: where a job is refused, the number stands in the line that is written
 abbrev pub text-number : Text → ℕ
 text-number (BytesOfText count) = 0
-text-number (NoText why) = refusalNumber why
+text-number (NoText why) = refusal-number why

@@ -7,7 +7,7 @@ use Rattle.numbers.specs.EllCalc.{made}
 use Rattle.numbers.specs.declared.refusal.Refusal.{Refusal}
 use Rattle.numbers.specs.Refusal.{_⨾_, unless}
 use Rattle.drivers.specs.Text.{joined}
-use Rattle.drivers.specs.CuttingPlane.{Space}
+use Rattle.drivers.specs.CuttingPlane.{State}
 use Rattle.drivers.specs.Job.{FullJob, job-oracle, full-job, job-fault}
 use Rattle.drivers.specs.Trace.{refused-pieces, input-tests, run-text}
 
@@ -16,7 +16,7 @@ abbrev pub refused-text : Refusal → ℕ → List ℕ
 refused-text why place = joined (refused-pieces why place)
 
 -- what the run of a job begins with: its oracle, a new ellipsoid with its matrix and point, and scratch of zeros
-unfoldable pub first-space : FullJob → Space
+unfoldable pub first-space : FullJob → State
 first-space f =
     let n = f .job .n in
     record {

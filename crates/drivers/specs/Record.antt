@@ -6,7 +6,7 @@ use lib.Dec.{leb, ltb, eqb}
 use lib.ListN.{length, drop, getD, set, replicate}
 use lib.Ieee.{Float}
 use Rattle.numbers.specs.Pick.{pick, some}
-use Rattle.numbers.specs.Bits.{floatOf, wordAt}
+use Rattle.numbers.specs.Bits.{float-of, word-at}
 use Rattle.numbers.specs.Arr.{tab}
 use Rattle.numbers.specs.Over.{over}
 use Rattle.numbers.specs.Refusal.{is-fault, _⨾_, ask-at}
@@ -14,44 +14,44 @@ use Rattle.numbers.specs.declared.refusal.Refusal.the-variants.{Length, CutShor
 use Rattle.numbers.specs.declared.refusal.Fault.{Fault}
 use Rattle.numbers.specs.declared.refusal.Fault.the-variants.{Sound}
 use Rattle.drivers.specs.declared.rules.Form.{Form}
-use Rattle.drivers.specs.Rules.{indexOf, is-of, row-place, ruleLength, tags, optional, repeats}
+use Rattle.drivers.specs.Rules.{index-of, is-of, row-place, rule-length, tags, optional, repeats}
 
 -- ---- a field: tag, two bytes of length, content; bytes past the end count as 0
 
-abbrev pub tagAt : List ℕ → ℕ → ℕ
-tagAt bytes at = wordAt bytes at % 256
+abbrev pub tag-at : List ℕ → ℕ → ℕ
+tag-at bytes at = word-at bytes at % 256
 
-abbrev pub lengthAt : List ℕ → ℕ → ℕ
-lengthAt bytes at = wordAt bytes at / 256 % 65536
+abbrev pub length-at : List ℕ → ℕ → ℕ
+length-at bytes at = word-at bytes at / 256 % 65536
 
-abbrev pub indexAt : List ℕ → ℕ → ℕ
-indexAt bytes at = indexOf (tagAt bytes at)
+abbrev pub index-at : List ℕ → ℕ → ℕ
+index-at bytes at = index-of (tag-at bytes at)
 
 -- whether the content runs past the record's end
 abbrev pub overruns : List ℕ → ℕ → Bool
-overruns bytes at = ltb (length bytes - at) (3 + lengthAt bytes at)
+overruns bytes at = ltb (length bytes - at) (3 + length-at bytes at)
 
 -- where the next field begins; the end after a field that is cut short
 unfoldable pub after : List ℕ → ℕ → ℕ
-after bytes at = pick (overruns bytes at) (length bytes) (at + (3 + lengthAt bytes at))
+after bytes at = pick (overruns bytes at) (length bytes) (at + (3 + length-at bytes at))
 
 -- where the content begins; the end where the header is cut short
-abbrev pub contentOf : List ℕ → ℕ → ℕ
-contentOf bytes at = pick (ltb (length bytes - at) 3) (length bytes) (at + 3)
+abbrev pub content-of : List ℕ → ℕ → ℕ
+content-of bytes at = pick (ltb (length bytes - at) 3) (length bytes) (at + 3)
 
 -- the first byte of the field whose content begins at p
-abbrev pub startOf : ℕ → ℕ
-startOf p = p - 3
+abbrev pub start-of : ℕ → ℕ
+start-of p = p - 3
 
 -- the two-byte number at p, and the float that is number k of the content that begins there
-abbrev pub halfAt : List ℕ → ℕ → ℕ
-halfAt bytes p = wordAt bytes p % 65536
+abbrev pub half-at : List ℕ → ℕ → ℕ
+half-at bytes p = word-at bytes p % 65536
 
-unfoldable pub numberAt : List ℕ → ℕ → ℕ → Float
-numberAt bytes p k = floatOf (wordAt (drop p bytes) (8 * k))
+unfoldable pub number-at : List ℕ → ℕ → ℕ → Float
+number-at bytes p k = float-of (word-at (drop p bytes) (8 * k))
 
-abbrev pub numbersAt : List ℕ → ℕ → ℕ → List Float
-numbersAt bytes p count = tab (λ k. numberAt bytes p k) count
+abbrev pub numbers-at : List ℕ → ℕ → ℕ → List Float
+numbers-at bytes p count = tab (λ k. number-at bytes p k) count
 
 -- where the fields begin, front to back; `fuel` is at least the count of bytes that are left
 unfoldable pub fields-from : ℕ → List ℕ → ℕ → List ℕ
@@ -84,7 +84,7 @@ noted places i p = set places i (first-place (place places i) p)
 -- one field: 7 (header), 8, 9, 7 (content)
 unfoldable pub field-fault : List ℕ → Form → List ℕ → ℕ → Fault
 field-fault bytes form places at =
-    let i = indexAt bytes at in
+    let i = index-at bytes at in
     ask-at at (leb 3 (length bytes - at)) CutShort
     ⨾ ask-at at (is-of form i) ForeignTag
     ⨾ ask-at at (not (is-met places i && not (repeats i))) RepeatedTag
@@ -95,7 +95,7 @@ unfoldable pub walk-of : List ℕ → Form → List ℕ → List ℕ → Fault �
 walk-of bytes form [] places = (Sound, places)
 walk-of bytes form (at ∷ rest) places =
     let f = field-fault bytes form places at in
-    pick (is-fault f) (f, places) (walk-of bytes form rest (noted places (indexAt bytes at) (contentOf bytes at)))
+    pick (is-fault f) (f, places) (walk-of bytes form rest (noted places (index-at bytes at) (content-of bytes at)))
 
 -- 10, at the record's length: a tag of the form that must be there has not been met
 abbrev pub is-missing : Form → List ℕ → ℕ → Bool
@@ -113,12 +113,12 @@ record-fault bytes form places =
 -- 2: the first field, in record order, whose length is not what n says
 unfoldable pub lengths-fault : ℕ → List ℕ → List ℕ → Fault
 lengths-fault n bytes [] = Sound
-lengths-fault n bytes (at ∷ rest) = ask-at at (eqb (lengthAt bytes at) (ruleLength (indexAt bytes at) n)) Length ⨾ lengths-fault n bytes rest
+lengths-fault n bytes (at ∷ rest) = ask-at at (eqb (length-at bytes at) (rule-length (index-at bytes at) n)) Length ⨾ lengths-fault n bytes rest
 
 -- ---- rows, in the order of arrival
 
 abbrev pub is-row : List ℕ → ℕ → Bool
-is-row bytes at = eqb (indexAt bytes at) row-place
+is-row bytes at = eqb (index-at bytes at) row-place
 
 abbrev pub rows-in : List ℕ → ℕ → ℕ
 rows-in bytes at = pick (is-row bytes at) 1 0
@@ -129,7 +129,7 @@ row-count bytes (at ∷ rest) = rows-in bytes at + row-count bytes rest
 
 unfoldable pub rows-of : ℕ → List ℕ → List ℕ → List Float
 rows-of n bytes [] = []
-rows-of n bytes (at ∷ rest) = pick (is-row bytes at) (numbersAt bytes (contentOf bytes at) n) [] ++ rows-of n bytes rest
+rows-of n bytes (at ∷ rest) = pick (is-row bytes at) (numbers-at bytes (content-of bytes at) n) [] ++ rows-of n bytes rest
 
 -- numbers at the front of a list, whose rest stays
 abbrev pub fronted : List Float → List Float → List Float

@@ -87,9 +87,9 @@ abbrev pub no-rule : Rule
 no-rule = (0, 0, 0, 0, 0, once)
 
 -- rule i; past the table that of no tag
-unfoldable pub ruleAt : ℕ → Rule
+unfoldable pub rule-at : ℕ → Rule
 unfolding rules
-ruleAt i = getD rules i no-rule
+rule-at i = getD rules i no-rule
 
 -- a form of record, by its bit
 abbrev pub job-form : Form
@@ -100,24 +100,24 @@ answer-form = record { bit = in-answer }
 
 -- rule i's tag is one of the form's; how often it may stand
 abbrev pub is-of : Form → ℕ → Bool
-is-of form i = eqb (ruleAt i .1 / form .bit % 2) 1
+is-of form i = eqb (rule-at i .1 / form .bit % 2) 1
 
 abbrev pub repeats : ℕ → Bool
-repeats i = eqb (ruleAt i .5) many
+repeats i = eqb (rule-at i .5) many
 
 abbrev pub optional : ℕ → Bool
-optional i = eqb (ruleAt i .5) maybe
+optional i = eqb (rule-at i .5) maybe
 
 -- a tag's place in the table, 12 where it is not there
-unfoldable pub indexIn : List Rule → ℕ → ℕ
-indexIn [] tag = 0
-indexIn (r ∷ rs) tag = pick (eqb (r .0) tag) 0 (suc (indexIn rs tag))
+unfoldable pub index-in : List Rule → ℕ → ℕ
+index-in [] tag = 0
+index-in (r ∷ rs) tag = pick (eqb (r .0) tag) 0 (suc (index-in rs tag))
 
-unfoldable pub indexOf : ℕ → ℕ
-unfolding rules indexIn
-indexOf tag = indexIn rules tag
+unfoldable pub index-of : ℕ → ℕ
+unfolding rules index-in
+index-of tag = index-in rules tag
 
 -- the bytes that a field's content must have: base + factor × n ^ power
-unfoldable pub ruleLength : ℕ → ℕ → ℕ
-unfolding ruleAt
-ruleLength i n = ruleAt i .2 + ruleAt i .3 * n ^ ruleAt i .4
+unfoldable pub rule-length : ℕ → ℕ → ℕ
+unfolding rule-at
+rule-length i n = rule-at i .2 + rule-at i .3 * n ^ rule-at i .4

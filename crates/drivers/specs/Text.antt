@@ -10,14 +10,14 @@ joined [] = []
 joined (text ∷ texts) = text ++ joined texts
 
 -- a digit: 0 to 9, A to F
-unfoldable pub digitChar : ℕ → ℕ
-digitChar d = pick (ltb d 10) (48 + d) (55 + d)
+unfoldable pub digit-char : ℕ → ℕ
+digit-char d = pick (ltb d 10) (48 + d) (55 + d)
 
 -- the lowest digits of w, so many of them, the highest first
-unfoldable pub digitsOf : ℕ → ℕ → ℕ → List ℕ
-unfolding digitChar
-digitsOf base zero w = []
-digitsOf base (suc count) w = digitsOf base count (w / base) ++ (digitChar (w % base) ∷ [])
+unfoldable pub digits-of : ℕ → ℕ → ℕ → List ℕ
+unfolding digit-char
+digits-of base zero w = []
+digits-of base (suc count) w = digits-of base count (w / base) ++ (digit-char (w % base) ∷ [])
 
 -- how many decimal digits w has, of which at most `most` stand before the last
 unfoldable pub digit-count-to : ℕ → ℕ → ℕ
@@ -31,9 +31,9 @@ digit-count w = digit-count-to 19 w
 
 -- in decimal, and as 16 upper-case hexadecimal digits
 unfoldable pub decimal : ℕ → List ℕ
-unfolding digitsOf digit-count
-decimal w = digitsOf 10 (digit-count w) w
+unfolding digits-of digit-count
+decimal w = digits-of 10 (digit-count w) w
 
 unfoldable pub hex : ℕ → List ℕ
-unfolding digitsOf
-hex w = digitsOf 16 16 w
+unfolding digits-of
+hex w = digits-of 16 16 w

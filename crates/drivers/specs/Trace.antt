@@ -6,8 +6,8 @@ use lib.Dec.{leb, ltb}
 use lib.ListN.{length}
 use lib.Ieee.{Float}
 use Rattle.numbers.specs.Pick.{pick}
-use Rattle.numbers.specs.Bits.{bitsOf}
-use Rattle.numbers.specs.Refusal.{refusalNumber, _⨾_, unless, ask, ask-at}
+use Rattle.numbers.specs.Bits.{bits-of}
+use Rattle.numbers.specs.Refusal.{refusal-number, _⨾_, unless, ask, ask-at}
 use Rattle.numbers.specs.declared.refusal.Refusal.{Refusal}
 use Rattle.numbers.specs.declared.refusal.Refusal.the-variants.{Room}
 use Rattle.numbers.specs.declared.refusal.Fault.{Fault}
@@ -16,14 +16,14 @@ use Rattle.numbers.specs.declared.cut.CutChoice.the-variants.{Single, Parallel}
 use Rattle.numbers.specs.declared.cut.CutStatus.{CutStatus}
 use Rattle.numbers.specs.declared.cut.CutStatus.the-variants.{Success, NoSoln, NoEffect}
 use Rattle.numbers.specs.Over.{over}
-use Rattle.oracles.specs.LowpassOracle.{groupSide}
+use Rattle.oracles.specs.LowpassOracle.{group-side}
 use Rattle.oracles.specs.Ell.{EllBuffers, new-ell-answer}
 use Rattle.oracles.specs.declared.lowpass_oracle.Group.{Group}
 use Rattle.oracles.specs.declared.lowpass_oracle.Group.the-variants.{Pass, Stop, Middle, Sign}
 use Rattle.oracles.specs.declared.ell.NewEll.{NewEll}
 use Rattle.oracles.specs.declared.ell.NewEll.the-variants.{Made, Refused as NoEll}
 use Rattle.drivers.specs.Text.{joined, decimal, hex}
-use Rattle.drivers.specs.CuttingPlane.{Space, check-space, feas-step, goes-on, feas-ended}
+use Rattle.drivers.specs.CuttingPlane.{State, check-space, feas-step, goes-on, feas-ended}
 use Rattle.drivers.specs.Job.{job-oracle, read-job-answer}
 use Rattle.drivers.specs.declared.answer.Answer.{Answer}
 use Rattle.drivers.specs.declared.cutting_plane.Said.{Said}
@@ -62,8 +62,8 @@ side-word false = 32 ∷ 117 ∷ 110 ∷ 100 ∷ 101 ∷ 114 ∷ 32 ∷ []  -- "
 
 -- the betas as their bits; a NaN as 7FF8000000000000
 abbrev pub beta-pieces : CutChoice → List (List ℕ)
-beta-pieces (Single beta0) = hex (bitsOf beta0) ∷ (32 ∷ 45 ∷ []) ∷ []  -- " -"
-beta-pieces (Parallel beta0 beta1) = hex (bitsOf beta0) ∷ (32 ∷ []) ∷ hex (bitsOf beta1) ∷ []
+beta-pieces (Single beta0) = hex (bits-of beta0) ∷ (32 ∷ 45 ∷ []) ∷ []  -- " -"
+beta-pieces (Parallel beta0 beta1) = hex (bits-of beta0) ∷ (32 ∷ []) ∷ hex (bits-of beta1) ∷ []
 
 abbrev pub status-word : CutStatus → List ℕ
 status-word Success = 32 ∷ 83 ∷ 117 ∷ 99 ∷ 99 ∷ 101 ∷ 115 ∷ 115 ∷ 10 ∷ []  -- " Success" and a line feed
@@ -71,7 +71,7 @@ status-word NoSoln = 32 ∷ 78 ∷ 111 ∷ 83 ∷ 111 ∷ 108 ∷ 110 ∷ 10 ∷
 status-word NoEffect = 32 ∷ 78 ∷ 111 ∷ 69 ∷ 102 ∷ 102 ∷ 101 ∷ 99 ∷ 116 ∷ 10 ∷ []  -- " NoEffect"
 
 abbrev pub cut-pieces : ℕ → Group → CutChoice → CutStatus → List (List ℕ)
-cut-pieces step group beta status = (decimal step ∷ group-word group ∷ row-text group ∷ side-word (groupSide group) ∷ []) ++ beta-pieces beta ++ (status-word status ∷ [])
+cut-pieces step group beta status = (decimal step ∷ group-word group ∷ row-text group ∷ side-word (group-side group) ∷ []) ++ beta-pieces beta ++ (status-word status ∷ [])
 
 -- what a step prints of itself: nothing, or its cut
 abbrev pub said-pieces : ℕ → Said → List (List ℕ)
@@ -97,7 +97,7 @@ ended-pieces (NotRun why) = []
 abbrev pub refused-pieces : Refusal → ℕ → List (List ℕ)
 refused-pieces why place =
     (114 ∷ 101 ∷ 102 ∷ 117 ∷ 115 ∷ 101 ∷ 100 ∷ 32 ∷ [])  -- "refused "
-    ∷ decimal (refusalNumber why) ∷ (32 ∷ []) ∷ decimal place ∷ (10 ∷ []) ∷ []
+    ∷ decimal (refusal-number why) ∷ (32 ∷ []) ∷ decimal place ∷ (10 ∷ []) ∷ []
 
 -- 11 where `out` has fewer bytes than the longest text may need
 abbrev pub room : ℕ
@@ -124,11 +124,11 @@ abbrev pub new-run-answer : Job → NewRun
 new-run-answer j = run-of j (new-ell-answer (j .n) (j .kappa))
 
 -- what a run moves, with the slices that it is lent
-abbrev pub space-of : Run → EllBuffers → List Float → Space
+abbrev pub space-of : Run → EllBuffers → List Float → State
 space-of run b grad = record { oracle = run .oracle; ell = run .ell; buffers = b; grad = grad }
 
 -- the run after a step
-abbrev pub run-at : Run → Space → ℕ → Run
+abbrev pub run-at : Run → State → ℕ → Run
 run-at run s k = record { oracle = s .oracle; ell = s .ell; options = run .options; rows = run .rows; niter = k }
 
 -- the text of a step, and of the run's end where it is the last
@@ -168,7 +168,7 @@ next-answer run table b grad out =
     (pick (ltb (run .niter) (run .options .«max_iters»)) (step-printed run table b grad out) (limit-printed run b grad out))
 
 -- all that is printed by the steps k, k + 1, .. of which so many are left, and the lines of their cuts alone: the steps that feas-run takes
-unfoldable pub run-text : ℕ → List Float → Float → ℕ → ℕ → Space → List ℕ
+unfoldable pub run-text : ℕ → List Float → Float → ℕ → ℕ → State → List ℕ
 run-text rows table tolerance zero k s = joined (last-pieces (record { found = false; steps = k }))
 run-text rows table tolerance (suc left) k s =
     let r = feas-step rows table s in

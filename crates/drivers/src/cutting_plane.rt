@@ -22,7 +22,7 @@ ghost use lib.Ieee.{Float};
 ghost use Rattle.numbers.specs.declared.refusal.Refusal.{Refusal};
 ghost use Rattle.drivers.specs.declared.cutting_plane.FeasAnswer.the-variants.{Refused as NotRun};
 ghost use Rattle.drivers.specs.declared.cutting_plane.OptimAnswer.the-variants.{Refused as NotRunOptim};
-ghost use Rattle.drivers.specs.CuttingPlane.{Space, default-options, checkOf, said-of, goes-on, proceeds, feas-ended, is-found, kept, feas-step, feas-run, feas-answer, optim-step, optim-goes-on, optim-ended, optim-left, optim-run, optim-answer};
+ghost use Rattle.drivers.specs.CuttingPlane.{State, default-options, check-of, said-of, goes-on, proceeds, feas-ended, is-found, kept, feas-step, feas-run, feas-answer, optim-step, optim-goes-on, optim-ended, optim-left, optim-run, optim-answer};
 
 // How many steps a run may take, and the tsq below which it ends.
 pub struct Options {
@@ -110,7 +110,7 @@ pub(crate) fn check(
     grad: usize,
     grad_t: usize,
 ) -> Fault
-    ensures { λ r. ⌜ r ≡ checkOf oracle n rows table mq xc grad «grad_t» ⌝ }
+    ensures { λ r. ⌜ r ≡ check-of oracle n rows table mq xc grad «grad_t» ⌝ }
 {
     if !is_dimension(n) {
         return Fault::At(Refusal::Dimension, 0);
@@ -295,7 +295,7 @@ pub fn cutting_plane_feas(
     x_best: &mut [f64],
 ) -> FeasRun
     ensures { λ r. ⌜ (r .answer, record { oracle = r .oracle; ell = r .ell; buffers = record { mq = now (mq .exit); xc = now (xc .exit); grad-t = now («grad_t» .exit) }; grad = now (grad .exit) }, now («x_best» .exit)) ≡ feas-answer options rows (now (table .entry)) (record { oracle = oracle; ell = ell; buffers = record { mq = now (mq .entry); xc = now (xc .entry); grad-t = now («grad_t» .entry) }; grad = now (grad .entry) }) (now («x_best» .entry)) ⌝ }
-    ensures { λ r. ⌜ ((why : Refusal) → r .answer ≡ NotRun why → _≡_ {A = Space × List Float} (record { oracle = r .oracle; ell = r .ell; buffers = record { mq = now (mq .exit); xc = now (xc .exit); grad-t = now («grad_t» .exit) }; grad = now (grad .exit) }, now («x_best» .exit)) (record { oracle = oracle; ell = ell; buffers = record { mq = now (mq .entry); xc = now (xc .entry); grad-t = now («grad_t» .entry) }; grad = now (grad .entry) }, now («x_best» .entry))) ⌝ }
+    ensures { λ r. ⌜ ((why : Refusal) → r .answer ≡ NotRun why → _≡_ {A = State × List Float} (record { oracle = r .oracle; ell = r .ell; buffers = record { mq = now (mq .exit); xc = now (xc .exit); grad-t = now («grad_t» .exit) }; grad = now (grad .exit) }, now («x_best» .exit)) (record { oracle = oracle; ell = ell; buffers = record { mq = now (mq .entry); xc = now (xc .entry); grad-t = now («grad_t» .entry) }; grad = now (grad .entry) }, now («x_best» .entry))) ⌝ }
 {
     let n = ell.ndim;
     let fault = check(

@@ -5,7 +5,7 @@ ghost use mathlib.Core.Path.{_≡_};
 ghost use Prim.Native.Nat.{_+_, _*_, _<_};
 ghost use lib.Dec.{leb};
 ghost use lib.ListN.{length};
-ghost use Rattle.numbers.specs.Bits.{leBytes};
+ghost use Rattle.numbers.specs.Bits.{le-bytes};
 ghost use Rattle.drivers.specs.Fields.{header, field-bytes, number-pieces, number-bytes};
 ghost use Rattle.drivers.specs.laws.Text.{put, put-all};
 
@@ -24,7 +24,7 @@ fn has_room(bytes: usize, at: usize, size: usize) -> bool
 
 // The k lowest bytes of w from out[at] on; where the next piece begins.
 pub(crate) fn put_integer(out: &mut [u8], at: usize, k: usize, w: u64) -> usize
-    ensures { λ r. ⌜ (r, now (out .exit)) ≡ put (now (out .entry)) at (leBytes k w) ⌝ }
+    ensures { λ r. ⌜ (r, now (out .exit)) ≡ put (now (out .entry)) at (le-bytes k w) ⌝ }
 {
     if !has_room(out.len(), at, k) {
         return at;
@@ -57,7 +57,7 @@ pub(crate) fn put_numbers(out: &mut [u8], at: usize, xs: &[f64]) -> usize
 // A field whose content is a number of k bytes.
 pub(crate) fn put_integer_field(out: &mut [u8], at: usize, tag: u8, k: usize, w: u64) -> usize
     requires { ⌜ k < 65536 ⌝ }
-    ensures { λ r. ⌜ (r, now (out .exit)) ≡ put (now (out .entry)) at (field-bytes (tag, leBytes k w)) ⌝ }
+    ensures { λ r. ⌜ (r, now (out .exit)) ≡ put (now (out .entry)) at (field-bytes (tag, le-bytes k w)) ⌝ }
 {
     if !has_room(out.len(), at, HEADER + k) {
         return at;

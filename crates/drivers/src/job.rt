@@ -31,8 +31,8 @@ use oracles::scan::is_rows;
 ghost use mathlib.Core.Path.{_≡_};
 ghost use Prim.Native.Nat.{_*_, _+_, _≤_, _<_};
 ghost use lib.ListN.{length};
-ghost use Rattle.drivers.specs.Record.{fields-of, no-places, numbersAt, row-count, rows-in, rows-of, fronted, place};
-ghost use Rattle.drivers.specs.Job.{signed, partOf, row-end, job-oracle, optionsOf, job-at, full-job-at, job-walk, size-fault, job-fault, has-room, read-into, read-job-answer};
+ghost use Rattle.drivers.specs.Record.{fields-of, no-places, numbers-at, row-count, rows-in, rows-of, fronted, place};
+ghost use Rattle.drivers.specs.Job.{signed, part-of, row-end, job-oracle, options-of, job-at, full-job-at, job-walk, size-fault, job-fault, has-room, read-into, read-job-answer};
 ghost use Rattle.drivers.specs.Rules.{matrix-place, point-place};
 ghost use Rattle.drivers.specs.laws.Record.{row-filled};
 ghost use Rattle.numbers.specs.declared.refusal.Fault.the-variants.{Sound};
@@ -92,7 +92,7 @@ impl Job {
 // Part k of a word of four 16-bit numbers, the lowest first.
 fn part(w: u64, k: usize) -> usize
     requires { ⌜ k < 3 ⌝ }
-    ensures { λ r. ⌜ r ≡ partOf w k ⌝ }
+    ensures { λ r. ⌜ r ≡ part-of w k ⌝ }
 {
     if k == 0 {
         return (w % 65536) as usize;
@@ -116,7 +116,7 @@ fn signed(h: usize) -> i32
 
 // The step limit, and the tolerance two bytes on.
 fn job_options(bytes: &[u8], p: usize) -> Options
-    ensures { λ r. ⌜ r ≡ optionsOf (now (bytes .entry)) p ⌝ }
+    ensures { λ r. ⌜ r ≡ options-of (now (bytes .entry)) p ⌝ }
 {
     if bytes.len() < p {
         return Options::new(0, 0.0);
@@ -245,8 +245,8 @@ fn fill_job(
 )
     requires { ⌜ (n ≤ 32) × (row-count (now bytes) (fields-of (now bytes)) * n ≤ length (now table)) × (n ≤ length (now xc)) × (n * n ≤ length (now mq)) ⌝ }
     ensures { λ _. ⌜ now (table .exit) ≡ fronted (rows-of n (now (bytes .entry)) (fields-of (now (bytes .entry)))) (now (table .entry)) ⌝ }
-    ensures { λ _. ⌜ now (xc .exit) ≡ fronted (numbersAt (now (bytes .entry)) (place (now (places .entry)) point-place) n) (now (xc .entry)) ⌝ }
-    ensures { λ _. ⌜ now (mq .exit) ≡ fronted (numbersAt (now (bytes .entry)) (place (now (places .entry)) matrix-place) (n * n)) (now (mq .entry)) ⌝ }
+    ensures { λ _. ⌜ now (xc .exit) ≡ fronted (numbers-at (now (bytes .entry)) (place (now (places .entry)) point-place) n) (now (xc .entry)) ⌝ }
+    ensures { λ _. ⌜ now (mq .exit) ≡ fronted (numbers-at (now (bytes .entry)) (place (now (places .entry)) matrix-place) (n * n)) (now (mq .entry)) ⌝ }
 {
     let nn = n * n;
     fill_table(bytes, n, table);

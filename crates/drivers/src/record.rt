@@ -16,24 +16,24 @@ use numbers::refusal::is_fault;
 ghost use mathlib.Core.Path.{_≡_};
 ghost use Prim.Native.Nat.{_≤_, _<_};
 ghost use lib.ListN.{length};
-ghost use Rattle.drivers.specs.Record.{tagAt, lengthAt, halfAt, numberAt, numbersAt, startOf, contentOf, is-row, rows-in, after, field-fault, first-place, fields-of, walk-of, missing-fault, record-fault, lengths-fault, row-count};
+ghost use Rattle.drivers.specs.Record.{tag-at, length-at, half-at, number-at, numbers-at, start-of, content-of, is-row, rows-in, after, field-fault, first-place, fields-of, walk-of, missing-fault, record-fault, lengths-fault, row-count};
 
 // ---- a field's header, and numbers in its content; bytes past the end count as 0
 
 pub(crate) fn tag_at(bytes: &[u8], at: usize) -> u64
-    ensures { λ r. ⌜ r ≡ tagAt (now (bytes .entry)) at ⌝ }
+    ensures { λ r. ⌜ r ≡ tag-at (now (bytes .entry)) at ⌝ }
 {
     word_at(bytes, at) % 256
 }
 
 pub(crate) fn length_at(bytes: &[u8], at: usize) -> usize
-    ensures { λ r. ⌜ r ≡ lengthAt (now (bytes .entry)) at ⌝ }
+    ensures { λ r. ⌜ r ≡ length-at (now (bytes .entry)) at ⌝ }
 {
     (word_at(bytes, at) / 256 % 65536) as usize
 }
 
 pub(crate) fn half_at(bytes: &[u8], at: usize) -> usize
-    ensures { λ r. ⌜ r ≡ halfAt (now (bytes .entry)) at ⌝ }
+    ensures { λ r. ⌜ r ≡ half-at (now (bytes .entry)) at ⌝ }
 {
     (word_at(bytes, at) % 65536) as usize
 }
@@ -41,7 +41,7 @@ pub(crate) fn half_at(bytes: &[u8], at: usize) -> usize
 // Number k of the content that begins at p.
 pub(crate) fn number_at(bytes: &[u8], p: usize, k: usize) -> f64
     requires { ⌜ k ≤ 32768 ⌝ }
-    ensures { λ r. ⌜ r ≡ numberAt (now (bytes .entry)) p k ⌝ }
+    ensures { λ r. ⌜ r ≡ number-at (now (bytes .entry)) p k ⌝ }
 {
     if bytes.len() < p {
         return 0.0;
@@ -52,7 +52,7 @@ pub(crate) fn number_at(bytes: &[u8], p: usize, k: usize) -> f64
 // The numbers of the content that begins at p, as many as `out` takes.
 pub(crate) fn numbers_into(bytes: &[u8], p: usize, out: &mut [f64])
     requires { ⌜ length (now out) ≤ 32768 ⌝ }
-    ensures { λ _. ⌜ now (out .exit) ≡ numbersAt (now (bytes .entry)) p (length (now (out .entry))) ⌝ }
+    ensures { λ _. ⌜ now (out .exit) ≡ numbers-at (now (bytes .entry)) p (length (now (out .entry))) ⌝ }
 {
     let mut i = 0;
     while i < out.len() {
@@ -63,7 +63,7 @@ pub(crate) fn numbers_into(bytes: &[u8], p: usize, out: &mut [f64])
 
 // The first byte of the field whose content begins at p.
 pub(crate) fn start_of(p: usize) -> usize
-    ensures { λ r. ⌜ r ≡ startOf p ⌝ }
+    ensures { λ r. ⌜ r ≡ start-of p ⌝ }
 {
     if p < 3 {
         return 0;
@@ -74,7 +74,7 @@ pub(crate) fn start_of(p: usize) -> usize
 // Where a field's content begins; the end where its header is cut short.
 pub(crate) fn content_at(bytes: &[u8], at: usize) -> usize
     requires { ⌜ at < length (now bytes) ⌝ }
-    ensures { λ r. ⌜ r ≡ contentOf (now (bytes .entry)) at ⌝ }
+    ensures { λ r. ⌜ r ≡ content-of (now (bytes .entry)) at ⌝ }
 {
     if bytes.len() - at < 3 {
         return bytes.len();

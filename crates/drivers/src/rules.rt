@@ -2,7 +2,7 @@
 ghost use mathlib.Core.Path.{_≡_};
 ghost use Prim.Native.Nat.{_^_, _/_, _%_, _≤_, _<_};
 ghost use lib.Dec.{eqb};
-ghost use Rattle.drivers.specs.Rules.{ruleAt, indexOf, ruleLength};
+ghost use Rattle.drivers.specs.Rules.{rule-at, index-of, rule-length};
 
 // A tag's rule: the tag, the forms of record that have it, base, factor and power of n, and how often it stands. Its field has base + factor × n ^ power bytes.
 // The numbers are narrow since the table, a constant, is made anew at each use: it has 72 bytes.
@@ -82,7 +82,7 @@ pub(crate) const TAGS: usize = 12;
 const NO_RULE: Rule = Rule(0, 0, 0, 0, 0, ONCE);
 
 pub(crate) fn rule_at(i: usize) -> Rule
-    ensures { λ r. ⌜ r ≡ ruleAt i ⌝ }
+    ensures { λ r. ⌜ r ≡ rule-at i ⌝ }
 {
     if i < TAGS {
         return RULES[i];
@@ -100,7 +100,7 @@ pub(crate) fn is_of(form: Form, rule: Rule) -> bool
 
 // A tag's place in the table, which is made once for all turns; 12 for a tag that is not there.
 pub(crate) fn rule_index(tag: u64) -> usize
-    ensures { λ r. ⌜ r ≡ indexOf tag ⌝ }
+    ensures { λ r. ⌜ r ≡ index-of tag ⌝ }
 {
     let rules = RULES;
     let mut i = 0;
@@ -130,7 +130,7 @@ fn power(n: usize, k: usize) -> usize
 // The bytes that a field's content must have.
 pub(crate) fn rule_length(i: usize, n: usize) -> usize
     requires { ⌜ n ≤ 32 ⌝ }
-    ensures { λ r. ⌜ r ≡ ruleLength i n ⌝ }
+    ensures { λ r. ⌜ r ≡ rule-length i n ⌝ }
 {
     let rule = rule_at(i);
     rule.2 as usize + rule.3 as usize * power(n, rule.4 as usize)

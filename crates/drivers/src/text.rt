@@ -1,13 +1,13 @@
 // Text into a lent slice, piece by piece. A piece that does not fit is not written, and the place stays: no piece asks anything of its caller.
 ghost use mathlib.Core.Path.{_≡_};
 ghost use Prim.Native.Nat.{_+_, _≤_, _<_};
-ghost use Rattle.drivers.specs.Text.{digitChar, digitsOf, digit-count, decimal, hex};
+ghost use Rattle.drivers.specs.Text.{digit-char, digits-of, digit-count, decimal, hex};
 ghost use Rattle.drivers.specs.laws.Text.{put};
 
 // A digit to a base up to 16, in upper case.
 fn digit_char(d: u64) -> u8
     requires { ⌜ d < 16 ⌝ }
-    ensures { λ r. ⌜ r ≡ digitChar d ⌝ }
+    ensures { λ r. ⌜ r ≡ digit-char d ⌝ }
 {
     if d < 10 {
         return 48 + d as u8;
@@ -37,7 +37,7 @@ pub(crate) fn put_text(out: &mut [u8], at: usize, text: &[u8]) -> usize
 // The count lowest digits of w to the base, the highest first.
 fn put_digits(out: &mut [u8], at: usize, w: u64, base: u64, count: usize) -> usize
     requires { ⌜ (2 ≤ base) × (base ≤ 16) ⌝ }
-    ensures { λ r. ⌜ (r, now (out .exit)) ≡ put (now (out .entry)) at (digitsOf base count w) ⌝ }
+    ensures { λ r. ⌜ (r, now (out .exit)) ≡ put (now (out .entry)) at (digits-of base count w) ⌝ }
 {
     if out.len() < at {
         return at;

@@ -5,27 +5,27 @@ use mathlib.Core.List.{List}
 use lib.Dec.{ltb, leb, eqb}
 use lib.ListN.{getD, set}
 use Rattle.numbers.specs.Pick.{pick}
-use Rattle.lists.specs.Words.{firstDiff}
+use Rattle.lists.specs.Words.{first-diff}
 use Rattle.lists.specs.declared.tally.Replayed.{Replayed}
 use Rattle.lists.specs.declared.tally.Replayed.the-variants.{Words, Refused, Unfit, Unknown}
 use Rattle.lists.specs.declared.tally.Verdict.{Verdict}
 use Rattle.lists.specs.declared.tally.Verdict.the-variants.{Agrees, Differs, Unknown as NotKnown}
 
 -- n words came and `outs` are expected: each must be the same, and none missing
-unfoldable pub wordsVerdict : ℕ → List ℕ → ℕ → List ℕ → Verdict
-unfolding firstDiff
-wordsVerdict outs expected n got =
-    let k = firstDiff expected got 0 (min n outs) in
+unfoldable pub words-verdict : ℕ → List ℕ → ℕ → List ℕ → Verdict
+unfolding first-diff
+words-verdict outs expected n got =
+    let k = first-diff expected got 0 (min n outs) in
     pick (ltb k (min n outs)) (Differs k)
     (pick (eqb n outs) Agrees (Differs k))
 
 -- a refusal and inputs that do not fit differ from every answer
-unfoldable pub verdictOf : ℕ → List ℕ → Replayed → List ℕ → Verdict
-unfolding wordsVerdict
-verdictOf outs expected (Words n) got = wordsVerdict outs expected n got
-verdictOf outs expected (Refused r) got = Differs 0
-verdictOf outs expected Unfit got = Differs 0
-verdictOf outs expected Unknown got = NotKnown
+unfoldable pub verdict-of : ℕ → List ℕ → Replayed → List ℕ → Verdict
+unfolding words-verdict
+verdict-of outs expected (Words n) got = words-verdict outs expected n got
+verdict-of outs expected (Refused r) got = Differs 0
+verdict-of outs expected Unfit got = Differs 0
+verdict-of outs expected Unknown got = NotKnown
 
 -- one more, at the most what 64 bits hold
 abbrev pub more : ℕ → ℕ
@@ -44,8 +44,8 @@ unfoldable pub tallied : List ℕ → ℕ → Verdict → List ℕ
 tallied table op v = pick (leb 256 op) (bumped table 514) (counted table op v)
 
 -- a damaged list counts as one case that differs, of no operation
-abbrev pub damagedOf : List ℕ → List ℕ
-damagedOf table = bumped table 513
+abbrev pub damaged-of : List ℕ → List ℕ
+damaged-of table = bumped table 513
 
-abbrev pub noneDiffer : List ℕ → Bool
-noneDiffer table = eqb (getD table 513 0) 0
+abbrev pub none-differ : List ℕ → Bool
+none-differ table = eqb (getD table 513 0) 0

@@ -2,14 +2,14 @@
 use crate::words::floats;
 use numbers::arr::fill_zero;
 ghost use mathlib.Core.Path.{_≡_};
-ghost use Rattle.lists.specs.Rooms.{plusOf, timesOf, partOf, filledOf};
+ghost use Rattle.lists.specs.Rooms.{plus-of, times-of, part-of, filled-of};
 
 // As many floats as a case can have words.
 pub type Room = [f64; 65536];
 
 // The sum, at most what 64 bits hold: too long for a case.
 pub fn plus(a: usize, b: usize) -> usize
-    ensures { λ r. ⌜ r ≡ plusOf a b ⌝ }
+    ensures { λ r. ⌜ r ≡ plus-of a b ⌝ }
 {
     if usize::MAX - a < b {
         return usize::MAX;
@@ -19,7 +19,7 @@ pub fn plus(a: usize, b: usize) -> usize
 
 // The product, or what is too long for a case.
 pub fn times(a: usize, b: usize) -> usize
-    ensures { λ r. ⌜ r ≡ timesOf a b ⌝ }
+    ensures { λ r. ⌜ r ≡ times-of a b ⌝ }
 {
     if a == 0 {
         return 0;
@@ -37,7 +37,7 @@ pub fn times(a: usize, b: usize) -> usize
 }
 
 pub fn part(s: &[f64], at: usize, len: usize) -> &[f64]
-    ensures { λ r. ⌜ now r ≡ partOf (now (s .entry)) at len ⌝ }
+    ensures { λ r. ⌜ now r ≡ part-of (now (s .entry)) at len ⌝ }
 {
     if s.len() < at {
         return &s[0..0];
@@ -50,7 +50,7 @@ pub fn part(s: &[f64], at: usize, len: usize) -> &[f64]
 }
 
 pub fn front(s: &mut [f64], len: usize) -> &mut [f64]
-    ensures { λ r. ⌜ now r ≡ partOf (now (s .entry)) 0 len ⌝ }
+    ensures { λ r. ⌜ now r ≡ part-of (now (s .entry)) 0 len ⌝ }
 {
     if s.len() < len {
         return &mut s[0..0];
@@ -60,7 +60,7 @@ pub fn front(s: &mut [f64], len: usize) -> &mut [f64]
 
 // The floats from word `at` on; zeros where the case does not say them.
 pub fn fill(s: &mut [f64], inputs: &[u8], told: bool, at: usize, len: usize)
-    ensures { λ _. ⌜ now (s .exit) ≡ filledOf (now (s .entry)) (now (inputs .entry)) told at len ⌝ }
+    ensures { λ _. ⌜ now (s .exit) ≡ filled-of (now (s .entry)) (now (inputs .entry)) told at len ⌝ }
 {
     if s.len() < len {
         return;

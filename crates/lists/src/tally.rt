@@ -7,7 +7,7 @@ use crate::print::print_sum;
 use crate::words::first_difference;
 ghost use mathlib.Core.Path.{_≡_};
 ghost use Prim.Native.Nat.{_<_, min};
-ghost use Rattle.lists.specs.Tally.{verdictOf, more, bumped, tallied, damagedOf, noneDiffer};
+ghost use Rattle.lists.specs.Tally.{verdict-of, more, bumped, tallied, damaged-of, none-differ};
 
 // What came of a case: so many words of output; a call that said no, by its number; inputs that are not what the operation takes; an operation that the program does not have.
 pub enum Replayed {
@@ -31,7 +31,7 @@ fn shorter(a: usize, b: usize) -> usize
 
 // `outs` words are expected; where words differ, or one side has more, the first such place.
 pub fn compare(outs: usize, expected: &[u8], replayed: Replayed, got: &[u8]) -> Verdict
-    ensures { λ r. ⌜ r ≡ verdictOf outs (now (expected .entry)) replayed (now (got .entry)) ⌝ }
+    ensures { λ r. ⌜ r ≡ verdict-of outs (now (expected .entry)) replayed (now (got .entry)) ⌝ }
 {
     match replayed {
         Replayed::Words(n) => {
@@ -119,7 +119,7 @@ pub fn judge(
     replayed: Replayed,
     got: &[u8],
 )
-    ensures { λ _. ⌜ now (table .exit) ≡ tallied (now (table .entry)) (case .op) (verdictOf (case .outs) (now (expected .entry)) replayed (now (got .entry))) ⌝ }
+    ensures { λ _. ⌜ now (table .exit) ≡ tallied (now (table .entry)) (case .op) (verdict-of (case .outs) (now (expected .entry)) replayed (now (got .entry))) ⌝ }
 {
     let v = compare(case.outs, expected, replayed, got);
     let first = is_first(table, case.op, v);
@@ -131,7 +131,7 @@ pub fn judge(
 
 // A list that breaks off, or has too long a case, there: counted as one case that differs, of no operation.
 pub fn damaged(table: &mut [u64; 515], position: u64, long: bool)
-    ensures { λ _. ⌜ now (table .exit) ≡ damagedOf (now (table .entry)) ⌝ }
+    ensures { λ _. ⌜ now (table .exit) ≡ damaged-of (now (table .entry)) ⌝ }
 {
     print_damage(position, long);
     bump(table, 513);
@@ -148,7 +148,7 @@ fn print_operations(table: &[u64; 515]) {
 
 // Prints the numbers of each operation that was met, and of all; whether no case differs.
 pub fn print_totals(table: &[u64; 515]) -> bool
-    ensures { λ r. ⌜ r ≡ noneDiffer (now (table .entry)) ⌝ }
+    ensures { λ r. ⌜ r ≡ none-differ (now (table .entry)) ⌝ }
 {
     print_operations(table);
     print_sum(table[512], table[513], table[514]);

@@ -16,28 +16,28 @@ use Rattle.numbers.specs.declared.arr.Written.{Written}
 use Rattle.numbers.specs.declared.arr.Written.the-variants.{Done, Refused as NotWritten}
 
 -- a point's dimension is 2 to 32
-abbrev pub isDimension : ℕ → Bool
-isDimension n = leb 2 n && leb n 32
+abbrev pub is-dimension : ℕ → Bool
+is-dimension n = leb 2 n && leb n 32
 
 -- s, and the products of what the two lists have in common, added left to right
-unfoldable pub dotFrom : Float → List Float → List Float → Float
-dotFrom s [] b = s
-dotFrom s (x ∷ a) [] = s
-dotFrom s (x ∷ a) (y ∷ b) = dotFrom (s ⊕ x ⊗ y) a b
+unfoldable pub dot-from : Float → List Float → List Float → Float
+dot-from s [] b = s
+dot-from s (x ∷ a) [] = s
+dot-from s (x ∷ a) (y ∷ b) = dot-from (s ⊕ x ⊗ y) a b
 
 -- `dot`: from the first product on; −0, the sum of no products, where there is none
-unfoldable pub dotOf : List Float → List Float → Float
-dotOf [] b = −0ᶠ
-dotOf (x ∷ a) [] = −0ᶠ
-dotOf (x ∷ a) (y ∷ b) = dotFrom (x ⊗ y) a b
+unfoldable pub dot-of : List Float → List Float → Float
+dot-of [] b = −0ᶠ
+dot-of (x ∷ a) [] = −0ᶠ
+dot-of (x ∷ a) (y ∷ b) = dot-from (x ⊗ y) a b
 
 -- row i of a flat table of rows of n
-abbrev pub rowOf : ℕ → List Float → ℕ → List Float
-rowOf n table i = take n (drop (i * n) table)
+abbrev pub row-of : ℕ → List Float → ℕ → List Float
+row-of n table i = take n (drop (i * n) table)
 
 -- `dot` of each of four rows with x
-abbrev pub fourOf : List Float → List Float → List Float → List Float → List Float → Four
-fourOf a b c d x = record { a = dotOf a x; b = dotOf b x; c = dotOf c x; d = dotOf d x }
+abbrev pub four-of : List Float → List Float → List Float → List Float → List Float → Four
+four-of a b c d x = record { a = dot-of a x; b = dot-of b x; c = dot-of c x; d = dot-of d x }
 
 -- f 0, f 1, .. f (n - 1)
 unfoldable pub tab {ℓ} : {X : Type ℓ} → (ℕ → X) → ℕ → List X
@@ -45,32 +45,32 @@ tab f zero = []
 tab f (suc n) = tab f n ++ (f n ∷ [])
 
 -- matrix times vector: each row's sum begins at plus zero
-unfoldable pub mvOf : ℕ → List Float → List Float → List Float
+unfoldable pub mv-of : ℕ → List Float → List Float → List Float
 unfolding tab
-mvOf n mat x = tab (λ i. dotFrom 0ᶠ (rowOf n mat i) x) n
+mv-of n mat x = tab (λ i. dot-from 0ᶠ (row-of n mat i) x) n
 
 -- the entries (i, i) for i below k set to v's
-unfoldable pub setDiag : ℕ → List Float → ℕ → List Float → List Float
-setDiag n v zero mat = mat
-setDiag n v (suc i) mat = set (setDiag n v i mat) (i * n + i) (getD v i nan)
+unfoldable pub set-diag : ℕ → List Float → ℕ → List Float → List Float
+set-diag n v zero mat = mat
+set-diag n v (suc i) mat = set (set-diag n v i mat) (i * n + i) (getD v i nan)
 
 -- zeros, and v on the diagonal
-unfoldable pub diagOf : ℕ → List Float → List Float
-unfolding setDiag
-diagOf n v = setDiag n v n (replicate (n * n) 0ᶠ)
+unfoldable pub diag-of : ℕ → List Float → List Float
+unfolding set-diag
+diag-of n v = set-diag n v n (replicate (n * n) 0ᶠ)
 
 -- ---- the public calls: refusal 1, then 2, and nothing written
 
 -- refusal 1 by the dimension n, then 2 by the lengths, which are right where `fit` is true
 abbrev pub sized : ℕ → Bool → Fault
-sized n fit = ask (isDimension n) Dimension ⨾ ask fit Length
+sized n fit = ask (is-dimension n) Dimension ⨾ ask fit Length
 
 -- `dot`: two vectors of n
 abbrev pub dot-tests : ℕ → List Float → List Float → Fault
 dot-tests n a b = sized n (eqb (length a) n && eqb (length b) n)
 
 abbrev pub dot-answer : ℕ → List Float → List Float → Number
-dot-answer n a b = unless (dot-tests n a b) (λ why place. Refused why) (Value (dotOf a b))
+dot-answer n a b = unless (dot-tests n a b) (λ why place. Refused why) (Value (dot-of a b))
 
 -- A call that fills `out`: its answer, and `out` as it leaves it.
 abbrev pub fills : Fault → List Float → List Float → Written × List Float
@@ -81,7 +81,7 @@ abbrev pub dot-mv-into-tests : ℕ → List Float → List Float → List Float 
 dot-mv-into-tests n mat x out = sized n (eqb (length mat) (n * n) && eqb (length x) n && eqb (length out) n)
 
 abbrev pub dot-mv-into-answer : ℕ → List Float → List Float → List Float → Written × List Float
-dot-mv-into-answer n mat x out = fills (dot-mv-into-tests n mat x out) (mvOf n mat x) out
+dot-mv-into-answer n mat x out = fills (dot-mv-into-tests n mat x out) (mv-of n mat x) out
 
 -- `copy_from`: two vectors of n
 abbrev pub copy-from-tests : ℕ → List Float → List Float → Fault
@@ -95,11 +95,11 @@ abbrev pub eye-tests : ℕ → List Float → Fault
 eye-tests n out = sized n (eqb (length out) (n * n))
 
 abbrev pub eye-answer : ℕ → List Float → Written × List Float
-eye-answer n out = fills (eye-tests n out) (diagOf n (replicate n 1ᶠ)) out
+eye-answer n out = fills (eye-tests n out) (diag-of n (replicate n 1ᶠ)) out
 
 -- `from_diag`: a vector of n, and an n by n matrix to fill
 abbrev pub from-diag-tests : ℕ → List Float → List Float → Fault
 from-diag-tests n v out = sized n (eqb (length v) n && eqb (length out) (n * n))
 
 abbrev pub from-diag-answer : ℕ → List Float → List Float → Written × List Float
-from-diag-answer n v out = fills (from-diag-tests n v out) (diagOf n v) out
+from-diag-answer n v out = fills (from-diag-tests n v out) (diag-of n v) out

@@ -1,7 +1,7 @@
 -- The helper's formulas (ell_calc.rs, `EllCalcCore`), in the Rust's order of operations. Definitions only.
 use lib.Ieee.{Float}
 use Rattle.numbers.specs.F64.{_⊕_, _⊖_, _⊗_, _⊘_, 1ᶠ, 2ᶠ}
-use Rattle.numbers.specs.Sqrt.{sqrtOf}
+use Rattle.numbers.specs.Sqrt.{sqrt-of}
 use Rattle.numbers.specs.declared.cut.Params.{Params}
 use Rattle.numbers.specs.declared.ell_calc.EllCalcCore.{EllCalcCore}
 
@@ -27,7 +27,7 @@ core-parallel-bias-cut-fast c beta0 beta1 tsq b0b1 eta =
     let zeta0 = tsq ⊖ b0sq in
     let zeta1 = tsq ⊖ b1sq in
     let temp = c .«half_n» ⊗ (b1sq ⊖ b0sq) in
-    let xi = sqrtOf (zeta0 ⊗ zeta1 ⊕ temp ⊗ temp) in
+    let xi = sqrt-of (zeta0 ⊗ zeta1 ⊕ temp ⊗ temp) in
     let bsum = beta0 ⊕ beta1 in
     let bsumsq = bsum ⊗ bsum in
     let sigma = 2ᶠ ⊗ eta ⊘ (tsq ⊕ b0b1 ⊕ c .«half_n» ⊗ bsumsq ⊕ xi) in
@@ -48,7 +48,7 @@ core-parallel-central-cut c beta1 tsq =
     let b1sq = beta1 ⊗ beta1 in
     let a1sq = b1sq ⊘ tsq in
     let half-val = c .«half_n» ⊗ a1sq in
-    let root = half-val ⊕ sqrtOf (1ᶠ ⊖ a1sq ⊕ half-val ⊗ half-val) in
+    let root = half-val ⊕ sqrt-of (1ᶠ ⊖ a1sq ⊕ half-val ⊗ half-val) in
     let r-plus-1 = root ⊕ 1ᶠ in
     record { rho = beta1 ⊘ r-plus-1; sigma = 2ᶠ ⊘ r-plus-1; delta = root ⊘ (root ⊖ c .«inv_n») }
 
@@ -66,4 +66,4 @@ core-bias-cut c beta tau = core-bias-cut-fast c beta tau (tau ⊕ c .«n_f» ⊗
 
 -- `calc_central_cut`: one bound that is zero
 unfoldable pub core-central-cut : EllCalcCore → Float → Params
-core-central-cut c tsq = record { rho = sqrtOf tsq ⊘ c .«n_plus_1»; sigma = c .cst2; delta = c .cst1 }
+core-central-cut c tsq = record { rho = sqrt-of tsq ⊘ c .«n_plus_1»; sigma = c .cst2; delta = c .cst1 }

@@ -7,19 +7,19 @@ use Rattle.numbers.specs.declared.refusal.Refusal.the-variants.{Dimensio
 use Rattle.numbers.specs.declared.refusal.Fault.{Fault}
 use Rattle.numbers.specs.declared.refusal.Fault.the-variants.{Sound, At}
 
-abbrev pub refusalNumber : Refusal → ℕ
-refusalNumber Dimension = 1
-refusalNumber Length = 2
-refusalNumber Band = 3
-refusalNumber Cursor = 4
-refusalNumber Position = 5
-refusalNumber NoStopValue = 6
-refusalNumber CutShort = 7
-refusalNumber ForeignTag = 8
-refusalNumber RepeatedTag = 9
-refusalNumber MissingTag = 10
-refusalNumber Room = 11
-refusalNumber Outcome = 12
+abbrev pub refusal-number : Refusal → ℕ
+refusal-number Dimension = 1
+refusal-number Length = 2
+refusal-number Band = 3
+refusal-number Cursor = 4
+refusal-number Position = 5
+refusal-number NoStopValue = 6
+refusal-number CutShort = 7
+refusal-number ForeignTag = 8
+refusal-number RepeatedTag = 9
+refusal-number MissingTag = 10
+refusal-number Room = 11
+refusal-number Outcome = 12
 
 -- ---- the first refusal counts
 
@@ -38,7 +38,7 @@ unless (At why place) refused done = refused why place
 
 -- its number, and 0 where there is none
 abbrev pub fault-number : Fault → ℕ
-fault-number f = unless f (λ why place. refusalNumber why) 0
+fault-number f = unless f (λ why place. refusal-number why) 0
 
 -- a test: the refusal where it fails, at a place of the record; outside of a record the place is 0
 abbrev pub ask-at : ℕ → Bool → Refusal → Fault

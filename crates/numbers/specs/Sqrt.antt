@@ -10,24 +10,24 @@ use lib.Ieee.Positive.{num, den}
 use lib.Ieee.Scale.{finite}
 
 -- The whole part of √N, for N below 4 ^ k: the root of the number without its last two binary digits, and one digit more.
-unfoldable pub isqrtTo : ℕ → ℕ → ℕ
-isqrtTo zero N = 0
-isqrtTo (suc k) N =
-    let a = 2 * isqrtTo k (N / 4) in
+unfoldable pub isqrt-to : ℕ → ℕ → ℕ
+isqrt-to zero N = 0
+isqrt-to (suc k) N =
+    let a = 2 * isqrt-to k (N / 4) in
     cond (leb ((a + 1) * (a + 1)) N) (a + 1) a
 
 -- The whole part of √N: N has at most as many digits in base 4 as in base 2.
 unfoldable pub isqrt : ℕ → ℕ
-unfolding isqrtTo
-isqrt N = isqrtTo (size N) N
+unfolding isqrt-to
+isqrt N = isqrt-to (size N) N
 
 -- How many units a finite x has in size; nothing is dropped for an x that binary64 holds: `units-exact` in Units.
-abbrev pub unitsOf : Float → ℕ
-unitsOf x = num x * 2 ^ low binary64 / den x
+abbrev pub units-of : Float → ℕ
+units-of x = num x * 2 ^ low binary64 / den x
 
 -- The square of the root in units squared, for an x of n units: x = n / 2 ^ 1074 = (√N / 2 ^ 1074) ^ 2.
-abbrev pub squareOf : ℕ → ℕ
-squareOf n = n * 2 ^ low binary64
+abbrev pub square-of : ℕ → ℕ
+square-of n = n * 2 ^ low binary64
 
 -- Of the whole part of √N all but 53 leading digits are dropped. The middle between what is kept and the next number up is
 -- (2 * kept + 1) * 2 ^ dropped halves of a unit.
@@ -45,15 +45,15 @@ unfoldable pub rounded : ℕ → Float
 rounded N = units binary64 false (nearest (kept N) (compare (4 * N) (middle N * middle N))) (dropped N)
 
 -- NaN and numbers below zero give NaN; each zero and plus infinity give themselves; any other x the rounded root.
-unfoldable pub sqrtOf : Float → Float
-sqrtOf nan = nan
-sqrtOf (inf false) = inf false
-sqrtOf (inf true) = nan
-sqrtOf (fin s zero e) = fin s zero e
-sqrtOf (fin true (suc m) e) = nan
-sqrtOf (fin false (suc m) e) = rounded (squareOf (unitsOf (fin false (suc m) e)))
+unfoldable pub sqrt-of : Float → Float
+sqrt-of nan = nan
+sqrt-of (inf false) = inf false
+sqrt-of (inf true) = nan
+sqrt-of (fin s zero e) = fin s zero e
+sqrt-of (fin true (suc m) e) = nan
+sqrt-of (fin false (suc m) e) = rounded (square-of (units-of (fin false (suc m) e)))
 
--- ---- IEEE 754's root: what the contract of `sqrt` says of a positive finite x beside the equation with `sqrtOf`
+-- ---- IEEE 754's root: what the contract of `sqrt` says of a positive finite x beside the equation with `sqrt-of`
 
 -- a float's sign
 abbrev pub negative : Float → Bool
@@ -73,4 +73,4 @@ pub record NearestRoot (x r : Float) : Type 0 where
   pub is-f64 : T (fits binary64 r)
   pub is-finite : T (finite r)
   pub not-below-zero : negative r ≡ false
-  pub nearer : (y : Float) → T (fits binary64 y) → T (finite y) → (y ≡ r → ⊥) → Nearer (squareOf (unitsOf x)) (unitsOf r) (negative y) (unitsOf y)
+  pub nearer : (y : Float) → T (fits binary64 y) → T (finite y) → (y ≡ r → ⊥) → Nearer (square-of (units-of x)) (units-of r) (negative y) (units-of y)

@@ -4,8 +4,8 @@ ghost use mathlib.Core.Path.{_≡_};
 ghost use Prim.Native.Nat.{_+_, _*_, _≤_, _<_, min};
 ghost use lib.ListN.{length, drop, replicate};
 ghost use Rattle.numbers.specs.F64.{0ᶠ};
-ghost use Rattle.numbers.specs.Arr.{isDimension, dotFrom, dotOf, fourOf, rowOf, mvOf, diagOf, setDiag, dot-answer, dot-mv-into-answer, copy-from-answer, eye-answer, from-diag-answer};
-ghost use Rattle.numbers.specs.laws.Arr.{fourFrom, fourRows};
+ghost use Rattle.numbers.specs.Arr.{is-dimension, dot-from, dot-of, four-of, row-of, mv-of, diag-of, set-diag, dot-answer, dot-mv-into-answer, copy-from-answer, eye-answer, from-diag-answer};
+ghost use Rattle.numbers.specs.laws.Arr.{four-from, four-row-dots};
 
 pub enum Number {
     Value(f64),
@@ -27,7 +27,7 @@ pub struct Four {
 
 // Whether n is a point's dimension.
 pub fn is_dimension(n: usize) -> bool
-    ensures { λ r. ⌜ r ≡ isDimension n ⌝ }
+    ensures { λ r. ⌜ r ≡ is-dimension n ⌝ }
 {
     2 <= n && n <= 32
 }
@@ -41,7 +41,7 @@ fn shorter(a: usize, b: usize) -> usize
 // `start`, and the products from `from` on added left to right, two to a turn.
 fn add_products(start: f64, a: &[f64], b: &[f64], from: usize) -> f64
     requires { ⌜ (from ≤ length (now a)) × (from ≤ length (now b)) ⌝ }
-    ensures { λ r. ⌜ r ≡ dotFrom start (drop from (now (a .entry))) (drop from (now (b .entry))) ⌝ }
+    ensures { λ r. ⌜ r ≡ dot-from start (drop from (now (a .entry))) (drop from (now (b .entry))) ⌝ }
 {
     let common = shorter(a.len(), b.len());
     let mut s = start;
@@ -59,7 +59,7 @@ fn add_products(start: f64, a: &[f64], b: &[f64], from: usize) -> f64
 
 // The dot product of what the two slices have in common, from the first product on: `dot` with nothing to refuse.
 pub fn dot_zip(a: &[f64], b: &[f64]) -> f64
-    ensures { λ r. ⌜ r ≡ dotOf (now (a .entry)) (now (b .entry)) ⌝ }
+    ensures { λ r. ⌜ r ≡ dot-of (now (a .entry)) (now (b .entry)) ⌝ }
 {
     if shorter(a.len(), b.len()) == 0 {
         return -0.0;
@@ -87,7 +87,7 @@ pub fn dot(n: usize, a: &[f64], b: &[f64]) -> Number
 // to right.
 fn add_four(start: Four, a: &[f64], b: &[f64], c: &[f64], d: &[f64], x: &[f64], from: usize) -> Four
     requires { ⌜ (length (now a) ≡ length (now x)) × (length (now b) ≡ length (now x)) × (length (now c) ≡ length (now x)) × (length (now d) ≡ length (now x)) ⌝ }
-    ensures { λ r. ⌜ r ≡ fourFrom start (now (a .entry)) (now (b .entry)) (now (c .entry)) (now (d .entry)) (now (x .entry)) from ⌝ }
+    ensures { λ r. ⌜ r ≡ four-from start (now (a .entry)) (now (b .entry)) (now (c .entry)) (now (d .entry)) (now (x .entry)) from ⌝ }
 {
     let mut s = start.a;
     let mut t = start.b;
@@ -112,7 +112,7 @@ fn add_four(start: Four, a: &[f64], b: &[f64], c: &[f64], d: &[f64], x: &[f64], 
 
 // `dot_zip` of each of four rows with x.
 pub fn dot_four(a: &[f64], b: &[f64], c: &[f64], d: &[f64], x: &[f64]) -> Four
-    ensures { λ r. ⌜ r ≡ fourOf (now (a .entry)) (now (b .entry)) (now (c .entry)) (now (d .entry)) (now (x .entry)) ⌝ }
+    ensures { λ r. ⌜ r ≡ four-of (now (a .entry)) (now (b .entry)) (now (c .entry)) (now (d .entry)) (now (x .entry)) ⌝ }
 {
     let n = x.len();
     if (0 < n) & (a.len() == n) & (b.len() == n) & (c.len() == n) & (d.len() == n) {
@@ -136,7 +136,7 @@ pub fn dot_four(a: &[f64], b: &[f64], c: &[f64], d: &[f64], x: &[f64]) -> Four
 // A row of 2 or 3 times x.
 fn short_row(row: &[f64], x: &[f64]) -> f64
     requires { ⌜ (2 ≤ length (now x)) × (length (now x) ≤ 3) × (length (now row) ≡ length (now x)) ⌝ }
-    ensures { λ r. ⌜ r ≡ dotFrom 0ᶠ (now (row .entry)) (now (x .entry)) ⌝ }
+    ensures { λ r. ⌜ r ≡ dot-from 0ᶠ (now (row .entry)) (now (x .entry)) ⌝ }
 {
     let s = 0.0 + row[0] * x[0];
     let t = s + row[1] * x[1];
@@ -149,7 +149,7 @@ fn short_row(row: &[f64], x: &[f64]) -> f64
 // A matrix of 2 or 3 times x, with no loop to set up.
 fn short_rows_into(n: usize, mat: &[f64], x: &[f64], out: &mut [f64])
     requires { ⌜ (2 ≤ n) × (n ≤ 3) × (length (now mat) ≡ n * n) × (length (now x) ≡ n) × (length (now out) ≡ n) ⌝ }
-    ensures { λ _. ⌜ now (out .exit) ≡ mvOf n (now (mat .entry)) (now (x .entry)) ⌝ }
+    ensures { λ _. ⌜ now (out .exit) ≡ mv-of n (now (mat .entry)) (now (x .entry)) ⌝ }
 {
     let two = 2 * n;
     out[0] = short_row(&mat[0..n], x);
@@ -163,7 +163,7 @@ fn short_rows_into(n: usize, mat: &[f64], x: &[f64], out: &mut [f64])
 // Row i, lent as the part of the matrix that begins at i × n, times x.
 fn one_row(n: usize, mat: &[f64], x: &[f64], i: usize) -> f64
     requires { ⌜ i * n + n ≤ length (now mat) ⌝ }
-    ensures { λ r. ⌜ r ≡ dotFrom 0ᶠ (rowOf n (now (mat .entry)) i) (now (x .entry)) ⌝ }
+    ensures { λ r. ⌜ r ≡ dot-from 0ᶠ (row-of n (now (mat .entry)) i) (now (x .entry)) ⌝ }
 {
     let at = i * n;
     let end = at + n;
@@ -173,7 +173,7 @@ fn one_row(n: usize, mat: &[f64], x: &[f64], i: usize) -> f64
 // The four rows from row i on, each lent as its part of the matrix, times x.
 fn four_rows(n: usize, mat: &[f64], x: &[f64], i: usize) -> Four
     requires { ⌜ (i * n + 4 * n ≤ length (now mat)) × (length (now x) ≡ n) ⌝ }
-    ensures { λ r. ⌜ r ≡ fourRows n (now (mat .entry)) (now (x .entry)) i ⌝ }
+    ensures { λ r. ⌜ r ≡ four-row-dots n (now (mat .entry)) (now (x .entry)) i ⌝ }
 {
     let zeros = Four {
         a: 0.0,
@@ -200,7 +200,7 @@ fn four_rows(n: usize, mat: &[f64], x: &[f64], i: usize) -> Four
 // Each row of the matrix times x: four rows at a time, and the last ones singly.
 fn long_rows_into(n: usize, mat: &[f64], x: &[f64], out: &mut [f64])
     requires { ⌜ (n ≤ 32) × (length (now mat) ≡ n * n) × (length (now x) ≡ n) × (length (now out) ≡ n) ⌝ }
-    ensures { λ _. ⌜ now (out .exit) ≡ mvOf n (now (mat .entry)) (now (x .entry)) ⌝ }
+    ensures { λ _. ⌜ now (out .exit) ≡ mv-of n (now (mat .entry)) (now (x .entry)) ⌝ }
 {
     let mut i = 0;
     while i < n {
@@ -221,7 +221,7 @@ fn long_rows_into(n: usize, mat: &[f64], x: &[f64], out: &mut [f64])
 // Each row of the matrix times x.
 fn rows_into(n: usize, mat: &[f64], x: &[f64], out: &mut [f64])
     requires { ⌜ (2 ≤ n) × (n ≤ 32) × (length (now mat) ≡ n * n) × (length (now x) ≡ n) × (length (now out) ≡ n) ⌝ }
-    ensures { λ _. ⌜ now (out .exit) ≡ mvOf n (now (mat .entry)) (now (x .entry)) ⌝ }
+    ensures { λ _. ⌜ now (out .exit) ≡ mv-of n (now (mat .entry)) (now (x .entry)) ⌝ }
 {
     if n >= 4 {
         long_rows_into(n, mat, x, out);
@@ -290,7 +290,7 @@ pub fn fill_zero(out: &mut [f64])
 // v on the diagonal.
 fn set_diagonal(n: usize, v: &[f64], out: &mut [f64])
     requires { ⌜ (n ≤ 32) × (length (now v) ≡ n) × (length (now out) ≡ n * n) ⌝ }
-    ensures { λ _. ⌜ now (out .exit) ≡ setDiag n (now (v .entry)) n (now (out .entry)) ⌝ }
+    ensures { λ _. ⌜ now (out .exit) ≡ set-diag n (now (v .entry)) n (now (out .entry)) ⌝ }
 {
     let mut i = 0;
     while i < n {
@@ -302,7 +302,7 @@ fn set_diagonal(n: usize, v: &[f64], out: &mut [f64])
 
 fn diagonal_into(n: usize, v: &[f64], out: &mut [f64])
     requires { ⌜ (n ≤ 32) × (length (now v) ≡ n) × (length (now out) ≡ n * n) ⌝ }
-    ensures { λ _. ⌜ now (out .exit) ≡ diagOf n (now (v .entry)) ⌝ }
+    ensures { λ _. ⌜ now (out .exit) ≡ diag-of n (now (v .entry)) ⌝ }
 {
     fill_zero(out);
     set_diagonal(n, v, out);

@@ -1,6 +1,6 @@
 // What a cut is, and what a calculator answers (cutting_plane.rs, ell_calc.rs).
 ghost use mathlib.Core.Path.{_≡_};
-ghost use Rattle.numbers.specs.Cut.{statusNumber};
+ghost use Rattle.numbers.specs.Cut.{status-number};
 
 // The bounds of a cut: one number or two.
 pub enum CutChoice {
@@ -16,7 +16,7 @@ pub enum CutStatus {
 
 impl CutStatus {
     pub fn number(self) -> u8
-        ensures { λ r. ⌜ r ≡ statusNumber self ⌝ }
+        ensures { λ r. ⌜ r ≡ status-number self ⌝ }
     {
         match self {
             CutStatus::Success => 0,
@@ -33,7 +33,7 @@ pub struct Params {
     pub delta: f64,
 }
 
-pub struct Answer {
+pub struct CutAnswer {
     pub status: CutStatus,
     pub params: Params,
 }

@@ -1,6 +1,6 @@
 // The cut calculators of ell_calc.rs: the helper's formulas, and the calculators that test before they use them.
 use crate::arr::is_dimension;
-use crate::cut::Answer;
+use crate::cut::CutAnswer;
 use crate::cut::CutChoice;
 use crate::cut::CutStatus;
 use crate::cut::Params;
@@ -12,7 +12,7 @@ ghost use Rattle.numbers.specs.EllCalcCore.{core-new, core-parallel-bias
 ghost use Rattle.numbers.specs.EllCalc.{new-answer, single-instead, calc-single-or-parallel-bias-cut, calc-single-or-parallel-central-cut, calc-single-or-parallel-q, calc-parallel-bias-cut, calc-parallel-q, calc-parallel-central-cut, calc-bias-cut, calc-bias-cut-q, calc-central-cut};
 
 // What NoSoln and NoEffect carry.
-const NO_SOLN: Answer = Answer {
+const NO_SOLN: CutAnswer = CutAnswer {
     status: CutStatus::NoSoln,
     params: Params {
         rho: 0.0,
@@ -21,7 +21,7 @@ const NO_SOLN: Answer = Answer {
     },
 };
 
-const NO_EFFECT: Answer = Answer {
+const NO_EFFECT: CutAnswer = CutAnswer {
     status: CutStatus::NoEffect,
     params: Params {
         rho: 0.0,
@@ -186,7 +186,7 @@ impl EllCalc {
         })
     }
 
-    pub fn calc_single_or_parallel_bias_cut(self, beta: CutChoice, tsq: f64) -> Answer
+    pub fn calc_single_or_parallel_bias_cut(self, beta: CutChoice, tsq: f64) -> CutAnswer
         ensures { λ r. ⌜ r ≡ calc-single-or-parallel-bias-cut self beta tsq ⌝ }
     {
         match beta {
@@ -195,7 +195,7 @@ impl EllCalc {
         }
     }
 
-    pub fn calc_single_or_parallel_central_cut(self, beta: CutChoice, tsq: f64) -> Answer
+    pub fn calc_single_or_parallel_central_cut(self, beta: CutChoice, tsq: f64) -> CutAnswer
         ensures { λ r. ⌜ r ≡ calc-single-or-parallel-central-cut self beta tsq ⌝ }
     {
         match beta {
@@ -204,7 +204,7 @@ impl EllCalc {
         }
     }
 
-    pub fn calc_single_or_parallel_q(self, beta: CutChoice, tsq: f64) -> Answer
+    pub fn calc_single_or_parallel_q(self, beta: CutChoice, tsq: f64) -> CutAnswer
         ensures { λ r. ⌜ r ≡ calc-single-or-parallel-q self beta tsq ⌝ }
     {
         match beta {
@@ -221,7 +221,7 @@ impl EllCalc {
     }
 
     // The Rust's `calc_parallel_impl` stands here twice, in the plain form and in the q form: each is compiled into its caller, and its answer is not copied.
-    pub fn calc_parallel_bias_cut(self, beta0: f64, beta1: f64, tsq: f64) -> Answer
+    pub fn calc_parallel_bias_cut(self, beta0: f64, beta1: f64, tsq: f64) -> CutAnswer
         ensures { λ r. ⌜ r ≡ calc-parallel-bias-cut self beta0 beta1 tsq ⌝ }
     {
         if crossed(beta0, beta1) {
@@ -233,13 +233,13 @@ impl EllCalc {
         let b0b1 = beta0 * beta1;
         let eta = tsq + self.n_f * b0b1;
         let helper = self.helper;
-        Answer {
+        CutAnswer {
             status: CutStatus::Success,
             params: helper.calc_parallel_bias_cut_fast(beta0, beta1, tsq, b0b1, eta),
         }
     }
 
-    pub fn calc_parallel_q(self, beta0: f64, beta1: f64, tsq: f64) -> Answer
+    pub fn calc_parallel_q(self, beta0: f64, beta1: f64, tsq: f64) -> CutAnswer
         ensures { λ r. ⌜ r ≡ calc-parallel-q self beta0 beta1 tsq ⌝ }
     {
         if crossed(beta0, beta1) {
@@ -254,13 +254,13 @@ impl EllCalc {
             return NO_EFFECT;
         }
         let helper = self.helper;
-        Answer {
+        CutAnswer {
             status: CutStatus::Success,
             params: helper.calc_parallel_bias_cut_fast(beta0, beta1, tsq, b0b1, eta),
         }
     }
 
-    pub fn calc_parallel_central_cut(self, beta1: f64, tsq: f64) -> Answer
+    pub fn calc_parallel_central_cut(self, beta1: f64, tsq: f64) -> CutAnswer
         ensures { λ r. ⌜ r ≡ calc-parallel-central-cut self beta1 tsq ⌝ }
     {
         if beta1 < 0.0 {
@@ -270,13 +270,13 @@ impl EllCalc {
             return self.calc_central_cut(tsq);
         }
         let helper = self.helper;
-        Answer {
+        CutAnswer {
             status: CutStatus::Success,
             params: helper.calc_parallel_central_cut(beta1, tsq),
         }
     }
 
-    pub fn calc_bias_cut(self, beta: f64, tsq: f64) -> Answer
+    pub fn calc_bias_cut(self, beta: f64, tsq: f64) -> CutAnswer
         ensures { λ r. ⌜ r ≡ calc-bias-cut self beta tsq ⌝ }
     {
         if tsq < beta * beta {
@@ -284,13 +284,13 @@ impl EllCalc {
         }
         let tau = sqrt(tsq);
         let helper = self.helper;
-        Answer {
+        CutAnswer {
             status: CutStatus::Success,
             params: helper.calc_bias_cut(beta, tau),
         }
     }
 
-    pub fn calc_bias_cut_q(self, beta: f64, tsq: f64) -> Answer
+    pub fn calc_bias_cut_q(self, beta: f64, tsq: f64) -> CutAnswer
         ensures { λ r. ⌜ r ≡ calc-bias-cut-q self beta tsq ⌝ }
     {
         let tau = sqrt(tsq);
@@ -302,17 +302,17 @@ impl EllCalc {
             return NO_EFFECT;
         }
         let helper = self.helper;
-        Answer {
+        CutAnswer {
             status: CutStatus::Success,
             params: helper.calc_bias_cut_fast(beta, tau, eta),
         }
     }
 
-    pub fn calc_central_cut(self, tsq: f64) -> Answer
+    pub fn calc_central_cut(self, tsq: f64) -> CutAnswer
         ensures { λ r. ⌜ r ≡ calc-central-cut self tsq ⌝ }
     {
         let helper = self.helper;
-        Answer {
+        CutAnswer {
             status: CutStatus::Success,
             params: helper.calc_central_cut(tsq),
         }

@@ -1,6 +1,6 @@
 // Why a call says no. One enum serves the whole project; its numbers are document 01's.
 ghost use mathlib.Core.Path.{_≡_};
-ghost use Rattle.numbers.specs.Refusal.{refusalNumber, is-fault};
+ghost use Rattle.numbers.specs.Refusal.{refusal-number, is-fault};
 
 pub enum Refusal {
     Dimension,
@@ -19,7 +19,7 @@ pub enum Refusal {
 
 impl Refusal {
     pub fn number(self) -> u8
-        ensures { λ r. ⌜ r ≡ refusalNumber self ⌝ }
+        ensures { λ r. ⌜ r ≡ refusal-number self ⌝ }
     {
         match self {
             Refusal::Dimension => 1,

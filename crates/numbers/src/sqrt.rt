@@ -5,7 +5,7 @@ ghost use Prim.Native.Nat.{_+_, _-_, _*_, _≤_, _<_, _^_};
 ghost use lib.Ieee.{binary64, ofBits};
 ghost use lib.Dec.{T};
 ghost use lib.Ieee.Positive.{positive};
-ghost use Rattle.numbers.specs.Sqrt.{sqrtOf, NearestRoot};
+ghost use Rattle.numbers.specs.Sqrt.{sqrt-of, NearestRoot};
 ghost use Rattle.numbers.specs.laws.Isqrt.{IsRoot};
 ghost use Rattle.numbers.specs.laws.Rounded.{SquareOfBits};
 
@@ -100,7 +100,7 @@ fn root_digits(m: u64) -> u64
 // above the middle: a is odd, so a² is odd and below the even number whose root is sought.
 fn root_of(bits: u64) -> f64
     requires { ⌜ (0 < bits) × (bits < 0x7ff0_0000_0000_0000) ⌝ }
-    ensures { λ r. ⌜ r ≡ sqrtOf (ofBits binary64 bits) ⌝ }
+    ensures { λ r. ⌜ r ≡ sqrt-of (ofBits binary64 bits) ⌝ }
 {
     let s = square_of(bits);
     let a = root_digits(s.m);
@@ -161,7 +161,7 @@ fn is_rounded(m: u64, q: u64) -> bool
 // The same root for x, the number with these bits: the guess, where it is the rounded root.
 fn guessed_root(x: f64, bits: u64) -> f64
     requires { ⌜ (0 < bits) × (bits < 0x7ff0_0000_0000_0000) ⌝ }
-    ensures { λ r. ⌜ r ≡ sqrtOf (ofBits binary64 bits) ⌝ }
+    ensures { λ r. ⌜ r ≡ sqrt-of (ofBits binary64 bits) ⌝ }
 {
     let s = square_of(bits);
     let r = guess(x, bits);
@@ -178,7 +178,7 @@ fn guessed_root(x: f64, bits: u64) -> f64
 
 // A normal number above zero comes first, being the usual case. What is left at the end is a zero or plus infinity. The second `ensures` is IEEE 754's root.
 pub fn sqrt(x: f64) -> f64
-    ensures { λ r. ⌜ r ≡ sqrtOf x ⌝ }
+    ensures { λ r. ⌜ r ≡ sqrt-of x ⌝ }
     ensures { λ r. ⌜ (T (positive x) → NearestRoot x r) ⌝ }
 {
     if x != x {

@@ -5,7 +5,7 @@ use lists::words::put;
 use lists::words::word;
 use numbers::bits::of_bits;
 use numbers::bits::to_bits;
-use numbers::cut::Answer;
+use numbers::cut::CutAnswer;
 use numbers::cut::CutChoice;
 use numbers::cut::Params;
 use numbers::ell_calc::EllCalc;
@@ -100,7 +100,7 @@ fn choice(beta0: f64, beta1: u64) -> CutChoice {
     }
 }
 
-fn calc_answer(op: u64, c: EllCalc, inputs: &[u8]) -> Answer {
+fn calc_answer(op: u64, c: EllCalc, inputs: &[u8]) -> CutAnswer {
     let x = float(inputs, 2);
     let y = float(inputs, 3);
     let z = float(inputs, 4);
@@ -118,7 +118,7 @@ fn calc_answer(op: u64, c: EllCalc, inputs: &[u8]) -> Answer {
     }
 }
 
-fn put_answer(got: &mut [u8], answer: Answer) {
+fn put_answer(got: &mut [u8], answer: CutAnswer) {
     let status = answer.status;
     let params = answer.params;
     put(got, 0, status.number() as u64);

@@ -8,14 +8,14 @@ use lib.Ieee.{Float}
 use Rattle.numbers.specs.F64.{_⊖_, _⊗_, _⊘_, 0ᶠ}
 use Rattle.numbers.specs.Pick.{pick}
 use Rattle.numbers.specs.Refusal.{unless}
-use Rattle.numbers.specs.Arr.{dotOf, mvOf, sized}
+use Rattle.numbers.specs.Arr.{dot-of, mv-of, sized}
 use Rattle.numbers.specs.EllCalc.{made, new-tests}
 use Rattle.numbers.specs.declared.refusal.Fault.{Fault}
 use Rattle.numbers.specs.declared.cut.CutChoice.{CutChoice}
 use Rattle.numbers.specs.declared.cut.CutStatus.{CutStatus}
 use Rattle.numbers.specs.declared.cut.CutStatus.the-variants.{NoEffect}
-use Rattle.oracles.specs.Matrix.{entry, at, grid}
-use Rattle.oracles.specs.EllCommon.{calcOf, answerOf, is-tiny, is-success, centreOf}
+use Rattle.oracles.specs.Matrix.{nth, at, grid}
+use Rattle.oracles.specs.EllCommon.{calc-of, outcome-answer, is-tiny, is-success, centre-of}
 use Rattle.oracles.specs.declared.ell_common.CutStrategy.{CutStrategy}
 use Rattle.oracles.specs.declared.ell_common.Update.the-variants.{Status, Refused}
 use Rattle.oracles.specs.declared.ell.Ell.{Ell}
@@ -34,12 +34,15 @@ pub record EllBuffers : Type 0 where
   pub xc : List Float
   pub grad-t : List Float
 
+abbrev pub ell-buffers : List Float → List Float → List Float → EllBuffers
+ell-buffers mq xc grad-t = record { mq = mq; xc = xc; grad-t = grad-t }
+
 -- the matrix less ratio × gt gtᵀ, worked out in the lower triangle and mirrored
 unfoldable pub rank-one : ℕ → Float → List Float → List Float → List Float
 rank-one n ratio gt mq = grid (λ r c. pick (leb c r) (low r c) (low c r)) n n
   where
     low : ℕ → ℕ → Float
-    low i j = at n mq i j ⊖ ratio ⊗ entry gt i ⊗ entry gt j
+    low i j = at n mq i j ⊖ ratio ⊗ nth gt i ⊗ nth gt j
 
 -- with another kappa and tsq
 abbrev pub with-tsq : Ell → Float → Float → Ell
@@ -47,25 +50,25 @@ with-tsq e kappa tsq = record { ndim = e .ndim; kappa = kappa; helper = e .helpe
 
 -- an update's answer from what it changes of an ellipsoid
 abbrev pub updated : Ell → Moved → EllUpdate
-updated e m = record { ell = with-tsq e (m .kappa) (m .tsq); answer = answerOf (m .outcome) }
+updated e m = record { ell = with-tsq e (m .kappa) (m .tsq); answer = outcome-answer (m .outcome) }
 
 -- an answer that is a status
 abbrev pub ell-said : Ell → CutStatus → EllUpdate
 ell-said e status = record { ell = e; answer = Status status }
 
 -- the update itself; grad_t is written before it is known to fail
-unfoldable pub ell-updateOf : Ell → CutStrategy → List Float → CutChoice → EllBuffers → EllUpdate × EllBuffers
-ell-updateOf e strategy grad beta b =
+unfoldable pub ell-update-of : Ell → CutStrategy → List Float → CutChoice → EllBuffers → EllUpdate × EllBuffers
+ell-update-of e strategy grad beta b =
     let n = e .ndim in
-    let gt = mvOf n (b .mq) grad in
-    let omega = dotOf grad gt in
+    let gt = mv-of n (b .mq) grad in
+    let omega = dot-of grad gt in
     let tsq = e .kappa ⊗ omega in
-    let a = calcOf strategy (e .helper) beta tsq in
+    let a = calc-of strategy (e .helper) beta tsq in
     let p = a .params in
     pick (is-tiny omega) (ell-said e NoEffect, record { mq = b .mq; xc = b .xc; grad-t = gt })
     (pick (not (is-success (a .status))) (ell-said (with-tsq e (e .kappa) tsq) (a .status), record { mq = b .mq; xc = b .xc; grad-t = gt }) (
       ell-said (with-tsq e (e .kappa ⊗ p .delta) tsq) (a .status),
-      record { mq = rank-one n (p .sigma ⊘ omega) gt (b .mq); xc = centreOf (b .xc) (p .rho ⊘ omega) gt; grad-t = gt },
+      record { mq = rank-one n (p .sigma ⊘ omega) gt (b .mq); xc = centre-of (b .xc) (p .rho ⊘ omega) gt; grad-t = gt },
     ))
 
 -- the lengths that n says
@@ -78,4 +81,4 @@ ell-tests n grad b = sized n (ell-fits n grad b)
 
 abbrev pub ell-update-answer : Ell → CutStrategy → List Float → CutChoice → EllBuffers → EllUpdate × EllBuffers
 ell-update-answer e strategy grad beta b =
-    unless (ell-tests (e .ndim) grad b) (λ why place. (record { ell = e; answer = Refused why }, b)) (ell-updateOf e strategy grad beta b)
+    unless (ell-tests (e .ndim) grad b) (λ why place. (record { ell = e; answer = Refused why }, b)) (ell-update-of e strategy grad beta b)

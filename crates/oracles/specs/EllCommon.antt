@@ -11,9 +11,9 @@ use Rattle.numbers.specs.declared.refusal.Refusal.the-variants.{Dimension as Wr
 use Rattle.numbers.specs.declared.cut.CutChoice.{CutChoice}
 use Rattle.numbers.specs.declared.cut.CutStatus.{CutStatus}
 use Rattle.numbers.specs.declared.cut.CutStatus.the-variants.{Success, NoSoln, NoEffect}
-use Rattle.numbers.specs.declared.cut.Answer.{Answer}
+use Rattle.numbers.specs.declared.cut.CutAnswer.{CutAnswer}
 use Rattle.numbers.specs.declared.ell_calc.EllCalc.{EllCalc}
-use Rattle.oracles.specs.Matrix.{entry}
+use Rattle.oracles.specs.Matrix.{nth}
 use Rattle.oracles.specs.declared.ell_common.CutStrategy.{CutStrategy}
 use Rattle.oracles.specs.declared.ell_common.CutStrategy.the-variants.{BiasCut, CentralCut, Q}
 use Rattle.oracles.specs.declared.ell_common.Update.{Update}
@@ -22,22 +22,22 @@ use Rattle.oracles.specs.declared.ell_common.Outcome.{Outcome}
 use Rattle.oracles.specs.declared.ell_common.Outcome.the-variants.{Success as Succeeded, NoSoln as NotSolved, NoEffect as NotMoved, Dimension, Length}
 
 -- the calculator that an update uses
-abbrev pub calcOf : CutStrategy → EllCalc → CutChoice → Float → Answer
-calcOf BiasCut helper beta tsq = calc-single-or-parallel-bias-cut helper beta tsq
-calcOf CentralCut helper beta tsq = calc-single-or-parallel-central-cut helper beta tsq
-calcOf Q helper beta tsq = calc-single-or-parallel-q helper beta tsq
+abbrev pub calc-of : CutStrategy → EllCalc → CutChoice → Float → CutAnswer
+calc-of BiasCut helper beta tsq = calc-single-or-parallel-bias-cut helper beta tsq
+calc-of CentralCut helper beta tsq = calc-single-or-parallel-central-cut helper beta tsq
+calc-of Q helper beta tsq = calc-single-or-parallel-q helper beta tsq
 
 -- 2⁻¹⁰²², the Rust's `f64::MIN_POSITIVE`: an omega at or below it has no effect; NaN goes on
 abbrev pub is-tiny : Float → Bool
 is-tiny omega = le omega (ofBits binary64 0x0010_0000_0000_0000)
 
 -- the answer that an outcome, the same in one byte, stands for
-abbrev pub answerOf : Outcome → Update
-answerOf Succeeded = Status Success
-answerOf NotSolved = Status NoSoln
-answerOf NotMoved = Status NoEffect
-answerOf Dimension = Refused WrongDimension
-answerOf Length = Refused WrongLength
+abbrev pub outcome-answer : Outcome → Update
+outcome-answer Succeeded = Status Success
+outcome-answer NotSolved = Status NoSoln
+outcome-answer NotMoved = Status NoEffect
+outcome-answer Dimension = Refused WrongDimension
+outcome-answer Length = Refused WrongLength
 
 -- only a success changes the ellipsoid
 abbrev pub is-success : CutStatus → Bool
@@ -46,5 +46,5 @@ is-success NoSoln = false
 is-success NoEffect = false
 
 -- the centre moved by −step × dir
-unfoldable pub centreOf : List Float → Float → List Float → List Float
-centreOf xc step dir = tab (λ i. entry xc i ⊖ step ⊗ entry dir i) (length xc)
+unfoldable pub centre-of : List Float → Float → List Float → List Float
+centre-of xc step dir = tab (λ i. nth xc i ⊖ step ⊗ nth dir i) (length xc)

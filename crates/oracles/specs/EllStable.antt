@@ -15,8 +15,8 @@ use Rattle.numbers.specs.declared.refusal.Fault.{Fault}
 use Rattle.numbers.specs.declared.cut.CutChoice.{CutChoice}
 use Rattle.numbers.specs.declared.cut.CutStatus.{CutStatus}
 use Rattle.numbers.specs.declared.cut.CutStatus.the-variants.{NoEffect}
-use Rattle.oracles.specs.Matrix.{entry, at, grid, total}
-use Rattle.oracles.specs.EllCommon.{calcOf, is-tiny, is-success, centreOf}
+use Rattle.oracles.specs.Matrix.{nth, at, grid, total}
+use Rattle.oracles.specs.EllCommon.{calc-of, is-tiny, is-success, centre-of}
 use Rattle.oracles.specs.declared.ell_common.CutStrategy.{CutStrategy}
 use Rattle.oracles.specs.declared.ell_common.Update.the-variants.{Status, Refused}
 use Rattle.oracles.specs.declared.ell_stable.EllStable.{EllStable}
@@ -37,31 +37,35 @@ pub record StableBuffers : Type 0 where
   pub gg-t : List Float
   pub g-t : List Float
 
+abbrev pub stable-buffers : List Float → List Float → List Float → List Float → List Float → List Float → StableBuffers
+stable-buffers mq xc inv-ml-g inv-md-inv-ml-g gg-t g-t =
+    record { mq = mq; xc = xc; inv-ml-g = inv-ml-g; inv-md-inv-ml-g = inv-md-inv-ml-g; gg-t = gg-t; g-t = g-t }
+
 -- ---- the parts of an update, for factors mq with rows of n and a gradient g
 
 -- entry l of the gradient when the columns below j have been taken from it; entry l of L⁻¹g where j is l
 unfoldable pub forward : ℕ → List Float → List Float → ℕ → ℕ → Float
-forward n mq g l zero = entry g l
+forward n mq g l zero = nth g l
 forward n mq g l (suc j) = forward n mq g l j ⊖ at n mq j l ⊗ forward n mq g j j
 
 -- inv(L) g
-unfoldable pub inv-ml-gOf : ℕ → List Float → List Float → ℕ → Float
-inv-ml-gOf n mq g i = forward n mq g i i
+unfoldable pub inv-ml-g-of : ℕ → List Float → List Float → ℕ → Float
+inv-ml-g-of n mq g i = forward n mq g i i
 
 -- inv(D) inv(L) g: the diagonal holds D's inverse
-unfoldable pub inv-md-inv-ml-gOf : ℕ → List Float → List Float → ℕ → Float
-inv-md-inv-ml-gOf n mq g i = inv-ml-gOf n mq g i ⊗ at n mq i i
+unfoldable pub inv-md-inv-ml-g-of : ℕ → List Float → List Float → ℕ → Float
+inv-md-inv-ml-g-of n mq g i = inv-ml-g-of n mq g i ⊗ at n mq i i
 
 -- omega's terms, and omega
-unfoldable pub gg-tOf : ℕ → List Float → List Float → ℕ → Float
-gg-tOf n mq g i = inv-md-inv-ml-gOf n mq g i ⊗ inv-ml-gOf n mq g i
+unfoldable pub gg-t-of : ℕ → List Float → List Float → ℕ → Float
+gg-t-of n mq g i = inv-md-inv-ml-g-of n mq g i ⊗ inv-ml-g-of n mq g i
 
-unfoldable pub omegaOf : ℕ → List Float → List Float → Float
-omegaOf n mq g = total _⊕_ 0ᶠ (gg-tOf n mq g) n
+unfoldable pub omega-of : ℕ → List Float → List Float → Float
+omega-of n mq g = total _⊕_ 0ᶠ (gg-t-of n mq g) n
 
 -- the strict lower triangle holds what `forward` subtracts
 unfoldable pub lowered : ℕ → List Float → List Float → List Float
-lowered n mq g = grid (λ r c. pick (ltb c r) (at n mq c r ⊗ inv-ml-gOf n mq g c) (at n mq r c)) n n
+lowered n mq g = grid (λ r c. pick (ltb c r) (at n mq c r ⊗ inv-ml-g-of n mq g c) (at n mq r c)) n n
 
 -- the last `count` entries of inv(Lᵀ) z, from the last one back
 unfoldable pub backward : ℕ → List Float → List Float → ℕ → List Float
@@ -69,28 +73,28 @@ backward n mq z zero = []
 backward n mq z (suc k) =
     let after = backward n mq z k in
     let i = n - suc k in
-    total _⊖_ (entry z i) (λ j. at n mq i (i + 1 + j) ⊗ entry after j) k ∷ after
+    total _⊖_ (nth z i) (λ j. at n mq i (i + 1 + j) ⊗ nth after j) k ∷ after
 
 -- omega / mu, where mu = sigma / (1 − sigma); a sigma of 1 divides by zero and goes on
 unfoldable pub t-start : Float → Float → Float
 t-start omega sigma = omega ⊘ (sigma ⊘ (1ᶠ ⊖ sigma))
 
 -- the running number of the rank-one update: t0, and each column's product added
-unfoldable pub tOf : ℕ → List Float → List Float → Float → ℕ → Float
-tOf n mq g t0 j = total _⊕_ t0 (λ i. inv-ml-gOf n mq g i ⊗ inv-md-inv-ml-gOf n mq g i) j
+unfoldable pub t-of : ℕ → List Float → List Float → Float → ℕ → Float
+t-of n mq g t0 j = total _⊕_ t0 (λ i. inv-ml-g-of n mq g i ⊗ inv-md-inv-ml-g-of n mq g i) j
 
 -- the factors after the rank-one update
 unfoldable pub updated : ℕ → List Float → List Float → Float → List Float
-updated n mq g t0 = grid (λ r c. pick (ltb c r) (at n mq c r ⊗ inv-ml-gOf n mq g c) (pick (eqb r c) (diagonal r) (upper r c))) n n
+updated n mq g t0 = grid (λ r c. pick (ltb c r) (at n mq c r ⊗ inv-ml-g-of n mq g c) (pick (eqb r c) (diagonal r) (upper r c))) n n
   where
     t : ℕ → Float
-    t j = tOf n mq g t0 j
+    t j = t-of n mq g t0 j
 
     diagonal : ℕ → Float
     diagonal j = at n mq j j ⊗ (t j ⊘ t (suc j))
 
     upper : ℕ → ℕ → Float
-    upper j l = at n mq j l ⊕ inv-md-inv-ml-gOf n mq g j ⊘ t (suc j) ⊗ forward n mq g l (suc j)
+    upper j l = at n mq j l ⊕ inv-md-inv-ml-g-of n mq g j ⊘ t (suc j) ⊗ forward n mq g l (suc j)
 
 -- ---- the update
 
@@ -108,9 +112,9 @@ prepared n grad b =
     record {
       mq = lowered n (b .mq) grad;
       xc = b .xc;
-      inv-ml-g = tab (inv-ml-gOf n (b .mq) grad) n;
-      inv-md-inv-ml-g = tab (inv-md-inv-ml-gOf n (b .mq) grad) n;
-      gg-t = tab (gg-tOf n (b .mq) grad) n;
+      inv-ml-g = tab (inv-ml-g-of n (b .mq) grad) n;
+      inv-md-inv-ml-g = tab (inv-md-inv-ml-g-of n (b .mq) grad) n;
+      gg-t = tab (gg-t-of n (b .mq) grad) n;
       g-t = b .g-t;
     }
 
@@ -120,7 +124,7 @@ succeeded n grad b omega rho sigma =
     let c = prepared n grad b in
     record {
       mq = updated n (b .mq) grad (t-start omega sigma);
-      xc = centreOf (b .xc) (rho ⊘ omega) (backward n (b .mq) (c .inv-md-inv-ml-g) n);
+      xc = centre-of (b .xc) (rho ⊘ omega) (backward n (b .mq) (c .inv-md-inv-ml-g) n);
       inv-ml-g = c .inv-ml-g;
       inv-md-inv-ml-g = c .inv-md-inv-ml-g;
       gg-t = c .gg-t;
@@ -128,12 +132,12 @@ succeeded n grad b omega rho sigma =
     }
 
 -- the update itself
-unfoldable pub stable-updateOf : EllStable → CutStrategy → List Float → CutChoice → StableBuffers → EllStableUpdate × StableBuffers
-stable-updateOf e strategy grad beta b =
+unfoldable pub stable-update-of : EllStable → CutStrategy → List Float → CutChoice → StableBuffers → EllStableUpdate × StableBuffers
+stable-update-of e strategy grad beta b =
     let n = e .ndim in
-    let omega = omegaOf n (b .mq) grad in
+    let omega = omega-of n (b .mq) grad in
     let tsq = e .kappa ⊗ omega in
-    let a = calcOf strategy (e .helper) beta tsq in
+    let a = calc-of strategy (e .helper) beta tsq in
     let p = a .params in
     pick (is-tiny omega) (stable-said e NoEffect, prepared n grad b)
     (pick (not (is-success (a .status))) (stable-said (with-tsq e (e .kappa) tsq) (a .status), prepared n grad b)
@@ -151,4 +155,4 @@ stable-tests n grad b = sized n (stable-fits n grad b)
 
 abbrev pub stable-update-answer : EllStable → CutStrategy → List Float → CutChoice → StableBuffers → EllStableUpdate × StableBuffers
 stable-update-answer e strategy grad beta b =
-    unless (stable-tests (e .ndim) grad b) (λ why place. (record { ell = e; answer = Refused why }, b)) (stable-updateOf e strategy grad beta b)
+    unless (stable-tests (e .ndim) grad b) (λ why place. (record { ell = e; answer = Refused why }, b)) (stable-update-of e strategy grad beta b)

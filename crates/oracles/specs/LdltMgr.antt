@@ -12,20 +12,20 @@ use Rattle.numbers.specs.declared.refusal.Refusal.the-variants.{Dimension, Leng
 use Rattle.numbers.specs.declared.refusal.Fault.{Fault}
 use Rattle.numbers.specs.declared.arr.Number.{Number}
 use Rattle.numbers.specs.declared.arr.Number.the-variants.{Value, Refused as NoNumber}
-use Rattle.oracles.specs.Matrix.{entry, at, grid, total}
+use Rattle.oracles.specs.Matrix.{nth, at, grid, total}
 use Rattle.oracles.specs.declared.ldlt_mgr.Pos.{Pos}
 use Rattle.oracles.specs.declared.ldlt_mgr.Factored.{Factored}
 use Rattle.oracles.specs.declared.ldlt_mgr.Factored.the-variants.{Definite, Stopped, Refused}
 
 -- a matrix's order is 1 to 32
-abbrev pub isOrder : ℕ → Bool
-isOrder m = leb 1 m && leb m 32
+abbrev pub is-order : ℕ → Bool
+is-order m = leb 1 m && leb m 32
 
 -- ---- the entry
 
 -- mat_b's entry, from which each mat_f[k] × xc[k] is subtracted in turn; mat_f[k] begins at k × m². With an empty xc it is mat_b's own.
 unfoldable pub get-elem : ℕ → List Float → List Float → List Float → ℕ → ℕ → Float
-get-elem m mat-b mat-f xc i j = total _⊖_ (at m mat-b i j) (λ k. entry mat-f (k * (m * m) + (i * m + j)) ⊗ entry xc k) (length xc)
+get-elem m mat-b mat-f xc i j = total _⊖_ (at m mat-b i j) (λ k. nth mat-f (k * (m * m) + (i * m + j)) ⊗ nth xc k) (length xc)
 
 -- ---- the factors of a matrix with entries A i j, of which those with j ≤ i are read
 
@@ -57,35 +57,35 @@ stop-from A zero i = 0
 stop-from A (suc left) i = pick (stops (reduced A i i)) (suc i) (stop-from A left (suc i))
 
 -- the stop of all m rows
-unfoldable pub stopOf : (ℕ → ℕ → Float) → ℕ → ℕ
-stopOf A m = stop-from A m 0
+unfoldable pub stop-of : (ℕ → ℕ → Float) → ℕ → ℕ
+stop-of A m = stop-from A m 0
 
 -- the storage with the rows and columns below k written; the rest keeps its old numbers
 unfoldable pub filled : (ℕ → ℕ → Float) → ℕ → List Float → ℕ → List Float
 filled A m storage k = grid (λ r c. pick (ltb r k && ltb c k) (stored A r c) (at m storage r c)) m m
 
 -- pos is (start, end) = (0, the stop)
-abbrev pub posOf : ℕ → Pos
-posOf e = record { start = 0; end = e }
+abbrev pub position-of : ℕ → Pos
+position-of e = record { start = 0; end = e }
 
 -- the stop, and the storage up to it: all rows are written where there is none
-unfoldable pub rowsOf : (ℕ → ℕ → Float) → ℕ → List Float → ℕ × List Float
-rowsOf A m storage = let e = stopOf A m in (e, filled A m storage (pick (eqb e 0) m e))
+unfoldable pub factor-rows : (ℕ → ℕ → Float) → ℕ → List Float → ℕ × List Float
+factor-rows A m storage = let e = stop-of A m in (e, filled A m storage (pick (eqb e 0) m e))
 
 -- definite where there is no stop
-unfoldable pub factorOf : (ℕ → ℕ → Float) → ℕ → List Float → Factored × List Float
-factorOf A m storage = let w = rowsOf A m storage in (pick (eqb (w .0) 0) Definite (Stopped (posOf (w .0))), w .1)
+unfoldable pub factor-of : (ℕ → ℕ → Float) → ℕ → List Float → Factored × List Float
+factor-of A m storage = let w = factor-rows A m storage in (pick (eqb (w .0) 0) Definite (Stopped (position-of (w .0))), w .1)
 
 -- refusals 1 and 2 of a call with matrices of order m, whose lengths are right where `fit` is true
 abbrev pub ordered : ℕ → Bool → Fault
-ordered m fit = ask (isOrder m) Dimension ⨾ ask fit Length
+ordered m fit = ask (is-order m) Dimension ⨾ ask fit Length
 
 -- `factor`
 abbrev pub factor-tests : ℕ → List Float → List Float → Fault
 factor-tests m mat storage = ordered m (eqb (length mat) (m * m) && eqb (length storage) (m * m))
 
 abbrev pub factor-answer : ℕ → List Float → List Float → Factored × List Float
-factor-answer m mat storage = unless (factor-tests m mat storage) (λ why place. (Refused why, storage)) (factorOf (get-elem m mat [] []) m storage)
+factor-answer m mat storage = unless (factor-tests m mat storage) (λ why place. (Refused why, storage)) (factor-of (get-elem m mat [] []) m storage)
 
 -- ---- the witness
 
@@ -96,11 +96,11 @@ witness-tail m storage end (suc zero) = 1ᶠ ∷ []
 witness-tail m storage end (suc (suc k)) =
     let after = witness-tail m storage end (suc k) in
     let i = end - suc (suc k) in
-    neg (total _⊕_ 0ᶠ (λ j. at m storage (i + 1 + j) i ⊗ entry after j) (suc k)) ∷ after
+    neg (total _⊕_ 0ᶠ (λ j. at m storage (i + 1 + j) i ⊗ nth after j) (suc k)) ∷ after
 
 -- entries start to end − 1 are written
-unfoldable pub witnessOf : ℕ → Pos → List Float → List Float → List Float
-witnessOf m pos storage wit = take (pos .start) wit ++ witness-tail m storage (pos .end) (pos .end - pos .start) ++ drop (pos .end) wit
+unfoldable pub witness-of : ℕ → Pos → List Float → List Float → List Float
+witness-of m pos storage wit = take (pos .start) wit ++ witness-tail m storage (pos .end) (pos .end - pos .start) ++ drop (pos .end) wit
 
 -- `witness`: refusal 5 unless start < end ≤ m; the negated last pivot, and the witness
 abbrev pub witness-tests : ℕ → Pos → List Float → List Float → Fault
@@ -109,23 +109,23 @@ witness-tests m pos storage wit = ordered m (eqb (length storage) (m * m) && eqb
 abbrev pub witness-answer : ℕ → Pos → List Float → List Float → Number × List Float
 witness-answer m pos storage wit =
     unless (witness-tests m pos storage wit) (λ why place. (NoNumber why, wit))
-    (Value (neg (at m storage (pos .end - 1) (pos .end - 1))), witnessOf m pos storage wit)
+    (Value (neg (at m storage (pos .end - 1) (pos .end - 1))), witness-of m pos storage wit)
 
 -- ---- the quadratic form
 
 -- row i's part, from the upper triangle
 unfoldable pub quad-term : ℕ → List Float → List Float → ℕ → ℕ → Float
 quad-term m wit mat end i =
-    let s = total _⊕_ 0ᶠ (λ j. at m mat i (i + 1 + j) ⊗ entry wit (i + 1 + j)) (end - (i + 1)) in
-    entry wit i ⊗ (at m mat i i ⊗ entry wit i ⊕ 2ᶠ ⊗ s)
+    let s = total _⊕_ 0ᶠ (λ j. at m mat i (i + 1 + j) ⊗ nth wit (i + 1 + j)) (end - (i + 1)) in
+    nth wit i ⊗ (at m mat i i ⊗ nth wit i ⊕ 2ᶠ ⊗ s)
 
 -- the sum over the rows start to end − 1
-unfoldable pub quadOf : ℕ → Pos → List Float → List Float → Float
-quadOf m pos wit mat = total _⊕_ 0ᶠ (λ k. quad-term m wit mat (pos .end) (pos .start + k)) (pos .end - pos .start)
+unfoldable pub quad-of : ℕ → Pos → List Float → List Float → Float
+quad-of m pos wit mat = total _⊕_ 0ᶠ (λ k. quad-term m wit mat (pos .end) (pos .start + k)) (pos .end - pos .start)
 
 -- `sym_quad`: refusal 5 unless start ≤ end ≤ m
 abbrev pub sym-quad-tests : ℕ → Pos → List Float → List Float → Fault
 sym-quad-tests m pos wit mat = ordered m (eqb (length wit) m && eqb (length mat) (m * m)) ⨾ ask (leb (pos .start) (pos .end) && leb (pos .end) m) Position
 
 abbrev pub sym-quad-answer : ℕ → Pos → List Float → List Float → Number
-sym-quad-answer m pos wit mat = unless (sym-quad-tests m pos wit mat) (λ why place. NoNumber why) (Value (quadOf m pos wit mat))
+sym-quad-answer m pos wit mat = unless (sym-quad-tests m pos wit mat) (λ why place. NoNumber why) (Value (quad-of m pos wit mat))

@@ -13,7 +13,7 @@ use Rattle.numbers.specs.declared.refusal.Refusal.the-variants.{Dimension}
 use Rattle.numbers.specs.declared.refusal.Fault.{Fault}
 use Rattle.numbers.specs.declared.cut.CutChoice.the-variants.{Single}
 use Rattle.oracles.specs.Matrix.{at}
-use Rattle.oracles.specs.LdltMgr.{isOrder, get-elem, rowsOf, posOf, witnessOf, quadOf}
+use Rattle.oracles.specs.LdltMgr.{is-order, get-elem, factor-rows, position-of, witness-of, quad-of}
 use Rattle.oracles.specs.declared.ldlt_mgr.Pos.{Pos}
 use Rattle.oracles.specs.declared.lmi_oracle.LmiVerdict.{LmiVerdict}
 use Rattle.oracles.specs.declared.lmi_oracle.LmiVerdict.the-variants.{Feasible, Cut, Refused}
@@ -25,22 +25,22 @@ pub record LmiBuffers : Type 0 where
   pub grad : List Float
 
 -- mat_f[k], the part that begins at k × m²
-abbrev pub matOf : ℕ → List Float → ℕ → List Float
-matOf m mat-f k = take (m * m) (drop (k * (m * m)) mat-f)
+abbrev pub mat-of : ℕ → List Float → ℕ → List Float
+mat-of m mat-f k = take (m * m) (drop (k * (m * m)) mat-f)
 
 -- the gradient: each mat_f[k]'s quadratic form at the witness, times the sign, which is 1
 unfoldable pub lmi-gradient : ℕ → ℕ → Pos → List Float → List Float → List Float
-lmi-gradient m n pos wit mat-f = tab (λ k. 1ᶠ ⊗ quadOf m pos wit (matOf m mat-f k)) n
+lmi-gradient m n pos wit mat-f = tab (λ k. 1ᶠ ⊗ quad-of m pos wit (mat-of m mat-f k)) n
 
 -- factor; where that stops, the witness, the negated last pivot and the gradient
-unfoldable pub lmi-assessOf : ℕ → ℕ → List Float → List Float → List Float → LmiBuffers → LmiVerdict × LmiBuffers
-lmi-assessOf m n mat-b mat-f xc b =
-    let w = rowsOf (get-elem m mat-b mat-f xc) m (b .storage) in
+unfoldable pub lmi-assess-of : ℕ → ℕ → List Float → List Float → List Float → LmiBuffers → LmiVerdict × LmiBuffers
+lmi-assess-of m n mat-b mat-f xc b =
+    let w = factor-rows (get-elem m mat-b mat-f xc) m (b .storage) in
     let e = w .0 in
     let storage = w .1 in
-    let wit = witnessOf m (posOf e) storage (b .wit) in
+    let wit = witness-of m (position-of e) storage (b .wit) in
     pick (eqb e 0) (Feasible, record { storage = storage; wit = b .wit; grad = b .grad })
-    (Cut (posOf e) (Single (neg (at m storage (e - 1) (e - 1)))), record { storage = storage; wit = wit; grad = lmi-gradient m n (posOf e) wit mat-f })
+    (Cut (position-of e) (Single (neg (at m storage (e - 1) (e - 1)))), record { storage = storage; wit = wit; grad = lmi-gradient m n (position-of e) wit mat-f })
 
 -- the lengths that m and n say
 abbrev pub lmi-fits : ℕ → ℕ → List Float → List Float → List Float → LmiBuffers → Bool
@@ -50,7 +50,7 @@ lmi-fits m n mat-b mat-f xc b =
 
 -- `assess_feas`: refusals 1 (m, then n) and 2
 abbrev pub lmi-tests : ℕ → ℕ → List Float → List Float → List Float → LmiBuffers → Fault
-lmi-tests m n mat-b mat-f xc b = ask (isOrder m) Dimension ⨾ sized n (lmi-fits m n mat-b mat-f xc b)
+lmi-tests m n mat-b mat-f xc b = ask (is-order m) Dimension ⨾ sized n (lmi-fits m n mat-b mat-f xc b)
 
 unfoldable pub lmi-answer : ℕ → ℕ → List Float → List Float → List Float → LmiBuffers → LmiVerdict × LmiBuffers
-lmi-answer m n mat-b mat-f xc b = unless (lmi-tests m n mat-b mat-f xc b) (λ why place. (Refused why, b)) (lmi-assessOf m n mat-b mat-f xc b)
+lmi-answer m n mat-b mat-f xc b = unless (lmi-tests m n mat-b mat-f xc b) (λ why place. (Refused why, b)) (lmi-assess-of m n mat-b mat-f xc b)

@@ -10,17 +10,17 @@ use lib.Ieee.{Float, nan, lt, neg, binary64, ofBits}
 use Rattle.numbers.specs.F64.{0ᶠ}
 use Rattle.numbers.specs.Pick.{pick}
 use Rattle.numbers.specs.Refusal.{_⨾_, unless, ask}
-use Rattle.numbers.specs.Arr.{rowOf, sized}
+use Rattle.numbers.specs.Arr.{row-of, sized}
 use Rattle.numbers.specs.declared.refusal.Refusal.{Refusal}
 use Rattle.numbers.specs.declared.refusal.Refusal.the-variants.{Band, Cursor, NoStopValue}
 use Rattle.numbers.specs.declared.refusal.Fault.{Fault}
 use Rattle.numbers.specs.declared.cut.CutChoice.the-variants.{Single, Parallel}
-use Rattle.oracles.specs.RoundRobin.{isAt, eqZ, moved, new-range-answer}
-use Rattle.oracles.specs.Scan.{−∞, none, isRows, table-fits, scanOf, violated, band-beta, band-gradient}
+use Rattle.oracles.specs.RoundRobin.{is-at, eqZ, moved, new-range-answer}
+use Rattle.oracles.specs.Scan.{−∞, none, is-rows, table-fits, scan-of, violated, band-beta, band-gradient}
 use Rattle.oracles.specs.declared.round_robin.RoundRobin.{RoundRobin}
 use Rattle.oracles.specs.declared.round_robin.CursorAnswer.{CursorAnswer}
-use Rattle.oracles.specs.declared.round_robin.CursorAnswer.the-variants.{At as Fresh, Refused as NoBand}
-use Rattle.oracles.specs.declared.scan.Upper.the-variants.{Absent, At}
+use Rattle.oracles.specs.declared.round_robin.CursorAnswer.the-variants.{Accepted as Fresh, Refused as NoBand}
+use Rattle.oracles.specs.declared.scan.Upper.the-variants.{Absent, Limit}
 use Rattle.oracles.specs.declared.lowpass_oracle.Group.{Group}
 use Rattle.oracles.specs.declared.lowpass_oracle.Group.the-variants.{Pass, Stop, Middle, Sign}
 use Rattle.oracles.specs.declared.lowpass_oracle.Verdict.{Verdict}
@@ -35,17 +35,17 @@ abbrev pub −1ᶠ : Float
 −1ᶠ = ofBits binary64 0xbff0_0000_0000_0000
 
 -- the groups in the order in which they are tried, and whether a cut's value lies above its limit; middle rows and x[0] have only a lower one
-abbrev pub groupNumber : Group → ℕ
-groupNumber (Pass row over) = 0
-groupNumber (Stop row over) = 1
-groupNumber (Middle row) = 2
-groupNumber Sign = 3
+abbrev pub group-number : Group → ℕ
+group-number (Pass row over) = 0
+group-number (Stop row over) = 1
+group-number (Middle row) = 2
+group-number Sign = 3
 
-abbrev pub groupSide : Group → Bool
-groupSide (Pass row over) = over
-groupSide (Stop row over) = over
-groupSide (Middle row) = false
-groupSide Sign = false
+abbrev pub group-side : Group → Bool
+group-side (Pass row over) = over
+group-side (Stop row over) = over
+group-side (Middle row) = false
+group-side Sign = false
 
 -- ---- the start
 
@@ -142,7 +142,7 @@ assess-sign o x grad =
 -- the middle rows; more_alt turns false once they have passed
 unfoldable pub assess-middle : LowpassOracle → ℕ → List Float → List Float → List Float → Assessed × List Float
 assess-middle o n table x grad =
-    let s = scanOf n table x (o .rr2) 0ᶠ Absent in
+    let s = scan-of n table x (o .rr2) 0ᶠ Absent in
     let rr = moved (o .rr2) (s .last) in
     violated (s .viol) (assess-sign (after-middle o (s .last) rr false) x grad)
     (λ row v over. (record { oracle = after-middle o (s .last) rr (o .«more_alt»); verdict = Cut (Middle row) (band-beta v over 0ᶠ Absent) }, band-gradient n table row over))
@@ -150,38 +150,38 @@ assess-middle o n table x grad =
 -- the stop rows; on a violation fmax and kmax are those of no row
 unfoldable pub assess-stop : LowpassOracle → ℕ → List Float → List Float → List Float → Assessed × List Float
 assess-stop o n table x grad =
-    let s = scanOf n table x (o .rr3) 0ᶠ (At (o .«sp_sq»)) in
+    let s = scan-of n table x (o .rr3) 0ᶠ (Limit (o .«sp_sq»)) in
     let rr = moved (o .rr3) (s .last) in
     violated (s .viol) (assess-middle (after-stop o (s .last) rr (s .fmax) (s .kmax)) n table x grad)
-    (λ row v over. (record { oracle = after-stop o (s .last) rr −∞ none; verdict = Cut (Stop row over) (band-beta v over 0ᶠ (At (o .«sp_sq»))) }, band-gradient n table row over))
+    (λ row v over. (record { oracle = after-stop o (s .last) rr −∞ none; verdict = Cut (Stop row over) (band-beta v over 0ᶠ (Limit (o .«sp_sq»))) }, band-gradient n table row over))
 
 -- all of it: pass, stop, middle, sign
-unfoldable pub assessOf : LowpassOracle → ℕ → List Float → List Float → List Float → Assessed × List Float
-assessOf o n table x grad =
-    let s = scanOf n table x (o .rr1) (o .«lp_sq») (At (o .«up_sq»)) in
+unfoldable pub assess-of : LowpassOracle → ℕ → List Float → List Float → List Float → Assessed × List Float
+assess-of o n table x grad =
+    let s = scan-of n table x (o .rr1) (o .«lp_sq») (Limit (o .«up_sq»)) in
     let o′ = after-pass o (s .last) (moved (o .rr1) (s .last)) in
     violated (s .viol) (assess-stop o′ n table x grad)
-    (λ row v over. (record { oracle = o′; verdict = Cut (Pass row over) (band-beta v over (o .«lp_sq») (At (o .«up_sq»))) }, band-gradient n table row over))
+    (λ row v over. (record { oracle = o′; verdict = Cut (Pass row over) (band-beta v over (o .«lp_sq») (Limit (o .«up_sq»))) }, band-gradient n table row over))
 
 -- ---- the public calls
 
 -- a cursor of the band lo .. hi − 1
-abbrev pub isOf : RoundRobin → ℤ → ℤ → Bool
-isOf c lo hi = eqZ (c .lo) lo && eqZ (c .hi) hi
+abbrev pub has-band : RoundRobin → ℤ → ℤ → Bool
+has-band c lo hi = eqZ (c .lo) lo && eqZ (c .hi) hi
 
 -- refusal 3: the row count, the bands, and the cursors' lo and hi, which are their bands'
 abbrev pub bands-fit : LowpassOracle → ℕ → Bool
 bands-fit o rows =
-    isRows rows && leZ (pos 0) (o .nwpass) && leZ (o .nwpass) (o .nwstop) && leZ (o .nwstop) (pos rows)
-    && isOf (o .rr1) (pos 0) (o .nwpass) && isOf (o .rr2) (o .nwpass) (o .nwstop) && isOf (o .rr3) (o .nwstop) (pos rows)
+    is-rows rows && leZ (pos 0) (o .nwpass) && leZ (o .nwpass) (o .nwstop) && leZ (o .nwstop) (pos rows)
+    && has-band (o .rr1) (pos 0) (o .nwpass) && has-band (o .rr2) (o .nwpass) (o .nwstop) && has-band (o .rr3) (o .nwstop) (pos rows)
 
 -- refusal 4
 abbrev pub cursors-fit : LowpassOracle → Bool
-cursors-fit o = isAt (o .rr1) && isAt (o .rr2) && isAt (o .rr3)
+cursors-fit o = is-at (o .rr1) && is-at (o .rr2) && is-at (o .rr3)
 
 -- a refusal gives the oracle as it came
-abbrev pub refusedOf : LowpassOracle → Refusal → Assessed
-refusedOf o why = record { oracle = o; verdict = Refused why }
+abbrev pub refused-of : LowpassOracle → Refusal → Assessed
+refused-of o why = record { oracle = o; verdict = Refused why }
 
 -- refusals 1 to 4 of a call with an oracle, whose lengths are right where `fit` is true
 abbrev pub oracle-tests : LowpassOracle → ℕ → ℕ → Bool → Fault
@@ -192,7 +192,7 @@ abbrev pub assess-tests : LowpassOracle → ℕ → ℕ → List Float → List 
 assess-tests o n rows table x grad = oracle-tests o n rows (table-fits n rows table x && eqb (length grad) n)
 
 unfoldable pub assess-feas-answer : LowpassOracle → ℕ → ℕ → List Float → List Float → List Float → Assessed × List Float
-assess-feas-answer o n rows table x grad = unless (assess-tests o n rows table x grad) (λ why place. (refusedOf o why, grad)) (assessOf o n table x grad)
+assess-feas-answer o n rows table x grad = unless (assess-tests o n rows table x grad) (λ why place. (refused-of o why, grad)) (assess-of o n table x grad)
 
 -- the oracle with the offered sp_sq
 abbrev pub offered : LowpassOracle → Float → LowpassOracle
@@ -214,14 +214,14 @@ offered o gamma = record {
 }
 
 -- a feasible point's answer: the kmax row cuts with (0, fmax) and the caller's number is fmax; refusal 6, and the oracle as it came, where no stop row compares
-unfoldable pub improvedOf : LowpassOracle → Float → LowpassOracle → ℕ → List Float → List Float → AssessedOptim × List Float
-improvedOf o gamma o′ n table grad =
+unfoldable pub improved-of : LowpassOracle → Float → LowpassOracle → ℕ → List Float → List Float → AssessedOptim × List Float
+improved-of o gamma o′ n table grad =
     pick (ltZ (o′ .kmax) (pos 0)) (record { oracle = o; gamma = gamma; verdict = RefusedOptim NoStopValue }, grad)
-    (record { oracle = o′; gamma = o′ .fmax; verdict = Improved (Parallel 0ᶠ (o′ .fmax)) }, rowOf n table (natAbs (o′ .kmax)))
+    (record { oracle = o′; gamma = o′ .fmax; verdict = Improved (Parallel 0ᶠ (o′ .fmax)) }, row-of n table (natAbs (o′ .kmax)))
 
 -- what an assessment of the oracle with the offered number becomes
 abbrev pub optim-of : LowpassOracle → Float → ℕ → List Float → LowpassOracle → Verdict → List Float → AssessedOptim × List Float
-optim-of o gamma n table o′ Feasible grad = improvedOf o gamma o′ n table grad
+optim-of o gamma n table o′ Feasible grad = improved-of o gamma o′ n table grad
 optim-of o gamma n table o′ (Cut group beta) grad = (record { oracle = o′; gamma = gamma; verdict = CutOptim group beta }, grad)
 optim-of o gamma n table o′ (Refused why) grad = (record { oracle = o; gamma = gamma; verdict = RefusedOptim why }, grad)
 

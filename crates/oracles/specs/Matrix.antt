@@ -6,11 +6,11 @@ use lib.Ieee.{Float, nan}
 use Rattle.numbers.specs.Arr.{tab}
 
 -- entry i of a vector, and entry (i, j) of a matrix with rows of n
-abbrev pub entry : List Float → ℕ → Float
-entry v i = getD v i nan
+abbrev pub nth : List Float → ℕ → Float
+nth v i = getD v i nan
 
 abbrev pub at : ℕ → List Float → ℕ → ℕ → Float
-at n mat i j = entry mat (i * n + j)
+at n mat i j = nth mat (i * n + j)
 
 -- the matrix of m rows of n with the entries f i j
 unfoldable pub grid : (ℕ → ℕ → Float) → ℕ → ℕ → List Float

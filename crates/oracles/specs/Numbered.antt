@@ -1,8 +1,8 @@
 -- Document 01's number of each answer of this layer: 0, or the refusal's. Definitions only.
 use Prim.Native.Nat.{ℕ}
-use Rattle.numbers.specs.Refusal.{refusalNumber}
+use Rattle.numbers.specs.Refusal.{refusal-number}
 use Rattle.oracles.specs.declared.round_robin.CursorAnswer.{CursorAnswer}
-use Rattle.oracles.specs.declared.round_robin.CursorAnswer.the-variants.{At, Refused as NoCursor}
+use Rattle.oracles.specs.declared.round_robin.CursorAnswer.the-variants.{Accepted, Refused as NoCursor}
 use Rattle.oracles.specs.declared.scan.ScanAnswer.{ScanAnswer}
 use Rattle.oracles.specs.declared.scan.ScanAnswer.the-variants.{Scanned, Refused as NotScanned}
 use Rattle.oracles.specs.declared.lowpass_oracle.Verdict.{Verdict}
@@ -22,48 +22,48 @@ use Rattle.oracles.specs.declared.ell_stable.NewEllStable.the-variants.{
 
 -- of a cursor that is made or moved
 abbrev pub cursor-number : CursorAnswer → ℕ
-cursor-number (At rr) = 0
-cursor-number (NoCursor why) = refusalNumber why
+cursor-number (Accepted rr) = 0
+cursor-number (NoCursor why) = refusal-number why
 
 -- of `scan_band`
 abbrev pub scan-number : ScanAnswer → ℕ
 scan-number (Scanned s) = 0
-scan-number (NotScanned why) = refusalNumber why
+scan-number (NotScanned why) = refusal-number why
 
 -- of `assess_feas`
 abbrev pub verdict-number : Verdict → ℕ
 verdict-number Feasible = 0
 verdict-number (Cut group beta) = 0
-verdict-number (NotAssessed why) = refusalNumber why
+verdict-number (NotAssessed why) = refusal-number why
 
 -- of `assess_optim`
 abbrev pub optim-verdict-number : OptimVerdict → ℕ
 optim-verdict-number (Improved beta) = 0
 optim-verdict-number (CutOptim group beta) = 0
-optim-verdict-number (NotOptim why) = refusalNumber why
+optim-verdict-number (NotOptim why) = refusal-number why
 
 -- of `factor`
 abbrev pub factored-number : Factored → ℕ
 factored-number Definite = 0
 factored-number (Stopped p) = 0
-factored-number (NotFactored why) = refusalNumber why
+factored-number (NotFactored why) = refusal-number why
 
 -- of the LMI oracle
 abbrev pub lmi-number : LmiVerdict → ℕ
 lmi-number FeasibleLmi = 0
 lmi-number (CutLmi p beta) = 0
-lmi-number (NotLmi why) = refusalNumber why
+lmi-number (NotLmi why) = refusal-number why
 
 -- of an update of either ellipsoid
 abbrev pub update-number : Update → ℕ
 update-number (Status status) = 0
-update-number (NotUpdated why) = refusalNumber why
+update-number (NotUpdated why) = refusal-number why
 
 -- of an ellipsoid that is made
 abbrev pub new-ell-number : NewEll → ℕ
 new-ell-number (Made e) = 0
-new-ell-number (NotMade why) = refusalNumber why
+new-ell-number (NotMade why) = refusal-number why
 
 abbrev pub new-ell-stable-number : NewEllStable → ℕ
 new-ell-stable-number (MadeStable e) = 0
-new-ell-stable-number (NotMadeStable why) = refusalNumber why
+new-ell-stable-number (NotMadeStable why) = refusal-number why

@@ -9,15 +9,15 @@ use Rattle.numbers.specs.declared.refusal.Refusal.the-variants.{Band, Cursor}
 use Rattle.numbers.specs.declared.refusal.Fault.{Fault}
 use Rattle.oracles.specs.declared.round_robin.RoundRobin.{RoundRobin}
 use Rattle.oracles.specs.declared.round_robin.CursorAnswer.{CursorAnswer}
-use Rattle.oracles.specs.declared.round_robin.CursorAnswer.the-variants.{At, Refused}
+use Rattle.oracles.specs.declared.round_robin.CursorAnswer.the-variants.{Accepted, Refused}
 
 -- a band: 0 ≤ lo ≤ hi ≤ 1,024
-abbrev pub isBand : ℤ → ℤ → Bool
-isBand lo hi = leZ (pos 0) lo && leZ lo hi && leZ hi (pos 1024)
+abbrev pub is-band : ℤ → ℤ → Bool
+is-band lo hi = leZ (pos 0) lo && leZ lo hi && leZ hi (pos 1024)
 
 -- cur stands in its band, or just before it: lo − 1 ≤ cur ≤ hi − 1
-abbrev pub isAt : RoundRobin → Bool
-isAt c = ltZ (c .cur) (c .hi) && leZ (c .lo) (c .cur +ℤ pos 1)
+abbrev pub is-at : RoundRobin → Bool
+is-at c = ltZ (c .cur) (c .hi) && leZ (c .lo) (c .cur +ℤ pos 1)
 
 -- whether two numbers are equal
 abbrev pub eqZ : ℤ → ℤ → Bool
@@ -40,14 +40,14 @@ fresh lo hi = record { cur = lo -ℤ pos 1; lo = lo; hi = hi }
 
 -- `new_range`: refusal 3 unless lo and hi are a band
 abbrev pub new-range-tests : ℤ → ℤ → Fault
-new-range-tests lo hi = ask (isBand lo hi) Band
+new-range-tests lo hi = ask (is-band lo hi) Band
 
 unfoldable pub new-range-answer : ℤ → ℤ → CursorAnswer
-new-range-answer lo hi = unless (new-range-tests lo hi) (λ why place. Refused why) (At (fresh lo hi))
+new-range-answer lo hi = unless (new-range-tests lo hi) (λ why place. Refused why) (Accepted (fresh lo hi))
 
 -- `advance`: refusal 3 also for an empty band, then 4
 abbrev pub advance-tests : RoundRobin → Fault
-advance-tests c = ask (isBand (c .lo) (c .hi) && ltZ (c .lo) (c .hi)) Band ⨾ ask (isAt c) Cursor
+advance-tests c = ask (is-band (c .lo) (c .hi) && ltZ (c .lo) (c .hi)) Band ⨾ ask (is-at c) Cursor
 
 unfoldable pub advance-answer : RoundRobin → CursorAnswer
-advance-answer c = unless (advance-tests c) (λ why place. Refused why) (At (advanced c))
+advance-answer c = unless (advance-tests c) (λ why place. Refused why) (Accepted (advanced c))

@@ -10,15 +10,15 @@ use lib.Ieee.{Float, inf, lt, neg}
 use Rattle.numbers.specs.F64.{_⊖_}
 use Rattle.numbers.specs.Pick.{pick}
 use Rattle.numbers.specs.Refusal.{_⨾_, unless, ask}
-use Rattle.numbers.specs.Arr.{sized, dotOf, rowOf}
+use Rattle.numbers.specs.Arr.{sized, dot-of, row-of}
 use Rattle.numbers.specs.declared.refusal.Refusal.the-variants.{Band, Cursor}
 use Rattle.numbers.specs.declared.refusal.Fault.{Fault}
 use Rattle.numbers.specs.declared.cut.CutChoice.{CutChoice}
 use Rattle.numbers.specs.declared.cut.CutChoice.the-variants.{Single, Parallel}
-use Rattle.oracles.specs.RoundRobin.{isBand, isAt, moved, advanced}
+use Rattle.oracles.specs.RoundRobin.{is-band, is-at, moved, advanced}
 use Rattle.oracles.specs.declared.round_robin.RoundRobin.{RoundRobin}
 use Rattle.oracles.specs.declared.scan.Upper.{Upper}
-use Rattle.oracles.specs.declared.scan.Upper.the-variants.{Absent, At}
+use Rattle.oracles.specs.declared.scan.Upper.the-variants.{Absent, Limit}
 use Rattle.oracles.specs.declared.scan.Violation.{Violation}
 use Rattle.oracles.specs.declared.scan.Violation.the-variants.{Nothing, Broken}
 use Rattle.oracles.specs.declared.scan.Scan.{Scan}
@@ -35,32 +35,32 @@ none = negsuc 0
 -- ---- a scan
 
 -- row i's value: its `dot` with the point
-unfoldable pub valueOf : ℕ → List Float → List Float → ℕ → Float
-valueOf n table x i = dotOf (rowOf n table i) x
+unfoldable pub value-of : ℕ → List Float → List Float → ℕ → Float
+value-of n table x i = dot-of (row-of n table i) x
 
 -- whether v lies above an upper limit, if there is one
-abbrev pub isOver : Upper → Float → Bool
-isOver Absent v = false
-isOver (At u) v = lt u v
+abbrev pub is-over : Upper → Float → Bool
+is-over Absent v = false
+is-over (Limit u) v = lt u v
 
 -- the rows that are left, from a cursor, with the largest value so far and its row
-unfoldable pub scanFrom : ℕ → List Float → List Float → Float → Upper → ℕ → RoundRobin → Float → ℤ → Scan
-scanFrom n table x lower upper zero c fmax kmax = record { viol = Nothing; fmax = fmax; kmax = kmax; last = c .cur }
-scanFrom n table x lower upper (suc left) c fmax kmax =
+unfoldable pub scan-from : ℕ → List Float → List Float → Float → Upper → ℕ → RoundRobin → Float → ℤ → Scan
+scan-from n table x lower upper zero c fmax kmax = record { viol = Nothing; fmax = fmax; kmax = kmax; last = c .cur }
+scan-from n table x lower upper (suc left) c fmax kmax =
     let d = advanced c in
     let i = natAbs (d .cur) in
-    let v = valueOf n table x i in
-    pick (isOver upper v) (record { viol = Broken i v true; fmax = fmax; kmax = kmax; last = d .cur })
+    let v = value-of n table x i in
+    pick (is-over upper v) (record { viol = Broken i v true; fmax = fmax; kmax = kmax; last = d .cur })
     (pick (lt v lower) (record { viol = Broken i v false; fmax = fmax; kmax = kmax; last = d .cur })
-    (scanFrom n table x lower upper left d (pick (lt fmax v) v fmax) (pick (lt fmax v) (d .cur) kmax)))
+    (scan-from n table x lower upper left d (pick (lt fmax v) v fmax) (pick (lt fmax v) (d .cur) kmax)))
 
 -- one advance for each row of the cursor's band at most
-unfoldable pub scanOf : ℕ → List Float → List Float → RoundRobin → Float → Upper → Scan
-scanOf n table x c lower upper = scanFrom n table x lower upper (natAbs (c .hi -ℤ c .lo)) c −∞ none
+unfoldable pub scan-of : ℕ → List Float → List Float → RoundRobin → Float → Upper → Scan
+scan-of n table x c lower upper = scan-from n table x lower upper (natAbs (c .hi -ℤ c .lo)) c −∞ none
 
 -- a table has 1 to 1,024 rows
-abbrev pub isRows : ℕ → Bool
-isRows rows = leb 1 rows && leb rows 1024
+abbrev pub is-rows : ℕ → Bool
+is-rows rows = leb 1 rows && leb rows 1024
 
 -- the lengths that n and the row count say
 abbrev pub table-fits : ℕ → ℕ → List Float → List Float → Bool
@@ -68,15 +68,15 @@ table-fits n rows table x = eqb (length table) (rows * n) && eqb (length x) n
 
 -- lo and hi are a band of a table of so many rows
 abbrev pub band-fits : ℕ → ℤ → ℤ → Bool
-band-fits rows lo hi = isRows rows && (isBand lo hi && leZ hi (pos rows))
+band-fits rows lo hi = is-rows rows && (is-band lo hi && leZ hi (pos rows))
 
 -- `scan_band`: refusals 1, 2, 3 (row count, band, band within the rows) and 4; the answer, and the cursor as it is left
 abbrev pub scan-band-tests : ℕ → ℕ → List Float → List Float → RoundRobin → Fault
-scan-band-tests n rows table x c = sized n (table-fits n rows table x) ⨾ ask (band-fits rows (c .lo) (c .hi)) Band ⨾ ask (isAt c) Cursor
+scan-band-tests n rows table x c = sized n (table-fits n rows table x) ⨾ ask (band-fits rows (c .lo) (c .hi)) Band ⨾ ask (is-at c) Cursor
 
 unfoldable pub scan-band-answer : ℕ → ℕ → List Float → List Float → RoundRobin → Float → Upper → ScanAnswer × RoundRobin
 scan-band-answer n rows table x c lower upper =
-    let s = scanOf n table x c lower upper in
+    let s = scan-of n table x c lower upper in
     unless (scan-band-tests n rows table x c) (λ why place. (NotScanned why, c)) (Scanned s, moved c (s .last))
 
 -- ---- what a violation becomes
@@ -89,8 +89,8 @@ violated (Broken row value over) kept broken = broken row value over
 -- the betas of `band_cut`
 abbrev pub band-beta : Float → Bool → Float → Upper → CutChoice
 band-beta v over lower Absent = Single (lower ⊖ v)
-band-beta v over lower (At u) = pick over (Parallel (v ⊖ u) (v ⊖ lower)) (Parallel (lower ⊖ v) (u ⊖ v))
+band-beta v over lower (Limit u) = pick over (Parallel (v ⊖ u) (v ⊖ lower)) (Parallel (lower ⊖ v) (u ⊖ v))
 
 -- its gradient: the row above an upper limit, the negated row below a lower one
 unfoldable pub band-gradient : ℕ → List Float → ℕ → Bool → List Float
-band-gradient n table row over = pick over (rowOf n table row) (map neg (rowOf n table row))
+band-gradient n table row over = pick over (row-of n table row) (map neg (row-of n table row))

@@ -10,9 +10,9 @@ use lib.IntN.{ℤ, pos, natAbs}
 use lib.Ieee.{Float, nan, lt, isNan}
 use Rattle.numbers.specs.F64.{0ᶠ}
 use Rattle.numbers.specs.Pick.{pick, some}
-use Rattle.numbers.specs.Refusal.{refusalNumber, is-fault}
+use Rattle.numbers.specs.Refusal.{refusal-number, is-fault}
 use Rattle.oracles.specs.RoundRobin.{eqZ}
-use Rattle.oracles.specs.Scan.{−∞, none, valueOf}
+use Rattle.oracles.specs.Scan.{−∞, none, value-of}
 use Rattle.oracles.specs.LowpassOracle.{assess-tests, offered}
 use Rattle.oracles.specs.declared.lowpass_oracle.LowpassOracle.{LowpassOracle}
 use Rattle.oracles.specs.declared.lowpass_oracle.Group.the-variants.{Pass, Stop, Middle, Sign}
@@ -60,20 +60,20 @@ abbrev pub stop-start : Question → ℕ
 stop-start q = natAbs (q .limits .nwstop)
 
 -- a row's value is its `dot` with the point
-abbrev pub valueIn : Question → ℕ → Float
-valueIn q i = valueOf (q .n) (q .table) (q .x) i
+abbrev pub value-in : Question → ℕ → Float
+value-in q i = value-of (q .n) (q .table) (q .x) i
 
 -- a pass row breaks its group above up_sq or below lp_sq; a test on NaN is false
 abbrev pub pass-breaks : Question → ℕ → Bool
-pass-breaks q i = lt (q .limits .up-sq) (valueIn q i) || lt (valueIn q i) (q .limits .lp-sq)
+pass-breaks q i = lt (q .limits .up-sq) (value-in q i) || lt (value-in q i) (q .limits .lp-sq)
 
 -- a stop row above sp_sq or below zero
 abbrev pub stop-breaks : Question → ℕ → Bool
-stop-breaks q i = lt (q .limits .sp-sq) (valueIn q i) || lt (valueIn q i) 0ᶠ
+stop-breaks q i = lt (q .limits .sp-sq) (value-in q i) || lt (value-in q i) 0ᶠ
 
 -- a middle row below zero
 abbrev pub middle-breaks : Question → ℕ → Bool
-middle-breaks q i = lt (valueIn q i) 0ᶠ
+middle-breaks q i = lt (value-in q i) 0ᶠ
 
 -- the point's first number below zero
 abbrev pub sign-breaks : Question → Bool
@@ -96,7 +96,7 @@ pub record Unbroken (q : Question) : Type 0 where
 
 -- no stop value compares: the stop band is empty or all its values are NaN
 unfoldable pub no-stop-value : Question → Bool
-no-stop-value q = not (some (λ i. not (isNan (valueIn q i))) (stop-start q) (q .rows - stop-start q))
+no-stop-value q = not (some (λ i. not (isNan (value-in q i))) (stop-start q) (q .rows - stop-start q))
 
 -- ---- what an assessment says
 
@@ -124,9 +124,9 @@ side-breaks over upper lower v = pick over (lt upper v) (lt v lower)
 -- whether a cut's row is one of its group's and breaks it on the side that is reported
 abbrev pub cut-breaks : Question → Verdict → Bool
 cut-breaks q Feasible = true
-cut-breaks q (Cut (Pass row over) beta) = ltb row (pass-end q) && side-breaks over (q .limits .up-sq) (q .limits .lp-sq) (valueIn q row)
-cut-breaks q (Cut (Stop row over) beta) = leb (stop-start q) row && ltb row (q .rows) && side-breaks over (q .limits .sp-sq) 0ᶠ (valueIn q row)
-cut-breaks q (Cut (Middle row) beta) = leb (pass-end q) row && ltb row (stop-start q) && lt (valueIn q row) 0ᶠ
+cut-breaks q (Cut (Pass row over) beta) = ltb row (pass-end q) && side-breaks over (q .limits .up-sq) (q .limits .lp-sq) (value-in q row)
+cut-breaks q (Cut (Stop row over) beta) = leb (stop-start q) row && ltb row (q .rows) && side-breaks over (q .limits .sp-sq) 0ᶠ (value-in q row)
+cut-breaks q (Cut (Middle row) beta) = leb (pass-end q) row && ltb row (stop-start q) && lt (value-in q row) 0ᶠ
 cut-breaks q (Cut Sign beta) = sign-breaks q
 cut-breaks q (Refused why) = true
 
@@ -145,9 +145,9 @@ pub record Has (q : Question) (fmax : Float) (kmax : ℤ) : Type 0 where
   pub row-is : kmax ≡ pos row
   pub low : stop-start q ≤ row
   pub high : row < q .rows
-  pub value-is : valueIn q row ≡ fmax
+  pub value-is : value-in q row ≡ fmax
   pub compares : isNan fmax ≡ false
-  pub largest : (i : ℕ) → stop-start q ≤ i → i < q .rows → lt fmax (valueIn q i) ≡ false
+  pub largest : (i : ℕ) → stop-start q ≤ i → i < q .rows → lt fmax (value-in q i) ≡ false
 
 -- no stop value compares: minus infinity and −1
 pub record HasNone (q : Question) (fmax : Float) (kmax : ℤ) : Type 0 where
@@ -170,13 +170,13 @@ pub record FeasRule (q : Question) (r : Assessed) : Type 0 where
 abbrev pub as-feas : OptimVerdict → Verdict
 as-feas (Improved beta) = Feasible
 as-feas (CutOptim group beta) = Cut group beta
-as-feas (RefusedOptim why) = pick (eqb (refusalNumber why) 6) Feasible (Refused why)
+as-feas (RefusedOptim why) = pick (eqb (refusal-number why) 6) Feasible (Refused why)
 
 -- whether it is refusal 6
 abbrev pub is-six : OptimVerdict → Bool
 is-six (Improved beta) = false
 is-six (CutOptim group beta) = false
-is-six (RefusedOptim why) = eqb (refusalNumber why) 6
+is-six (RefusedOptim why) = eqb (refusal-number why) 6
 
 -- whether a judgement is feasible
 abbrev pub is-feasible : Judgement → Bool

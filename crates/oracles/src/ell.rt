@@ -19,9 +19,9 @@ ghost use mathlib.Core.Path.{_≡_};
 ghost use mathlib.Core.Bool.{true};
 ghost use Prim.Native.Nat.{_*_, _≤_, _<_};
 ghost use lib.ListN.{length};
-ghost use Rattle.numbers.specs.Arr.{isDimension};
-ghost use Rattle.oracles.specs.Ell.{new-ell-answer, rank-one, with-tsq, updated, ell-said, ell-updateOf, ell-update-answer};
-ghost use Rattle.oracles.specs.EllCommon.{answerOf};
+ghost use Rattle.numbers.specs.Arr.{is-dimension};
+ghost use Rattle.oracles.specs.Ell.{new-ell-answer, rank-one, with-tsq, updated, ell-said, ell-update-of, ell-update-answer};
+ghost use Rattle.oracles.specs.EllCommon.{outcome-answer};
 ghost use Rattle.oracles.specs.laws.Ell.{row-lowered, all-lowered, row-mirrored, mirrored};
 
 // What is kept beside the matrix mq and the centre xc.
@@ -148,7 +148,7 @@ impl Ell {
 
     // Nothing changed, and why a call is refused.
     fn refused(self, outcome: Outcome) -> Moved
-        ensures { λ r. ⌜ updated self r ≡ record { ell = self; answer = answerOf outcome } ⌝ }
+        ensures { λ r. ⌜ updated self r ≡ record { ell = self; answer = outcome-answer outcome } ⌝ }
     {
         Moved {
             kappa: self.kappa,
@@ -167,8 +167,8 @@ impl Ell {
         xc: &mut [f64],
         grad_t: &mut [f64],
     ) -> Moved
-        requires { ⌜ (isDimension (self .ndim) ≡ true) × (length (now grad) ≡ self .ndim) × (length (now mq) ≡ self .ndim * self .ndim) × (length (now xc) ≡ self .ndim) × (length (now «grad_t») ≡ self .ndim) ⌝ }
-        ensures { λ r. ⌜ (updated self r, record { mq = now (mq .exit); xc = now (xc .exit); grad-t = now («grad_t» .exit) }) ≡ ell-updateOf self strategy (now (grad .entry)) beta (record { mq = now (mq .entry); xc = now (xc .entry); grad-t = now («grad_t» .entry) }) ⌝ }
+        requires { ⌜ (is-dimension (self .ndim) ≡ true) × (length (now grad) ≡ self .ndim) × (length (now mq) ≡ self .ndim * self .ndim) × (length (now xc) ≡ self .ndim) × (length (now «grad_t») ≡ self .ndim) ⌝ }
+        ensures { λ r. ⌜ (updated self r, record { mq = now (mq .exit); xc = now (xc .exit); grad-t = now («grad_t» .exit) }) ≡ ell-update-of self strategy (now (grad .entry)) beta (record { mq = now (mq .entry); xc = now (xc .entry); grad-t = now («grad_t» .entry) }) ⌝ }
     {
         let n = self.ndim;
         dot_mv_into(n, mq, grad, grad_t);

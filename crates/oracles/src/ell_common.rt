@@ -1,5 +1,5 @@
 // What both ellipsoids share: the choice of a calculator, the answer of an update, and the move of the centre.
-use numbers::cut::Answer;
+use numbers::cut::CutAnswer;
 use numbers::cut::CutChoice;
 use numbers::cut::CutStatus;
 use numbers::ell_calc::EllCalc;
@@ -10,7 +10,7 @@ ghost use Prim.Native.Nat.{_*_, _≤_};
 ghost use lib.Dec.{eqb};
 ghost use lib.ListN.{length};
 ghost use Rattle.oracles.specs.declared.ell_common.Update.the-variants.{Status};
-ghost use Rattle.oracles.specs.EllCommon.{calcOf, answerOf, is-tiny, is-success, centreOf};
+ghost use Rattle.oracles.specs.EllCommon.{calc-of, outcome-answer, is-tiny, is-success, centre-of};
 
 // Which calculator of `EllCalc` an update uses.
 pub enum CutStrategy {
@@ -36,7 +36,7 @@ pub enum Outcome {
 
 impl Outcome {
     pub fn answer(self) -> Update
-        ensures { λ r. ⌜ r ≡ answerOf self ⌝ }
+        ensures { λ r. ⌜ r ≡ outcome-answer self ⌝ }
     {
         match self {
             Outcome::Success => Update::Status(CutStatus::Success),
@@ -49,7 +49,7 @@ impl Outcome {
 }
 
 pub(crate) fn outcome_of(status: CutStatus) -> Outcome
-    ensures { λ r. ⌜ answerOf r ≡ Status status ⌝ }
+    ensures { λ r. ⌜ outcome-answer r ≡ Status status ⌝ }
 {
     match status {
         CutStatus::Success => Outcome::Success,
@@ -89,8 +89,8 @@ pub(crate) fn lengths_fit(n: usize, grad: usize, mq: usize, xc: usize) -> bool
 
 impl CutStrategy {
     // The calculator's answer.
-    pub fn calc(self, helper: EllCalc, beta: CutChoice, tsq: f64) -> Answer
-        ensures { λ r. ⌜ r ≡ calcOf self helper beta tsq ⌝ }
+    pub fn calc(self, helper: EllCalc, beta: CutChoice, tsq: f64) -> CutAnswer
+        ensures { λ r. ⌜ r ≡ calc-of self helper beta tsq ⌝ }
     {
         match self {
             CutStrategy::BiasCut => helper.calc_single_or_parallel_bias_cut(beta, tsq),
@@ -103,7 +103,7 @@ impl CutStrategy {
 // xc − step × dir, entry by entry.
 pub(crate) fn move_centre(xc: &mut [f64], step: f64, dir: &[f64])
     requires { ⌜ length (now xc) ≡ length (now dir) ⌝ }
-    ensures { λ _. ⌜ now (xc .exit) ≡ centreOf (now (xc .entry)) step (now (dir .entry)) ⌝ }
+    ensures { λ _. ⌜ now (xc .exit) ≡ centre-of (now (xc .entry)) step (now (dir .entry)) ⌝ }
 {
     let mut i = 0;
     while i < dir.len() {

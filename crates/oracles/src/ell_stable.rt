@@ -19,12 +19,12 @@ ghost use mathlib.Core.List.{_++_};
 ghost use Prim.Native.Nat.{_+_, _*_, _-_, _≤_, _<_};
 ghost use lib.Dec.{eqb};
 ghost use lib.ListN.{length, drop};
-ghost use Rattle.numbers.specs.Arr.{isDimension, tab};
+ghost use Rattle.numbers.specs.Arr.{is-dimension, tab};
 ghost use Rattle.numbers.specs.F64.{_⊕_, _⊖_, _⊗_, _⊘_, 0ᶠ};
 ghost use Rattle.oracles.specs.declared.ell_common.Update.the-variants.{Refused};
-ghost use Rattle.oracles.specs.Matrix.{entry, at, total};
-ghost use Rattle.oracles.specs.EllCommon.{centreOf};
-ghost use Rattle.oracles.specs.EllStable.{new-ell-stable-answer, inv-ml-gOf, inv-md-inv-ml-gOf, gg-tOf, omegaOf, lowered, backward, t-start, with-tsq, stable-said, stable-updateOf, stable-update-answer};
+ghost use Rattle.oracles.specs.Matrix.{nth, at, total};
+ghost use Rattle.oracles.specs.EllCommon.{centre-of};
+ghost use Rattle.oracles.specs.EllStable.{new-ell-stable-answer, inv-ml-g-of, inv-md-inv-ml-g-of, gg-t-of, omega-of, lowered, backward, t-start, with-tsq, stable-said, stable-update-of, stable-update-answer};
 ghost use Rattle.oracles.specs.laws.EllStable.{solved-back, column-taken, row-updated, less-columns, factors-after};
 
 // What is kept beside the factors mq and the centre xc.
@@ -64,7 +64,7 @@ fn column_into(n: usize, mq: &[f64], i: usize, column: &mut [f64])
 // A row of the lower triangle, lent to be written: the products of L's row and w, which are taken from `start` in turn.
 fn forward_row(row: &mut [f64], column: &[f64], w: &[f64], start: f64) -> f64
     requires { ⌜ (length (now row) ≤ length (now column)) × (length (now row) ≤ length (now w)) ⌝ }
-    ensures { λ r. ⌜ (r ≡ total _⊖_ start (λ j. entry (now (column .entry)) j ⊗ entry (now (w .entry)) j) (length (now (row .entry)))) × (now (row .exit) ≡ tab (λ j. entry (now (column .entry)) j ⊗ entry (now (w .entry)) j) (length (now (row .entry)))) ⌝ }
+    ensures { λ r. ⌜ (r ≡ total _⊖_ start (λ j. nth (now (column .entry)) j ⊗ nth (now (w .entry)) j) (length (now (row .entry)))) × (now (row .exit) ≡ tab (λ j. nth (now (column .entry)) j ⊗ nth (now (w .entry)) j) (length (now (row .entry)))) ⌝ }
 {
     let mut s = start;
     let mut j = 0;
@@ -80,7 +80,7 @@ fn forward_row(row: &mut [f64], column: &[f64], w: &[f64], start: f64) -> f64
 // inv(L) g in place of g. `column` is scratch: a row and its column cannot be lent at once.
 fn forward(n: usize, mq: &mut [f64], w: &mut [f64], column: &mut [f64])
     requires { ⌜ (n ≤ 32) × (length (now mq) ≡ n * n) × (length (now w) ≡ n) × (length (now column) ≡ n) ⌝ }
-    ensures { λ _. ⌜ (now (mq .exit) ≡ lowered n (now (mq .entry)) (now (w .entry))) × (now (w .exit) ≡ tab (inv-ml-gOf n (now (mq .entry)) (now (w .entry))) n) ⌝ }
+    ensures { λ _. ⌜ (now (mq .exit) ≡ lowered n (now (mq .entry)) (now (w .entry))) × (now (w .exit) ≡ tab (inv-ml-g-of n (now (mq .entry)) (now (w .entry))) n) ⌝ }
 {
     let mut i = 1;
     while i < n {
@@ -97,7 +97,7 @@ fn forward(n: usize, mq: &mut [f64], w: &mut [f64], column: &mut [f64])
 // Each entry of w times the diagonal's.
 fn scale_into(n: usize, mq: &[f64], w: &[f64], z: &mut [f64])
     requires { ⌜ (n ≤ 32) × (length (now mq) ≡ n * n) × (length (now w) ≡ n) × (length (now z) ≡ n) ⌝ }
-    ensures { λ _. ⌜ now (z .exit) ≡ tab (λ i. entry (now (w .entry)) i ⊗ at n (now (mq .entry)) i i) n ⌝ }
+    ensures { λ _. ⌜ now (z .exit) ≡ tab (λ i. nth (now (w .entry)) i ⊗ at n (now (mq .entry)) i i) n ⌝ }
 {
     let mut i = 0;
     while i < n {
@@ -109,7 +109,7 @@ fn scale_into(n: usize, mq: &[f64], w: &[f64], z: &mut [f64])
 // The products of z and w, and their sum.
 fn omega_into(w: &[f64], z: &[f64], gg: &mut [f64]) -> f64
     requires { ⌜ (length (now w) ≡ length (now gg)) × (length (now z) ≡ length (now gg)) ⌝ }
-    ensures { λ r. ⌜ (r ≡ total _⊕_ 0ᶠ (λ i. entry (now (z .entry)) i ⊗ entry (now (w .entry)) i) (length (now (gg .entry)))) × (now (gg .exit) ≡ tab (λ i. entry (now (z .entry)) i ⊗ entry (now (w .entry)) i) (length (now (gg .entry)))) ⌝ }
+    ensures { λ r. ⌜ (r ≡ total _⊕_ 0ᶠ (λ i. nth (now (z .entry)) i ⊗ nth (now (w .entry)) i) (length (now (gg .entry)))) × (now (gg .exit) ≡ tab (λ i. nth (now (z .entry)) i ⊗ nth (now (w .entry)) i) (length (now (gg .entry)))) ⌝ }
 {
     let mut omega = 0.0;
     let mut i = 0;
@@ -198,8 +198,8 @@ fn prepare(
     inv_md_inv_ml_g: &mut [f64],
     gg_t: &mut [f64],
 ) -> f64
-    requires { ⌜ (isDimension n ≡ true) × (length (now grad) ≡ n) × (length (now mq) ≡ n * n) × (length (now «inv_ml_g») ≡ n) × (length (now «inv_md_inv_ml_g») ≡ n) × (length (now «gg_t») ≡ n) ⌝ }
-    ensures { λ r. ⌜ (r ≡ omegaOf n (now (mq .entry)) (now (grad .entry))) × (now (mq .exit) ≡ lowered n (now (mq .entry)) (now (grad .entry))) × (now («inv_ml_g» .exit) ≡ tab (inv-ml-gOf n (now (mq .entry)) (now (grad .entry))) n) × (now («inv_md_inv_ml_g» .exit) ≡ tab (inv-md-inv-ml-gOf n (now (mq .entry)) (now (grad .entry))) n) × (now («gg_t» .exit) ≡ tab (gg-tOf n (now (mq .entry)) (now (grad .entry))) n) ⌝ }
+    requires { ⌜ (is-dimension n ≡ true) × (length (now grad) ≡ n) × (length (now mq) ≡ n * n) × (length (now «inv_ml_g») ≡ n) × (length (now «inv_md_inv_ml_g») ≡ n) × (length (now «gg_t») ≡ n) ⌝ }
+    ensures { λ r. ⌜ (r ≡ omega-of n (now (mq .entry)) (now (grad .entry))) × (now (mq .exit) ≡ lowered n (now (mq .entry)) (now (grad .entry))) × (now («inv_ml_g» .exit) ≡ tab (inv-ml-g-of n (now (mq .entry)) (now (grad .entry))) n) × (now («inv_md_inv_ml_g» .exit) ≡ tab (inv-md-inv-ml-g-of n (now (mq .entry)) (now (grad .entry))) n) × (now («gg_t» .exit) ≡ tab (gg-t-of n (now (mq .entry)) (now (grad .entry))) n) ⌝ }
 {
     copy_from(n, inv_ml_g, grad);
     forward(n, mq, inv_ml_g, gg_t);
@@ -218,8 +218,8 @@ fn succeed(
     omega: f64,
     params: Params,
 )
-    requires { ⌜ (isDimension n ≡ true) × (length (now grad) ≡ n) × (length (now mq) ≡ n * n) × (length (now xc) ≡ n) × (length (now z) ≡ n) × (length (now «g_t») ≡ n) ⌝ }
-    ensures { λ _. ⌜ (now (xc .exit) ≡ centreOf (now (xc .entry)) (params .rho ⊘ omega) (backward n (now (mq .entry)) (now (z .entry)) n)) × (now (mq .exit) ≡ factors-after n (now (mq .entry)) (now (z .entry)) (now (grad .entry)) (t-start omega (params .sigma))) × (now («g_t» .exit) ≡ tab (λ l. less-columns n (now (mq .entry)) (now (grad .entry)) l l) n) ⌝ }
+    requires { ⌜ (is-dimension n ≡ true) × (length (now grad) ≡ n) × (length (now mq) ≡ n * n) × (length (now xc) ≡ n) × (length (now z) ≡ n) × (length (now «g_t») ≡ n) ⌝ }
+    ensures { λ _. ⌜ (now (xc .exit) ≡ centre-of (now (xc .entry)) (params .rho ⊘ omega) (backward n (now (mq .entry)) (now (z .entry)) n)) × (now (mq .exit) ≡ factors-after n (now (mq .entry)) (now (z .entry)) (now (grad .entry)) (t-start omega (params .sigma))) × (now («g_t» .exit) ≡ tab (λ l. less-columns n (now (mq .entry)) (now (grad .entry)) l l) n) ⌝ }
 {
     copy_from(n, g_t, z);
     backward(n, mq, g_t);
@@ -297,8 +297,8 @@ impl EllStable {
         gg_t: &mut [f64],
         g_t: &mut [f64],
     ) -> EllStableUpdate
-        requires { ⌜ (isDimension (self .ndim) ≡ true) × (length (now grad) ≡ self .ndim) × (length (now mq) ≡ self .ndim * self .ndim) × (length (now xc) ≡ self .ndim) × (length (now «inv_ml_g») ≡ self .ndim) × (length (now «inv_md_inv_ml_g») ≡ self .ndim) × (length (now «gg_t») ≡ self .ndim) × (length (now «g_t») ≡ self .ndim) ⌝ }
-        ensures { λ r. ⌜ (r, record { mq = now (mq .exit); xc = now (xc .exit); inv-ml-g = now («inv_ml_g» .exit); inv-md-inv-ml-g = now («inv_md_inv_ml_g» .exit); gg-t = now («gg_t» .exit); g-t = now («g_t» .exit) }) ≡ stable-updateOf self strategy (now (grad .entry)) beta (record { mq = now (mq .entry); xc = now (xc .entry); inv-ml-g = now («inv_ml_g» .entry); inv-md-inv-ml-g = now («inv_md_inv_ml_g» .entry); gg-t = now («gg_t» .entry); g-t = now («g_t» .entry) }) ⌝ }
+        requires { ⌜ (is-dimension (self .ndim) ≡ true) × (length (now grad) ≡ self .ndim) × (length (now mq) ≡ self .ndim * self .ndim) × (length (now xc) ≡ self .ndim) × (length (now «inv_ml_g») ≡ self .ndim) × (length (now «inv_md_inv_ml_g») ≡ self .ndim) × (length (now «gg_t») ≡ self .ndim) × (length (now «g_t») ≡ self .ndim) ⌝ }
+        ensures { λ r. ⌜ (r, record { mq = now (mq .exit); xc = now (xc .exit); inv-ml-g = now («inv_ml_g» .exit); inv-md-inv-ml-g = now («inv_md_inv_ml_g» .exit); gg-t = now («gg_t» .exit); g-t = now («g_t» .exit) }) ≡ stable-update-of self strategy (now (grad .entry)) beta (record { mq = now (mq .entry); xc = now (xc .entry); inv-ml-g = now («inv_ml_g» .entry); inv-md-inv-ml-g = now («inv_md_inv_ml_g» .entry); gg-t = now («gg_t» .entry); g-t = now («g_t» .entry) }) ⌝ }
     {
         let n = self.ndim;
         let omega = prepare(n, grad, mq, inv_ml_g, inv_md_inv_ml_g, gg_t);

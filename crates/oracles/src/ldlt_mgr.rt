@@ -5,8 +5,8 @@ ghost use mathlib.Core.Path.{_≡_};
 ghost use Prim.Native.Nat.{suc, _+_, _-_, _*_, _≤_, _<_};
 ghost use lib.ListN.{length};
 ghost use Rattle.numbers.specs.F64.{_⊕_, _⊗_, 0ᶠ};
-ghost use Rattle.oracles.specs.Matrix.{entry, at, total};
-ghost use Rattle.oracles.specs.LdltMgr.{isOrder, get-elem, reduced, filled, rowsOf, factor-answer, witnessOf, witness-answer, quad-term, quadOf, sym-quad-answer};
+ghost use Rattle.oracles.specs.Matrix.{nth, at, total};
+ghost use Rattle.oracles.specs.LdltMgr.{is-order, get-elem, reduced, filled, factor-rows, factor-answer, witness-of, witness-answer, quad-term, quad-of, sym-quad-answer};
 ghost use Rattle.oracles.specs.laws.Ldlt.{LmiReads, FactoredTo};
 
 // The rows of a leading block that is not positive definite: start to end − 1.
@@ -24,7 +24,7 @@ pub enum Factored {
 
 // Whether m is a matrix's order.
 pub fn is_order(m: usize) -> bool
-    ensures { λ r. ⌜ r ≡ isOrder m ⌝ }
+    ensures { λ r. ⌜ r ≡ is-order m ⌝ }
 {
     1 <= m && m <= 32
 }
@@ -98,7 +98,7 @@ pub(crate) fn factor_rows(
     storage: &mut [f64],
 ) -> usize
     requires { ⌜ LmiReads m (now «mat_b») (now «mat_f») (now xc) × (length (now storage) ≡ m * m) ⌝ }
-    ensures { λ r. ⌜ (r, now (storage .exit)) ≡ rowsOf (get-elem m (now («mat_b» .entry)) (now («mat_f» .entry)) (now (xc .entry))) m (now (storage .entry)) ⌝ }
+    ensures { λ r. ⌜ (r, now (storage .exit)) ≡ factor-rows (get-elem m (now («mat_b» .entry)) (now («mat_f» .entry)) (now (xc .entry))) m (now (storage .entry)) ⌝ }
 {
     let mut i = 0;
     while i < m {
@@ -134,7 +134,7 @@ pub fn factor(m: usize, mat: &[f64], storage: &mut [f64]) -> Factored
 // The sum of column i of L below row i times the entries of the witness there.
 fn column_sum(m: usize, storage: &[f64], wit: &[f64], i: usize, end: usize) -> f64
     requires { ⌜ (m ≤ 32) × (i < end) × (end ≤ m) × (length (now storage) ≡ m * m) × (length (now wit) ≡ m) ⌝ }
-    ensures { λ r. ⌜ r ≡ total _⊕_ 0ᶠ (λ j. at m (now (storage .entry)) (i + 1 + j) i ⊗ entry (now (wit .entry)) (i + 1 + j)) (end - (i + 1)) ⌝ }
+    ensures { λ r. ⌜ r ≡ total _⊕_ 0ᶠ (λ j. at m (now (storage .entry)) (i + 1 + j) i ⊗ nth (now (wit .entry)) (i + 1 + j)) (end - (i + 1)) ⌝ }
 {
     let mut s = 0.0;
     let mut k = i + 1;
@@ -148,7 +148,7 @@ fn column_sum(m: usize, storage: &[f64], wit: &[f64], i: usize, end: usize) -> f
 // The witness's entries start to end − 1, from the last one back.
 pub(crate) fn witness_into(m: usize, pos: Pos, storage: &[f64], wit: &mut [f64])
     requires { ⌜ (m ≤ 32) × (pos .start < pos .end) × (pos .end ≤ m) × (length (now storage) ≡ m * m) × (length (now wit) ≡ m) ⌝ }
-    ensures { λ _. ⌜ now (wit .exit) ≡ witnessOf m pos (now (storage .entry)) (now (wit .entry)) ⌝ }
+    ensures { λ _. ⌜ now (wit .exit) ≡ witness-of m pos (now (storage .entry)) (now (wit .entry)) ⌝ }
 {
     let start = pos.start;
     let end = pos.end;
@@ -201,7 +201,7 @@ fn quad_row(m: usize, wit: &[f64], mat: &[f64], end: usize, i: usize) -> f64
 // `sym_quad` with nothing left to refuse.
 pub(crate) fn quad(m: usize, pos: Pos, wit: &[f64], mat: &[f64]) -> f64
     requires { ⌜ (m ≤ 32) × (pos .start ≤ pos .end) × (pos .end ≤ m) × (length (now wit) ≡ m) × (length (now mat) ≡ m * m) ⌝ }
-    ensures { λ r. ⌜ r ≡ quadOf m pos (now (wit .entry)) (now (mat .entry)) ⌝ }
+    ensures { λ r. ⌜ r ≡ quad-of m pos (now (wit .entry)) (now (mat .entry)) ⌝ }
 {
     let end = pos.end;
     let mut result = 0.0;

@@ -22,7 +22,7 @@ ghost use lib.IntN.{pos, natAbs};
 ghost use lib.Signed.{ltZ};
 ghost use mathlib.Core.Bool.{true, false};
 ghost use Rattle.oracles.specs.Verdict.{is-accepted, asked, FeasRule, OptimRule};
-ghost use Rattle.oracles.specs.LowpassOracle.{fresh-cur, start-oracle, bands-fit, cursors-fit, isOf, groupNumber, groupSide, after-pass, after-stop, after-middle, offered, improvedOf, refusedOf, assess-sign, assess-middle, assess-stop, assessOf, assess-feas-answer, assess-optim-answer};
+ghost use Rattle.oracles.specs.LowpassOracle.{fresh-cur, start-oracle, bands-fit, cursors-fit, has-band, group-number, group-side, after-pass, after-stop, after-middle, offered, improved-of, refused-of, assess-sign, assess-middle, assess-stop, assess-of, assess-feas-answer, assess-optim-answer};
 ghost use Rattle.oracles.specs.laws.Scan.{Scannable};
 
 // The state of an oracle over a row table that the caller lends: pass rows are 0 to nwpass − 1, middle rows reach nwstop − 1, stop rows the end.
@@ -54,7 +54,7 @@ pub enum Group {
 impl Group {
     // Its place in the order of the scans: pass, stop, middle, sign.
     pub fn number(self) -> u8
-        ensures { λ r. ⌜ r ≡ groupNumber self ⌝ }
+        ensures { λ r. ⌜ r ≡ group-number self ⌝ }
     {
         match self {
             Group::Pass(_, _) => 0,
@@ -66,7 +66,7 @@ impl Group {
 
     // Whether the value lies above its limit; a middle row and x[0] lie below theirs.
     pub fn is_over(self) -> bool
-        ensures { λ r. ⌜ r ≡ groupSide self ⌝ }
+        ensures { λ r. ⌜ r ≡ group-side self ⌝ }
     {
         match self {
             Group::Pass(_, over) => over,
@@ -136,7 +136,7 @@ fn band_beta(value: f64, is_over: bool, lower: f64, upper: Upper) -> CutChoice
 {
     match upper {
         Upper::Absent => CutChoice::Single(lower - value),
-        Upper::At(u) => {
+        Upper::Limit(u) => {
             if is_over {
                 return CutChoice::Parallel(value - u, value - lower);
             }
@@ -146,8 +146,8 @@ fn band_beta(value: f64, is_over: bool, lower: f64, upper: Upper) -> CutChoice
 }
 
 // Whether the cursor's band is lo .. hi − 1.
-fn is_of(rr: RoundRobin, lo: i32, hi: i32) -> bool
-    ensures { λ r. ⌜ r ≡ isOf rr lo hi ⌝ }
+fn has_band(rr: RoundRobin, lo: i32, hi: i32) -> bool
+    ensures { λ r. ⌜ r ≡ has-band rr lo hi ⌝ }
 {
     (rr.lo == lo) & (rr.hi == hi)
 }
@@ -157,7 +157,7 @@ fn fresh_cur(fresh: CursorAnswer) -> i32
     ensures { λ r. ⌜ r ≡ fresh-cur fresh ⌝ }
 {
     match fresh {
-        CursorAnswer::At(rr) => rr.cur,
+        CursorAnswer::Accepted(rr) => rr.cur,
         CursorAnswer::Refused(_) => -1,
     }
 }
@@ -226,9 +226,9 @@ impl LowpassOracle {
         (0 <= lo)
             & (lo <= hi)
             & (hi <= mdim)
-            & is_of(rr1, 0, lo)
-            & is_of(rr2, lo, hi)
-            & is_of(rr3, hi, mdim)
+            & has_band(rr1, 0, lo)
+            & has_band(rr2, lo, hi)
+            & has_band(rr3, hi, mdim)
     }
 
     // Refusal 4.
@@ -403,7 +403,7 @@ impl LowpassOracle {
         requires { ⌜ Scannable n rows (now table) (now x) (self .rr3) × Scannable n rows (now table) (now x) (self .rr2) × (length (now grad) ≡ n) ⌝ }
         ensures { λ r. ⌜ (r, now (grad .exit)) ≡ assess-stop self n (now (table .entry)) (now (x .entry)) (now (grad .entry)) ⌝ }
     {
-        let upper = Upper::At(self.sp_sq);
+        let upper = Upper::Limit(self.sp_sq);
         let rr = self.rr3;
         let swept = scan_ready(n, rows, table, x, rr, 0.0, upper);
         let scan = swept.scan;
@@ -427,10 +427,10 @@ impl LowpassOracle {
 
     fn assess(self, n: usize, rows: usize, table: &[f64], x: &[f64], grad: &mut [f64]) -> Assessed
         requires { ⌜ Scannable n rows (now table) (now x) (self .rr1) × Scannable n rows (now table) (now x) (self .rr3) × Scannable n rows (now table) (now x) (self .rr2) × (length (now grad) ≡ n) ⌝ }
-        ensures { λ r. ⌜ (r, now (grad .exit)) ≡ assessOf self n (now (table .entry)) (now (x .entry)) (now (grad .entry)) ⌝ }
+        ensures { λ r. ⌜ (r, now (grad .exit)) ≡ assess-of self n (now (table .entry)) (now (x .entry)) (now (grad .entry)) ⌝ }
     {
         let lower = self.lp_sq;
-        let upper = Upper::At(self.up_sq);
+        let upper = Upper::Limit(self.up_sq);
         let rr = self.rr1;
         let swept = scan_ready(n, rows, table, x, rr, lower, upper);
         let scan = swept.scan;
@@ -480,7 +480,7 @@ impl LowpassOracle {
 
     // The oracle as it came, with the reason.
     fn refused(self, why: Refusal) -> Assessed
-        ensures { λ r. ⌜ r ≡ refusedOf self why ⌝ }
+        ensures { λ r. ⌜ r ≡ refused-of self why ⌝ }
     {
         Assessed {
             oracle: self,
@@ -530,7 +530,7 @@ impl LowpassOracle {
         grad: &mut [f64],
     ) -> AssessedOptim
         requires { ⌜ (2 ≤ n) × (n ≤ 32) × (ltZ (after .kmax) (pos 0) ≡ false → natAbs (after .kmax) * n + n ≤ length (now table)) × (length (now grad) ≡ n) ⌝ }
-        ensures { λ r. ⌜ (r, now (grad .exit)) ≡ improvedOf self gamma after n (now (table .entry)) (now (grad .entry)) ⌝ }
+        ensures { λ r. ⌜ (r, now (grad .exit)) ≡ improved-of self gamma after n (now (table .entry)) (now (grad .entry)) ⌝ }
     {
         if after.kmax < 0 {
             return AssessedOptim {

@@ -16,7 +16,7 @@ impl CursorAnswer {
         ensures { λ r. ⌜ r ≡ cursor-number self ⌝ }
     {
         match self {
-            CursorAnswer::At(_) => 0,
+            CursorAnswer::Accepted(_) => 0,
             CursorAnswer::Refused(why) => why.number(),
         }
     }

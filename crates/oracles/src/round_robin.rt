@@ -3,7 +3,7 @@ use numbers::refusal::Refusal;
 ghost use mathlib.Core.Path.{_≡_};
 ghost use Prim.Native.Nat.{_<_};
 ghost use lib.IntN.{pos};
-ghost use Rattle.oracles.specs.RoundRobin.{isBand, isAt, moved, advanced, new-range-answer, advance-answer};
+ghost use Rattle.oracles.specs.RoundRobin.{is-band, is-at, moved, advanced, new-range-answer, advance-answer};
 ghost use Rattle.oracles.specs.laws.RoundRobin.{Legal};
 
 // Row numbers of the band lo .. hi − 1, each in turn; cur is the last one given, lo − 1 at first.
@@ -14,13 +14,13 @@ pub struct RoundRobin {
 }
 
 pub enum CursorAnswer {
-    At(RoundRobin),
+    Accepted(RoundRobin),
     Refused(Refusal),
 }
 
 // Whether lo and hi are a band of some table.
 pub fn is_band(lo: i32, hi: i32) -> bool
-    ensures { λ r. ⌜ r ≡ isBand lo hi ⌝ }
+    ensures { λ r. ⌜ r ≡ is-band lo hi ⌝ }
 {
     (0 <= lo) & (lo <= hi) & (hi <= 1024)
 }
@@ -40,7 +40,7 @@ impl RoundRobin {
         if !is_band(lo, hi) {
             return CursorAnswer::Refused(Refusal::Band);
         }
-        CursorAnswer::At(RoundRobin {
+        CursorAnswer::Accepted(RoundRobin {
             cur: lo - 1,
             lo: lo,
             hi: hi,
@@ -49,7 +49,7 @@ impl RoundRobin {
 
     // Whether cur stands in the band or just before it.
     pub fn is_at(self) -> bool
-        ensures { λ r. ⌜ r ≡ isAt self ⌝ }
+        ensures { λ r. ⌜ r ≡ is-at self ⌝ }
     {
         (self.cur < self.hi) && self.lo <= self.cur + 1
     }
@@ -97,7 +97,7 @@ impl RoundRobin {
         if !self.is_at() {
             return CursorAnswer::Refused(Refusal::Cursor);
         }
-        CursorAnswer::At(self.step())
+        CursorAnswer::Accepted(self.step())
     }
 
     // The row last given.

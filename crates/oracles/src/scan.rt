@@ -16,16 +16,16 @@ ghost use lib.Signed.{nonNeg};
 ghost use lib.ListN.{length};
 ghost use Rattle.oracles.specs.RoundRobin.{moved};
 ghost use Rattle.oracles.specs.declared.scan.ScanAnswer.the-variants.{Refused};
-ghost use Rattle.oracles.specs.declared.scan.Upper.the-variants.{At};
-ghost use Rattle.oracles.specs.laws.ScanRun.{limitOf, isBroken, valuesOf, judgedOf, runOf, Going};
-ghost use Rattle.oracles.specs.Scan.{valueOf, isRows, band-fits, scanFrom, scanOf, scan-band-answer};
+ghost use Rattle.oracles.specs.declared.scan.Upper.the-variants.{Limit};
+ghost use Rattle.oracles.specs.laws.ScanRun.{limit-of, is-broken, four-values, judged-of, scan-run, Going};
+ghost use Rattle.oracles.specs.Scan.{value-of, is-rows, band-fits, scan-from, scan-of, scan-band-answer};
 ghost use Rattle.oracles.specs.laws.RoundRobin.{Legal};
 ghost use Rattle.oracles.specs.laws.Scan.{Ready, Scannable};
 
 // The upper limit of a band, where it has one.
 pub enum Upper {
     Absent,
-    At(f64),
+    Limit(f64),
 }
 
 // The first row that breaks a limit: its number, its value, and whether the value lies above the upper limit.
@@ -61,7 +61,7 @@ pub(crate) struct Swept {
 
 // Whether a table can have so many rows.
 pub fn is_rows(rows: usize) -> bool
-    ensures { λ r. ⌜ r ≡ isRows rows ⌝ }
+    ensures { λ r. ⌜ r ≡ is-rows rows ⌝ }
 {
     (1 <= rows) & (rows <= 1024)
 }
@@ -91,16 +91,16 @@ fn band_fits(rows: usize, lo: i32, hi: i32) -> bool
 
 // The upper limit as a number: infinity, above which no value lies, where there is none.
 fn limit_of(upper: Upper) -> f64
-    ensures { λ r. ⌜ r ≡ limitOf upper ⌝ }
+    ensures { λ r. ⌜ r ≡ limit-of upper ⌝ }
 {
     match upper {
         Upper::Absent => 1.0 / 0.0,
-        Upper::At(u) => u,
+        Upper::Limit(u) => u,
     }
 }
 
 fn is_broken(viol: Violation) -> bool
-    ensures { λ r. ⌜ r ≡ isBroken viol ⌝ }
+    ensures { λ r. ⌜ r ≡ is-broken viol ⌝ }
 {
     match viol {
         Violation::Nothing => false,
@@ -135,7 +135,7 @@ fn row_at(rr: RoundRobin) -> usize
 // Row i's value: the row is the part of the table that begins at i × n.
 fn row_value(n: usize, table: &[f64], x: &[f64], i: usize) -> f64
     requires { ⌜ i * n + n ≤ length (now table) ⌝ }
-    ensures { λ r. ⌜ r ≡ valueOf n (now (table .entry)) (now (x .entry)) i ⌝ }
+    ensures { λ r. ⌜ r ≡ value-of n (now (table .entry)) (now (x .entry)) i ⌝ }
 {
     let at = i * n;
     let end = at + n;
@@ -145,7 +145,7 @@ fn row_value(n: usize, table: &[f64], x: &[f64], i: usize) -> f64
 // The values of the four rows from row i on, each handed on as its part of the table.
 fn four_values(n: usize, table: &[f64], x: &[f64], i: usize) -> Four
     requires { ⌜ i * n + 4 * n ≤ length (now table) ⌝ }
-    ensures { λ r. ⌜ r ≡ valuesOf n (now (table .entry)) (now (x .entry)) i ⌝ }
+    ensures { λ r. ⌜ r ≡ four-values n (now (table .entry)) (now (x .entry)) i ⌝ }
 {
     let a = i * n;
     let b = a + n;
@@ -158,7 +158,7 @@ fn four_values(n: usize, table: &[f64], x: &[f64], i: usize) -> Four
 // A row's value against the limits, and the largest value so far with this one.
 fn test_row(row: usize, value: f64, lower: f64, limit: f64, fmax: f64, kmax: i32) -> Scan
     requires { ⌜ row < 1024 ⌝ }
-    ensures { λ r. ⌜ r ≡ judgedOf lower limit row value fmax kmax ⌝ }
+    ensures { λ r. ⌜ r ≡ judged-of lower limit row value fmax kmax ⌝ }
 {
     let last = row as i32;
     if value > limit {
@@ -205,7 +205,7 @@ fn look_at_four(
     kmax: i32,
 ) -> Scan
     requires { ⌜ (row + 4 ≤ 1024) × (row * n + 4 * n ≤ length (now table)) ⌝ }
-    ensures { λ r. ⌜ r ≡ runOf n (now (table .entry)) (now (x .entry)) lower limit 4 row fmax kmax ⌝ }
+    ensures { λ r. ⌜ r ≡ scan-run n (now (table .entry)) (now (x .entry)) lower limit 4 row fmax kmax ⌝ }
 {
     let values = four_values(n, table, x, row);
     let s = test_row(row, values.a, lower, limit, fmax, kmax);
@@ -239,7 +239,7 @@ fn look_at(
     kmax: i32,
 ) -> Scan
     requires { ⌜ ((many ≡ 1) ⊎ (many ≡ 4)) × (row + many ≤ 1024) × (row * n + many * n ≤ length (now table)) ⌝ }
-    ensures { λ r. ⌜ r ≡ runOf n (now (table .entry)) (now (x .entry)) lower limit many row fmax kmax ⌝ }
+    ensures { λ r. ⌜ r ≡ scan-run n (now (table .entry)) (now (x .entry)) lower limit many row fmax kmax ⌝ }
 {
     if many == 4 {
         return look_at_four(n, table, x, row, lower, limit, fmax, kmax);
@@ -275,7 +275,7 @@ fn scan_rest(
     peak_row: i32,
 ) -> Scan
     requires { ⌜ Going n (now table) start count ⌝ }
-    ensures { λ r. ⌜ r ≡ scanFrom n (now (table .entry)) (now (x .entry)) lower (At limit) count start peak «peak_row» ⌝ }
+    ensures { λ r. ⌜ r ≡ scan-from n (now (table .entry)) (now (x .entry)) lower (Limit limit) count start peak «peak_row» ⌝ }
 {
     let mut rr = start;
     let mut fmax = peak;
@@ -313,7 +313,7 @@ fn scan_rows(
     upper: Upper,
 ) -> Scan
     requires { ⌜ Ready n (now table) (now x) start ⌝ }
-    ensures { λ r. ⌜ r ≡ scanOf n (now (table .entry)) (now (x .entry)) start lower upper ⌝ }
+    ensures { λ r. ⌜ r ≡ scan-of n (now (table .entry)) (now (x .entry)) start lower upper ⌝ }
 {
     let limit = limit_of(upper);
     let all = band_past(start) - band_from(start);
@@ -432,7 +432,7 @@ pub(crate) fn scan_ready(
     upper: Upper,
 ) -> Swept
     requires { ⌜ Scannable n rows (now table) (now x) start ⌝ }
-    ensures { λ r. ⌜ (r .scan ≡ scanOf n (now (table .entry)) (now (x .entry)) start lower upper) × (r .cursor ≡ moved start (r .scan .last)) ⌝ }
+    ensures { λ r. ⌜ (r .scan ≡ scan-of n (now (table .entry)) (now (x .entry)) start lower upper) × (r .cursor ≡ moved start (r .scan .last)) ⌝ }
 {
     let end = scan_lent(n, rows, table, x, start, lower, upper);
     let answer = end.answer;

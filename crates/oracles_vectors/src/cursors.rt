@@ -25,7 +25,7 @@ pub(crate) fn cursor_at(inputs: &[u8], k: usize) -> RoundRobin {
 fn advance(rr: RoundRobin) -> Said {
     let answer = rr.advance();
     match answer {
-        CursorAnswer::At(moved) => said_word(answer.number(), word_of(moved.current()), 1),
+        CursorAnswer::Accepted(moved) => said_word(answer.number(), word_of(moved.current()), 1),
         CursorAnswer::Refused(_) => said_word(answer.number(), word_of(rr.cur), 1),
     }
 }
@@ -33,7 +33,7 @@ fn advance(rr: RoundRobin) -> Said {
 fn new_range(lo: i32, hi: i32) -> Said {
     let answer = RoundRobin::new_range(lo, hi);
     match answer {
-        CursorAnswer::At(rr) => said_words(
+        CursorAnswer::Accepted(rr) => said_words(
             answer.number(),
             [word_of(rr.cur), word_of(rr.lo), word_of(rr.hi), 0, 0, 0, 0],
             3,

@@ -27,7 +27,7 @@ fn upper_of(w: u64) -> Upper {
     if w == u64::MAX {
         Upper::Absent
     } else {
-        Upper::At(of_bits(w))
+        Upper::Limit(of_bits(w))
     }
 }
 

@@ -6,8 +6,8 @@ use mathlib.Core.List.{List}
 use lib.Dec.{eqb}
 use lib.Ieee.{Float}
 use Rattle.numbers.specs.Pick.{pick}
-use Rattle.numbers.specs.Refusal.{refusalNumber}
-use Rattle.numbers.specs.Cut.{statusNumber}
+use Rattle.numbers.specs.Refusal.{refusal-number}
+use Rattle.numbers.specs.Cut.{status-number}
 use Rattle.numbers.specs.Numbered.{value-number, written-number}
 use Rattle.numbers.specs.declared.arr.Number.{Number}
 use Rattle.numbers.specs.declared.arr.Number.the-variants.{Value, Refused as NoNumber}
@@ -57,15 +57,15 @@ factored-told a old = (factored-number (a .0), factored-end (a .0) old, a .1)
 -- ---- updates
 
 -- 0 a bias cut, 1 a central one, any other number the q form
-abbrev pub strategyOf : ℕ → CutStrategy
-strategyOf k = pick (eqb k 0) BiasCut (pick (eqb k 1) CentralCut Q)
+abbrev pub strategy-of : ℕ → CutStrategy
+strategy-of k = pick (eqb k 0) BiasCut (pick (eqb k 1) CentralCut Q)
 
 -- one bound or two
-abbrev pub betaOf : Bool → Float → Float → CutChoice
-betaOf parallel beta0 beta1 = pick parallel (Parallel beta0 beta1) (Single beta0)
+abbrev pub beta-of : Bool → Float → Float → CutChoice
+beta-of parallel beta0 beta1 = pick parallel (Parallel beta0 beta1) (Single beta0)
 
 abbrev pub status-or : Update → ℕ → ℕ
-status-or (Status status) old = statusNumber status
+status-or (Status status) old = status-number status
 status-or (NotUpdated why) old = old
 
 -- what an update leaves: its number, its status, kappa and tsq, and the slices
@@ -87,7 +87,7 @@ ell-made e strategy grad beta tsq status b = ell-left (ell-update-answer (with-t
 -- the ellipsoid of n and kappa is made first; refusal 1 where it cannot be
 unfoldable pub ell-told : NewEll → CutStrategy → List Float → CutChoice → Float → Float → ℕ → EllBuffers → Left EllBuffers
 ell-told (Made e) strategy grad beta kappa tsq status b = ell-made e strategy grad beta tsq status b
-ell-told (NotMade why) strategy grad beta kappa tsq status b = record { code = refusalNumber why; status = status; kappa = kappa; tsq = tsq; buffers = b }
+ell-told (NotMade why) strategy grad beta kappa tsq status b = record { code = refusal-number why; status = status; kappa = kappa; tsq = tsq; buffers = b }
 
 -- the same of `EllStable`
 abbrev pub stable-left : EllStableUpdate × StableBuffers → ℕ → Left StableBuffers
@@ -99,4 +99,4 @@ stable-made e strategy grad beta tsq status b = stable-left (stable-update-answe
 
 unfoldable pub stable-told : NewEllStable → CutStrategy → List Float → CutChoice → Float → Float → ℕ → StableBuffers → Left StableBuffers
 stable-told (MadeStable e) strategy grad beta kappa tsq status b = stable-made e strategy grad beta tsq status b
-stable-told (NotMadeStable why) strategy grad beta kappa tsq status b = record { code = refusalNumber why; status = status; kappa = kappa; tsq = tsq; buffers = b }
+stable-told (NotMadeStable why) strategy grad beta kappa tsq status b = record { code = refusal-number why; status = status; kappa = kappa; tsq = tsq; buffers = b }

@@ -5,13 +5,13 @@ use mathlib.Core.List.{List, [], _∷_}
 use lib.IntN.{ℤ}
 use lib.Ieee.{Float}
 use Rattle.numbers.specs.Pick.{pick}
-use Rattle.numbers.specs.Refusal.{refusalNumber}
+use Rattle.numbers.specs.Refusal.{refusal-number}
 use Rattle.oracles.specs.Ell.{EllBuffers}
 use Rattle.oracles.specs.declared.ell.Ell.{Ell}
 use Rattle.oracles.specs.declared.ell.NewEll.{NewEll}
 use Rattle.oracles.specs.declared.ell.NewEll.the-variants.{Made, Refused as NotMade}
 use Rattle.oracles.specs.declared.lowpass_oracle.LowpassOracle.{LowpassOracle}
-use Rattle.drivers.specs.CuttingPlane.{Space, OptimLeft, feas-answer, optim-answer}
+use Rattle.drivers.specs.CuttingPlane.{State, OptimLeft, feas-answer, optim-answer}
 use Rattle.drivers.specs.Numbered.{feas-number, optim-number, job-number}
 use Rattle.drivers.specs.Job.{job-oracle}
 use Rattle.drivers.specs.declared.answer.Answer.{Answer}
@@ -32,12 +32,12 @@ marks-of o = o .rr1 .cur ∷ o .rr2 .cur ∷ o .rr3 .cur ∷ o .idx1 ∷ o .idx2
 unfoldable pub values-of : LowpassOracle → Ell → List Float
 values-of o e = o .«sp_sq» ∷ o .fmax ∷ e .kappa ∷ e .tsq ∷ []
 
-abbrev pub flagOf : Bool → ℕ
-flagOf b = pick b 1 0
+abbrev pub flag-of : Bool → ℕ
+flag-of b = pick b 1 0
 
 -- found, the steps, and the oracle's more_alt
 unfoldable pub answer-of : Answer → LowpassOracle → List ℕ
-answer-of a o = flagOf (a .found) ∷ a .steps ∷ flagOf (o .«more_alt») ∷ []
+answer-of a o = flag-of (a .found) ∷ a .steps ∷ flag-of (o .«more_alt») ∷ []
 
 -- what a run tells in numbers: `answer-of`, `marks-of`, `values-of`
 pub record RunNumbers : Type 0 where
@@ -70,10 +70,10 @@ pub record RunLeft : Type 0 where
 abbrev pub coded : ℕ → RunLeft → RunLeft
 coded code l = record { code = code; numbers = l .numbers; buffers = l .buffers; grad = l .grad; best = l .best }
 
-abbrev pub run-left : ℕ → RunNumbers → Space → List Float → RunLeft
+abbrev pub run-left : ℕ → RunNumbers → State → List Float → RunLeft
 run-left code told s best = record { code = code; numbers = told; buffers = s .buffers; grad = s .grad; best = best }
 
-unfoldable pub feas-left : FeasAnswer × Space × List Float → RunNumbers → RunLeft
+unfoldable pub feas-left : FeasAnswer × State × List Float → RunNumbers → RunLeft
 feas-left r old = run-left (feas-number (r .0)) (feas-said (r .0) (r .1 .oracle) (r .1 .ell) old) (r .1) (r .2)
 
 -- with gamma
@@ -83,12 +83,12 @@ optim-left-told r old = (run-left (optim-number (r .answer)) (optim-said (r .ans
 -- the ellipsoid of n and kappa is made first; refusal 1 where it cannot be
 unfoldable pub feas-told : NewEll → LowpassOracle → Options → ℕ → List Float → RunLeft → RunLeft
 feas-told (Made e) o options rows table l = feas-left (feas-answer options rows table (record { oracle = o; ell = e; buffers = l .buffers; grad = l .grad }) (l .best)) (l .numbers)
-feas-told (NotMade why) o options rows table l = coded (refusalNumber why) l
+feas-told (NotMade why) o options rows table l = coded (refusal-number why) l
 
 unfoldable pub optim-told : NewEll → LowpassOracle → Options → ℕ → List Float → Float → RunLeft → RunLeft × Float
 optim-told (Made e) o options rows table gamma l =
     optim-left-told (optim-answer options rows table (record { oracle = o; ell = e; buffers = l .buffers; grad = l .grad; gamma = gamma; found = false; best = l .best })) (l .numbers)
-optim-told (NotMade why) o options rows table gamma l = (coded (refusalNumber why) l, gamma)
+optim-told (NotMade why) o options rows table gamma l = (coded (refusal-number why) l, gamma)
 
 -- ---- a job that was read: n, the rows and the step limit; nwpass and nwstop; the marks; lp_sq, up_sq, sp_sq, kappa and the tolerance
 pub record JobLeft : Type 0 where

@@ -9,28 +9,28 @@ use Rattle.numbers.specs.Pick.{pick}
 use Rattle.oracles.specs.Numbered.{scan-number}
 use Rattle.oracles.specs.declared.round_robin.RoundRobin.{RoundRobin}
 use Rattle.oracles.specs.declared.scan.Upper.{Upper}
-use Rattle.oracles.specs.declared.scan.Upper.the-variants.{Absent, At}
+use Rattle.oracles.specs.declared.scan.Upper.the-variants.{Absent, Limit}
 use Rattle.oracles.specs.declared.scan.Violation.{Violation}
 use Rattle.oracles.specs.declared.scan.Violation.the-variants.{Nothing, Broken}
 use Rattle.oracles.specs.declared.scan.Scan.{Scan}
 use Rattle.oracles.specs.declared.scan.ScanAnswer.{ScanAnswer}
 use Rattle.oracles.specs.declared.scan.ScanAnswer.the-variants.{Scanned, Refused}
 
-abbrev pub upperOf : Bool → Float → Upper
-upperOf bounded u = pick bounded (At u) Absent
+abbrev pub upper-of : Bool → Float → Upper
+upper-of bounded u = pick bounded (Limit u) Absent
 
 -- nothing 0, below a limit 1, above one 2
-abbrev pub sideOf : Violation → ℕ
-sideOf Nothing = 0
-sideOf (Broken row value over) = pick over 2 1
+abbrev pub side-of : Violation → ℕ
+side-of Nothing = 0
+side-of (Broken row value over) = pick over 2 1
 
-abbrev pub rowOf : Violation → ℕ
-rowOf Nothing = 0
-rowOf (Broken row value over) = row
+abbrev pub row-of : Violation → ℕ
+row-of Nothing = 0
+row-of (Broken row value over) = row
 
-abbrev pub valueOf : Violation → Float
-valueOf Nothing = 0ᶠ
-valueOf (Broken row value over) = value
+abbrev pub value-of : Violation → Float
+value-of Nothing = 0ᶠ
+value-of (Broken row value over) = value
 
 -- the side and the row; the value and the largest one before it; the row of that
 pub record ScanLeft : Type 0 where
@@ -39,7 +39,7 @@ pub record ScanLeft : Type 0 where
   pub kmax : ℤ
 
 unfoldable pub scan-left : Scan → ScanLeft
-scan-left s = record { found = sideOf (s .viol) ∷ rowOf (s .viol) ∷ []; values = valueOf (s .viol) ∷ s .fmax ∷ []; kmax = s .kmax }
+scan-left s = record { found = side-of (s .viol) ∷ row-of (s .viol) ∷ []; values = value-of (s .viol) ∷ s .fmax ∷ []; kmax = s .kmax }
 
 abbrev pub scan-said : ScanAnswer → ScanLeft → ScanLeft
 scan-said (Scanned s) old = scan-left s

@@ -8,15 +8,15 @@ use oracles::ldlt_mgr::Factored;
 use oracles::ldlt_mgr::factor;
 ghost use mathlib.Core.Path.{_≡_};
 ghost use Rattle.numbers.specs.Arr.{dot-answer, dot-mv-into-answer};
-ghost use Rattle.numbers.specs.Refusal.{refusalNumber};
+ghost use Rattle.numbers.specs.Refusal.{refusal-number};
 ghost use lib.Dec.{T};
 ghost use lib.Ieee.Positive.{positive};
-ghost use Rattle.numbers.specs.Sqrt.{sqrtOf, NearestRoot};
+ghost use Rattle.numbers.specs.Sqrt.{sqrt-of, NearestRoot};
 ghost use Rattle.oracles.specs.LdltMgr.{factor-answer};
 ghost use Rattle.ponduvizh.specs.Told.{value-or, number-told, written-told, factored-end, factored-told};
 
 pub(crate) fn code(why: Refusal) -> u64
-    ensures { λ r. ⌜ r ≡ refusalNumber why ⌝ }
+    ensures { λ r. ⌜ r ≡ refusal-number why ⌝ }
 {
     why.number() as u64
 }
@@ -42,7 +42,7 @@ fn factored_end(answer: Factored, old: usize) -> usize
 
 #[no_mangle]
 pub extern "C" fn ponduvizh_sqrt(x: f64) -> f64
-    ensures { λ r. ⌜ r ≡ sqrtOf x ⌝ }
+    ensures { λ r. ⌜ r ≡ sqrt-of x ⌝ }
     ensures { λ r. ⌜ (T (positive x) → NearestRoot x r) ⌝ }
 {
     sqrt(x)

@@ -16,7 +16,7 @@ ghost use Rattle.oracles.specs.LowpassOracle.{start-oracle};
 ghost use Rattle.oracles.specs.Ell.{new-ell-answer};
 ghost use Rattle.drivers.specs.CuttingPlane.{feas-answer, optim-answer};
 ghost use mathlib.Core.Bool.{false};
-ghost use Rattle.ponduvizh.specs.ToldRuns.{RunLeft, marks-of, values-of, flagOf, answer-of, numbers-after, feas-said, optim-said, feas-left, feas-told, optim-left-told, optim-told};
+ghost use Rattle.ponduvizh.specs.ToldRuns.{RunLeft, marks-of, values-of, flag-of, answer-of, numbers-after, feas-said, optim-said, feas-left, feas-told, optim-left-told, optim-told};
 
 pub(crate) fn put_marks(oracle: LowpassOracle, marks: &mut [i32; 7])
     ensures { λ _. ⌜ now (marks .exit) ≡ marks-of oracle ⌝ }
@@ -42,7 +42,7 @@ fn put_values(oracle: LowpassOracle, ell: Ell, values: &mut [f64; 4])
 }
 
 fn flag(b: bool) -> u64
-    ensures { λ r. ⌜ r ≡ flagOf b ⌝ }
+    ensures { λ r. ⌜ r ≡ flag-of b ⌝ }
 {
     if b {
         return 1;

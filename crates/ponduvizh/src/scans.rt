@@ -8,19 +8,19 @@ use oracles::scan::Violation;
 use oracles::scan::scan_lent;
 ghost use mathlib.Core.Path.{_≡_};
 ghost use Rattle.oracles.specs.Scan.{scan-band-answer};
-ghost use Rattle.ponduvizh.specs.ToldScan.{upperOf, sideOf, rowOf, valueOf, scan-left, scan-said, scan-ended};
+ghost use Rattle.ponduvizh.specs.ToldScan.{upper-of, side-of, row-of, value-of, scan-left, scan-said, scan-ended};
 
 fn upper_of(bounded: bool, upper: f64) -> Upper
-    ensures { λ r. ⌜ r ≡ upperOf bounded upper ⌝ }
+    ensures { λ r. ⌜ r ≡ upper-of bounded upper ⌝ }
 {
     if bounded {
-        return Upper::At(upper);
+        return Upper::Limit(upper);
     }
     Upper::Absent
 }
 
 fn side_of(viol: Violation) -> usize
-    ensures { λ r. ⌜ r ≡ sideOf viol ⌝ }
+    ensures { λ r. ⌜ r ≡ side-of viol ⌝ }
 {
     match viol {
         Violation::Nothing => 0,
@@ -34,7 +34,7 @@ fn side_of(viol: Violation) -> usize
 }
 
 fn row_of(viol: Violation) -> usize
-    ensures { λ r. ⌜ r ≡ rowOf viol ⌝ }
+    ensures { λ r. ⌜ r ≡ row-of viol ⌝ }
 {
     match viol {
         Violation::Nothing => 0,
@@ -43,7 +43,7 @@ fn row_of(viol: Violation) -> usize
 }
 
 fn value_of(viol: Violation) -> f64
-    ensures { λ r. ⌜ r ≡ valueOf viol ⌝ }
+    ensures { λ r. ⌜ r ≡ value-of viol ⌝ }
 {
     match viol {
         Violation::Nothing => 0.0,
@@ -124,7 +124,7 @@ pub extern "C" fn ponduvizh_scan_band(
     values: &mut [f64; 2],
     kmax: &mut i32,
 ) -> u64
-    ensures { λ r. ⌜ ((r, record { found = now (found .exit); values = now (values .exit); kmax = now (kmax .exit) }), now (cur .exit)) ≡ scan-ended (scan-band-answer n rows (now (table .entry)) (now (x .entry)) (record { cur = now (cur .entry); lo = lo; hi = hi }) lower (upperOf bounded upper)) (record { found = now (found .entry); values = now (values .entry); kmax = now (kmax .entry) }) ⌝ }
+    ensures { λ r. ⌜ ((r, record { found = now (found .exit); values = now (values .exit); kmax = now (kmax .exit) }), now (cur .exit)) ≡ scan-ended (scan-band-answer n rows (now (table .entry)) (now (x .entry)) (record { cur = now (cur .entry); lo = lo; hi = hi }) lower (upper-of bounded upper)) (record { found = now (found .entry); values = now (values .entry); kmax = now (kmax .entry) }) ⌝ }
 {
     let start = cursor_at(cur, lo, hi);
     let limit = upper_of(bounded, upper);

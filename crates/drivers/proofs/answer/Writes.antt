@@ -9,8 +9,8 @@ use lib.Dec.{eqb}
 use lib.ListN.{length, length-append}
 use lib.Ieee.{Float}
 use Rattle.numbers.specs.Pick.{pick}
-use Rattle.numbers.specs.Bits.{leBytes}
-use Rattle.numbers.specs.Arr.{isDimension, sized}
+use Rattle.numbers.specs.Bits.{le-bytes}
+use Rattle.numbers.specs.Arr.{is-dimension, sized}
 use Rattle.numbers.specs.declared.refusal.Refusal.the-variants.{Dimension, Length, Room}
 use Rattle.numbers.specs.laws.Pick.{is-hit, is-skip, both-ways}
 use Rattle.numbers.specs.laws.Refusal.{failed, held, at-first, at-next, refuses, accepts}
@@ -32,9 +32,9 @@ module _ (a : Answer) (point : List Float) where
   found-is : a .found ≡ true → outcome-field (a .found) ∷ steps-field (a .steps) ∷ point-field point ∷ [] ≡ answer-fields a point
   found-is h = ap (λ (fs : List Field). outcome-field (a .found) ∷ steps-field (a .steps) ∷ fs) (sym (is-hit (a .found) (point-field point ∷ []) [] h))
 
-  module _ (out : List ℕ) (w : ℕ) (e : w ≡ outcome-byte (a .found)) (p q : ℕ × List ℕ) (one : p ≡ put out 0 (field-bytes (0x20, leBytes 1 w))) (two : q ≡ put (p .1) (p .0) (field-bytes (steps-field (a .steps)))) where
+  module _ (out : List ℕ) (w : ℕ) (e : w ≡ outcome-byte (a .found)) (p q : ℕ × List ℕ) (one : p ≡ put out 0 (field-bytes (0x20, le-bytes 1 w))) (two : q ≡ put (p .1) (p .0) (field-bytes (steps-field (a .steps)))) where
     first : p ≡ put out 0 (field-bytes (outcome-field (a .found)))
-    first = one ∙ ap (λ (v : ℕ). put out 0 (field-bytes (0x20, leBytes 1 v))) e
+    first = one ∙ ap (λ (v : ℕ). put out 0 (field-bytes (0x20, le-bytes 1 v))) e
 
     pub none-put : a .found ≡ false → q ≡ put-all out 0 (map field-bytes (answer-fields a point))
     none-put h = put-then out 0 p q _ _ first (put-one _ _ _ _ two) ∙ ap (λ (fs : List Field). put-all out 0 (map field-bytes fs)) (none-is h)
@@ -45,7 +45,7 @@ module _ (a : Answer) (point : List Float) where
 
   -- how long they are
   pub answer-long : (n : ℕ) → length point ≡ n → length (answer-bytes a point) ≡ pick (a .found) (12 + 8 * n) 9
-  unfolding joined leBytes
+  unfolding joined le-bytes
   answer-long n l =
       both-ways (a .found) (λ h. ap (λ (fs : List Field). length (record-bytes fs)) (sym (found-is h)) ∙ omega (arith, length-append (number-bytes point) [], length-numbers point))
       (λ h. ap (λ (fs : List Field). length (record-bytes fs)) (sym (none-is h)))
@@ -53,11 +53,11 @@ module _ (a : Answer) (point : List Float) where
 -- ---- `write_answer`, by its tests
 
 module _ (n : ℕ) (a : Answer) (point : List Float) (out : List ℕ) where
-  pub wrong-n : isDimension n ≡ false → (Refused Dimension, out) ≡ write-answer-answer n a point out
+  pub wrong-n : is-dimension n ≡ false → (Refused Dimension, out) ≡ write-answer-answer n a point out
   unfolding write-answer-answer
   wrong-n h = refuses _ _ (write-answer-tests n a point out) (at-first _ (at-first _ (failed h))) refl
 
-  module _ (h : isDimension n ≡ true) where
+  module _ (h : is-dimension n ≡ true) where
     pub wrong-point : (length point ≡ n → ⊥) → (Refused Length, out) ≡ write-answer-answer n a point out
     unfolding write-answer-answer
     wrong-point l = refuses _ _ (write-answer-tests n a point out) (at-first _ (at-next (held _ _ h) (failed (ne-eqb (length point) n l)))) refl

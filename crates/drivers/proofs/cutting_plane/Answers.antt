@@ -11,7 +11,7 @@ use Rattle.numbers.specs.declared.refusal.Refusal.the-variants.{Room}
 use Rattle.numbers.specs.declared.refusal.Fault.{Fault}
 use Rattle.numbers.specs.declared.refusal.Fault.the-variants.{Sound, At}
 use Rattle.numbers.specs.laws.Refusal.{failed, held, at-first, at-next, refuses, accepts}
-use Rattle.drivers.specs.CuttingPlane.{Space, check-space, run-tests, is-found, kept, feas-run, feas-answer, OptimSpace, OptimLeft, plain, leaves, optim-run, optim-answer}
+use Rattle.drivers.specs.CuttingPlane.{State, check-space, run-tests, is-found, kept, feas-run, feas-answer, OptimState, OptimLeft, plain, leaves, optim-run, optim-answer}
 use Rattle.drivers.specs.laws.Refused.{feas-refused, optim-refused}
 use Rattle.drivers.specs.declared.cutting_plane.Options.{Options}
 use Rattle.drivers.specs.declared.cutting_plane.FeasAnswer.{FeasAnswer}
@@ -20,15 +20,15 @@ use Rattle.drivers.specs.declared.cutting_plane.OptimAnswer.{OptimAnswer
 use Rattle.drivers.specs.declared.cutting_plane.OptimAnswer.the-variants.{Refused as NotRunOptim}
 
 -- the tests of the lengths, bands and cursors said k
-module _ (options : Options) (rows : ℕ) (table : List Float) (s : Space) (best : List Float) (k : Fault) (e : k ≡ check-space rows table s) where
+module _ (options : Options) (rows : ℕ) (table : List Float) (s : State) (best : List Float) (k : Fault) (e : k ≡ check-space rows table s) where
   -- both promises: the answer, and that a refusal gives everything back
-  abbrev FeasPromised : FeasAnswer → Space → List Float → Type 0
+  abbrev FeasPromised : FeasAnswer → State → List Float → Type 0
   FeasPromised r s′ best′ =
-      ((r, s′, best′) ≡ feas-answer options rows table s best) × ((why : Refusal) → r ≡ NotRun why → _≡_ {A = Space × List Float} (s′, best′) (s, best))
+      ((r, s′, best′) ≡ feas-answer options rows table s best) × ((why : Refusal) → r ≡ NotRun why → _≡_ {A = State × List Float} (s′, best′) (s, best))
 
-  feas-promised : (r : FeasAnswer) (s′ : Space) (best′ : List Float) → (r, s′, best′) ≡ feas-answer options rows table s best → FeasPromised r s′ best′
+  feas-promised : (r : FeasAnswer) (s′ : State) (best′ : List Float) → (r, s′, best′) ≡ feas-answer options rows table s best → FeasPromised r s′ best′
   feas-promised r s′ best′ d =
-      (d, λ why h. ap (λ (p : FeasAnswer × Space × List Float). (p .1, p .2)) (d ∙ feas-refused options rows table s best why (sym (ap (λ (p : FeasAnswer × Space × List Float). p .0) d) ∙ h)))
+      (d, λ why h. ap (λ (p : FeasAnswer × State × List Float). (p .1, p .2)) (d ∙ feas-refused options rows table s best why (sym (ap (λ (p : FeasAnswer × State × List Float). p .0) d) ∙ h)))
 
   pub feas-wrong : (why : Refusal) (place : ℕ) → k ≡ At why place → FeasPromised (NotRun why) s best
   unfolding feas-answer
@@ -38,16 +38,16 @@ module _ (options : Options) (rows : ℕ) (table : List Float) (s : Space) (best
   unfolding feas-answer
   feas-short w h = feas-promised (NotRun Room) s best (refuses _ _ (run-tests rows table s best) (at-next (sym w ∙ e) (failed (lt-leb (s .ell .ndim) (length best) h))) refl)
 
-  pub feas-done : k ≡ Sound → s .ell .ndim ≤ length best → (r : FeasAnswer) (s′ : Space) → (r, s′) ≡ feas-run rows table (options .tolerance) (options .«max_iters») 0 s
+  pub feas-done : k ≡ Sound → s .ell .ndim ≤ length best → (r : FeasAnswer) (s′ : State) → (r, s′) ≡ feas-run rows table (options .tolerance) (options .«max_iters») 0 s
       → (f : Bool) → f ≡ is-found r → (best′ : List Float) → best′ ≡ kept f (s′ .buffers .xc) best → FeasPromised r s′ best′
   unfolding feas-answer
   feas-done w h r s′ d f g best′ q =
       feas-promised r s′ best′
       (accepts _ _ (run-tests rows table s best) (at-next (sym w ∙ e) (held _ _ (le-leb (s .ell .ndim) (length best) h)))
       (ap (λ (l : List Float). (r, s′, l)) (q ∙ ap (λ (t : Bool). kept t (s′ .buffers .xc) best) g)
-      ∙ ap (λ (p : FeasAnswer × Space). (p .0, p .1, kept (is-found (p .0)) (p .1 .buffers .xc) best)) d))
+      ∙ ap (λ (p : FeasAnswer × State). (p .0, p .1, kept (is-found (p .0)) (p .1 .buffers .xc) best)) d))
 
-module _ (options : Options) (rows : ℕ) (table : List Float) (s : OptimSpace) (k : Fault) (e : k ≡ check-space rows table (plain s)) where
+module _ (options : Options) (rows : ℕ) (table : List Float) (s : OptimState) (k : Fault) (e : k ≡ check-space rows table (plain s)) where
   abbrev OptimPromised : OptimLeft → Type 0
   OptimPromised r = (r ≡ optim-answer options rows table s) × ((why : Refusal) → r .answer ≡ NotRunOptim why → r ≡ leaves (r .answer) s)
 

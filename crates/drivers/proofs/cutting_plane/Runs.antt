@@ -9,7 +9,7 @@ use lib.Ieee.{Float}
 use Rattle.numbers.specs.Pick.{pick}
 use Rattle.numbers.specs.laws.Pick.{is-hit, is-skip}
 use Rattle.oracles.specs.declared.ell_common.Update.{Update}
-use Rattle.drivers.specs.CuttingPlane.{Space, feas-step, goes-on, feas-ended, feas-run, OptimSpace, leaves, optim-step, optim-goes-on, optim-ended, optim-run}
+use Rattle.drivers.specs.CuttingPlane.{State, feas-step, goes-on, feas-ended, feas-run, OptimState, leaves, optim-step, optim-goes-on, optim-ended, optim-run}
 use Rattle.drivers.specs.declared.cutting_plane.Said.{Said}
 use Rattle.drivers.specs.declared.cutting_plane.FeasAnswer.{FeasAnswer}
 use Rattle.drivers.specs.declared.cutting_plane.FeasAnswer.the-variants.{Ended}
@@ -30,7 +30,7 @@ all-left f most = let e : most - 0 ≡ most = omega arith in rw e
 module _ (rows : ℕ) (table : List Float) (tolerance : Float) (most : ℕ) where
   -- ---- cutting_plane_feas
 
-  module _ (k : ℕ) (s s′ : Space) (said : Said) (h : k < most) (e : (said, s′) ≡ feas-step rows table s) where
+  module _ (k : ℕ) (s s′ : State) (said : Said) (h : k < most) (e : (said, s′) ≡ feas-step rows table s) where
     turn : feas-run rows table tolerance (most - k) k s
         ≡ pick (goes-on said (s′ .ell .tsq) tolerance) (feas-run rows table tolerance (most - (k + 1)) (suc k) s′) (feas-ended said k, s′)
     unfolding feas-run
@@ -42,13 +42,13 @@ module _ (rows : ℕ) (table : List Float) (tolerance : Float) (most : ℕ) wher
     pub feas-ends : goes-on said (s′ .ell .tsq) tolerance ≡ false → (r : FeasAnswer) → r ≡ feas-ended said k → (r, s′) ≡ feas-run rows table tolerance (most - k) k s
     feas-ends g r q = ap (λ (a : FeasAnswer). (a, s′)) q ∙ sym (turn ∙ is-skip _ _ _ g)
 
-  pub feas-out : (k : ℕ) (s : Space) → most ≤ k → feas-run rows table tolerance (most - k) k s ≡ (Ended (record { found = false; steps = k }), s)
+  pub feas-out : (k : ℕ) (s : State) → most ≤ k → feas-run rows table tolerance (most - k) k s ≡ (Ended (record { found = false; steps = k }), s)
   unfolding feas-run
   feas-out k s h = rw (none-left most k h)
 
   -- ---- cutting_plane_optim
 
-  module _ (k : ℕ) (s s′ : OptimSpace) (u : Update) (h : k < most) (e : (u, s′) ≡ optim-step rows table s) where
+  module _ (k : ℕ) (s s′ : OptimState) (u : Update) (h : k < most) (e : (u, s′) ≡ optim-step rows table s) where
     optim-turn : optim-run rows table tolerance (most - k) k s
         ≡ pick (optim-goes-on u (s′ .ell .tsq) tolerance) (optim-run rows table tolerance (most - (k + 1)) (suc k) s′) (leaves (optim-ended u (s′ .found) k) s′)
     unfolding optim-run
@@ -60,6 +60,6 @@ module _ (rows : ℕ) (table : List Float) (tolerance : Float) (most : ℕ) wher
     pub optim-ends : optim-goes-on u (s′ .ell .tsq) tolerance ≡ false → (r : OptimAnswer) → r ≡ optim-ended u (s′ .found) k → leaves r s′ ≡ optim-run rows table tolerance (most - k) k s
     optim-ends g r q = ap (λ (a : OptimAnswer). leaves a s′) q ∙ sym (optim-turn ∙ is-skip _ _ _ g)
 
-  pub optim-out : (k : ℕ) (s : OptimSpace) → most ≤ k → optim-run rows table tolerance (most - k) k s ≡ leaves (EndedOptim (record { found = s .found; steps = k })) s
+  pub optim-out : (k : ℕ) (s : OptimState) → most ≤ k → optim-run rows table tolerance (most - k) k s ≡ leaves (EndedOptim (record { found = s .found; steps = k })) s
   unfolding optim-run
   optim-out k s h = rw (none-left most k h)

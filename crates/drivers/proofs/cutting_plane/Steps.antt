@@ -17,14 +17,14 @@ use Rattle.oracles.specs.declared.lowpass_oracle.Assessed.{Assessed}
 use Rattle.oracles.specs.declared.lowpass_oracle.AssessedOptim.{AssessedOptim}
 use Rattle.oracles.specs.declared.lowpass_oracle.Verdict.the-variants.{Feasible as IsFeasible, Cut as IsCut, Refused as NotAssessed}
 use Rattle.oracles.specs.declared.lowpass_oracle.OptimVerdict.the-variants.{Improved, Cut as CutOptim, Refused as NotOptim}
-use Rattle.drivers.specs.CuttingPlane.{Space, said-of, feas-cut, feas-step, OptimSpace, kept, optim-updated, optim-cut, optim-step}
+use Rattle.drivers.specs.CuttingPlane.{State, said-of, feas-cut, feas-step, OptimState, kept, optim-updated, optim-cut, optim-step}
 use Rattle.drivers.specs.declared.cutting_plane.OptimStep.{OptimStep}
 use Rattle.drivers.specs.declared.cutting_plane.Said.{Said}
 use Rattle.drivers.specs.declared.cutting_plane.Said.the-variants.{Feasible, Refused}
 
 -- ---- cutting_plane_feas: the assessment r left the gradient g
 
-module _ (rows : ℕ) (table : List Float) (s : Space) (r : Assessed) (g : List Float) (e : (r, g) ≡ assess-feas-answer (s .oracle) (s .ell .ndim) rows table (s .buffers .xc) (s .grad)) where
+module _ (rows : ℕ) (table : List Float) (s : State) (r : Assessed) (g : List Float) (e : (r, g) ≡ assess-feas-answer (s .oracle) (s .ell .ndim) rows table (s .buffers .xc) (s .grad)) where
   assessed : feas-cut s (r .oracle) (r .verdict) g ≡ feas-step rows table s
   unfolding feas-step
   assessed = ap (λ (a : Assessed × List Float). feas-cut s (a .0 .oracle) (a .0 .verdict) (a .1)) e
@@ -46,13 +46,13 @@ module _ (rows : ℕ) (table : List Float) (s : Space) (r : Assessed) (g : List 
 
 -- ---- cutting_plane_optim: the same, and what the step says of itself, q
 
-module _ (rows : ℕ) (table : List Float) (s : OptimSpace) (r : AssessedOptim) (g : List Float) (e : (r, g) ≡ assess-optim-answer (s .oracle) (s .gamma) (s .ell .ndim) rows table (s .buffers .xc) (s .grad)) where
+module _ (rows : ℕ) (table : List Float) (s : OptimState) (r : AssessedOptim) (g : List Float) (e : (r, g) ≡ assess-optim-answer (s .oracle) (s .gamma) (s .ell .ndim) rows table (s .buffers .xc) (s .grad)) where
   optim-assessed : optim-cut s (r .oracle) (r .gamma) (r .verdict) g ≡ optim-step rows table s
   unfolding optim-step
   optim-assessed = ap (λ (a : AssessedOptim × List Float). optim-cut s (a .0 .oracle) (a .0 .gamma) (a .0 .verdict) (a .1)) e
 
   -- q, with the buffers b, the gradient and x_best as they are left
-  abbrev pub stepped : OptimStep → EllBuffers → List Float → Update × OptimSpace
+  abbrev pub stepped : OptimStep → EllBuffers → List Float → Update × OptimState
   stepped q b best = (q .answer, record { oracle = q .oracle; ell = q .ell; buffers = b; grad = g; gamma = q .gamma; found = q .found; best = best })
 
   -- the update u left the buffers b

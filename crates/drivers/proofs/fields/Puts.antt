@@ -10,7 +10,7 @@ use lib.Dec.{leb}
 use lib.ListN.{length, drop, getD, drop-of-length-le}
 use lib.Seq.{drop-cons}
 use lib.Ieee.{Float, nan}
-use Rattle.numbers.specs.Bits.{bitsOf, leBytes, putBytes}
+use Rattle.numbers.specs.Bits.{bits-of, le-bytes, put-bytes}
 use Rattle.numbers.specs.laws.Bits.{length-bytes, put-fits}
 use Rattle.numbers.specs.laws.Pick.{says-no, says-yes}
 use Rattle.drivers.specs.Text.{joined}
@@ -43,19 +43,19 @@ module _ (out : List ℕ) (at : ℕ) (text : List ℕ) (size : ℕ) (long : leng
 pub integer-room : (out : List ℕ) (at k : ℕ) (r : Bool) → r ≡ leb (at + k) (length out) → not r ≡ false → at + k ≤ length out
 integer-room out at k r e h = leb-true (at + k) (length out) (says-yes r _ e h)
 
-pub integer-put : (out : List ℕ) (at k w : ℕ) (r : Bool) (o : List ℕ) → r ≡ leb (at + k) (length out) → not r ≡ false → o ≡ putBytes out at k w → (at + k, o) ≡ put out at (leBytes k w)
+pub integer-put : (out : List ℕ) (at k w : ℕ) (r : Bool) (o : List ℕ) → r ≡ leb (at + k) (length out) → not r ≡ false → o ≡ put-bytes out at k w → (at + k, o) ≡ put out at (le-bytes k w)
 integer-put out at k w r o e h p =
     let l = length-bytes k w in
     let f = integer-room out at k r e h in
-    (λ i. (at + sym l i, (p ∙ sym (put-fits out at k w f)) i)) ∙ piece-fits out at (leBytes k w) (omega (arith, l))
+    (λ i. (at + sym l i, (p ∙ sym (put-fits out at k w f)) i)) ∙ piece-fits out at (le-bytes k w) (omega (arith, l))
 
 -- the number after i of them
-pub numbers-turn : (out : List ℕ) (end : ℕ) (xs : List Float) (i w : ℕ) (r : ℕ × List ℕ) → i < length xs → w ≡ bitsOf (getD xs i nan) → r ≡ put out end (leBytes 8 w)
+pub numbers-turn : (out : List ℕ) (end : ℕ) (xs : List Float) (i w : ℕ) (r : ℕ × List ℕ) → i < length xs → w ≡ bits-of (getD xs i nan) → r ≡ put out end (le-bytes 8 w)
     → put-all out end (number-pieces (drop i xs)) ≡ put-all (r .1) (r .0) (number-pieces (drop (i + 1) xs))
 unfolding put-all
 numbers-turn out end xs i w r h e p =
     ap (λ (l : List Float). put-all out end (number-pieces l)) (drop-cons xs i nan h)
-    ∙ ap (λ (q : ℕ × List ℕ). put-all (q .1) (q .0) (number-pieces (drop (suc i) xs))) (sym (p ∙ ap (λ (v : ℕ). put out end (leBytes 8 v)) e))
+    ∙ ap (λ (q : ℕ × List ℕ). put-all (q .1) (q .0) (number-pieces (drop (suc i) xs))) (sym (p ∙ ap (λ (v : ℕ). put out end (le-bytes 8 v)) e))
     ∙ ap (λ (k : ℕ). put-all (r .1) (r .0) (number-pieces (drop k xs))) (sym (add-one i))
 
 -- the last of them
@@ -67,9 +67,9 @@ numbers-done out end xs i all h e = put-none out end ∙ ap (λ (l : List Float)
 pub field-long : (tag : ℕ) (content : List ℕ) (size : ℕ) → length content ≡ size → length (field-bytes (tag, content)) ≡ 3 + size
 field-long tag content size e = length-field (tag, content) ∙ ap (λ (n : ℕ). 3 + n) e
 
-pub integer-field : (tag k w : ℕ) → joined (header tag k ∷ leBytes k w ∷ []) ≡ field-bytes (tag, leBytes k w)
+pub integer-field : (tag k w : ℕ) → joined (header tag k ∷ le-bytes k w ∷ []) ≡ field-bytes (tag, le-bytes k w)
 unfolding joined
-integer-field tag k w = (λ i. header tag (sym (length-bytes k w) i) ++ append-nil (leBytes k w) i)
+integer-field tag k w = (λ i. header tag (sym (length-bytes k w) i) ++ append-nil (le-bytes k w) i)
 
 pub numbers-field : (tag : ℕ) (xs : List Float) → joined (header tag (8 * length xs) ∷ number-pieces xs) ≡ field-bytes (tag, number-bytes xs)
 unfolding joined

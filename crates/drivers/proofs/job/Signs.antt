@@ -8,7 +8,7 @@ use lib.IntN.{pos, _-ℤ_}
 use mir.Syntax.{w32}
 use mir.Val.{SFits, toZ, ofZ}
 use mir.Facts.{toZ-pos, toZ-ofZ}
-use Rattle.drivers.specs.Job.{partOf, signed}
+use Rattle.drivers.specs.Job.{part-of, signed}
 use Rattle.numbers.specs.laws.Pick.{by-test}
 
 -- a number of 16 bits, and what is left of it
@@ -34,5 +34,5 @@ reads-half h l = toZ-pos w32 (omega arith)
 pub reads-less : (h k : ℕ) → h < 65536 → k ≤ 65536 → toZ w32 (ofZ w32 (toZ w32 h -ℤ pos k)) ≡ pos h -ℤ pos k
 reads-less h k l b = rw (reads-half h l) (toZ-ofZ (less-fits h k l b))
 
-pub part-small : (w k : ℕ) → partOf w k < 65536
+pub part-small : (w k : ℕ) → part-of w k < 65536
 part-small w k = omega arith

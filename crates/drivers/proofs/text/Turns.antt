@@ -9,7 +9,7 @@ use borrow.Author.Tests.{lt-ltb, le-ltb}
 use lib.Dec.{ltb}
 use lib.ListN.{length, take, drop, set, getD, length-set}
 use lib.Seq.{paste, paste-zero, paste-suc, take-length}
-use Rattle.drivers.specs.Text.{digitChar, digitsOf, digit-count-to, digit-count}
+use Rattle.drivers.specs.Text.{digit-char, digits-of, digit-count-to, digit-count}
 use Rattle.drivers.specs.laws.Text.{put-fits, digits-more, length-digits, put}
 use Rattle.numbers.specs.laws.Pick.{is-hit, is-skip}
 use Rattle.numbers.specs.Over.{over}
@@ -51,16 +51,16 @@ pub record Down (base w : ℕ) (out₀ out : List ℕ) (end i rest : ℕ) : Type
   pub room : end ≤ length out₀
   pub long : length out ≡ length out₀
   pub left : rest ≡ shift base (end - i) w
-  pub is : out ≡ over out₀ i (digitsOf base (end - i) w)
+  pub is : out ≡ over out₀ i (digits-of base (end - i) w)
 
 module _ (base w : ℕ) (out₀ : List ℕ) (end : ℕ) where
   pub down-start : end ≤ length out₀ → Down base w out₀ out₀ end end w
-  unfolding shift digitsOf
+  unfolding shift digits-of
   down-start h =
       let z : end - end ≡ 0 = omega arith in
       record { within = omega arith; room = h; long = refl; left = rw z; is = rw z (sym (over-none out₀ end)) }
 
-  down-suc : (out : List ℕ) (k rest v : ℕ) → Down base w out₀ out end (suc k) rest → v ≡ digitChar (rest % base) → Down base w out₀ (set out k v) end k (rest / base)
+  down-suc : (out : List ℕ) (k rest v : ℕ) → Down base w out₀ out end (suc k) rest → v ≡ digit-char (rest % base) → Down base w out₀ (set out k v) end k (rest / base)
   down-suc out k rest v h e =
       let j = end - suc k in
       let s : end - k ≡ suc j = omega (arith, h .within) in
@@ -72,26 +72,26 @@ module _ (base w : ℕ) (out₀ : List ℕ) (end : ℕ) where
         is =
             rw s
             (ap (λ (o : List ℕ). set o k v) (h .is)
-            ∙ store-before out₀ k (digitsOf base j w) v (omega (arith, h .within, h .room, length-digits base j w))
-            ∙ ap (λ (d : ℕ). over out₀ k (d ∷ digitsOf base j w)) (e ∙ ap (λ (n : ℕ). digitChar (n % base)) (h .left))
+            ∙ store-before out₀ k (digits-of base j w) v (omega (arith, h .within, h .room, length-digits base j w))
+            ∙ ap (λ (d : ℕ). over out₀ k (d ∷ digits-of base j w)) (e ∙ ap (λ (n : ℕ). digit-char (n % base)) (h .left))
             ∙ ap (over out₀ k) (sym (digits-more base j w)));
       }
 
-  pub down-turn : (out : List ℕ) (i rest v : ℕ) → Down base w out₀ out end i rest → 0 < i → v ≡ digitChar (rest % base)
+  pub down-turn : (out : List ℕ) (i rest v : ℕ) → Down base w out₀ out end i rest → 0 < i → v ≡ digit-char (rest % base)
       → Down base w out₀ (set out (i - 1) v) end (i - 1) (rest / base)
   down-turn out i rest v h p e =
       let s : i ≡ suc (i - 1) = omega arith in
       down-suc out (i - 1) rest v (subst (λ (n : ℕ). Down base w out₀ out end n rest) s h) e
 
 pub down-done : (base w count at : ℕ) (out₀ out : List ℕ) (i rest : ℕ) → Down base w out₀ out (at + count) i rest → at ≤ i → i ≤ at
-    → (at + count, out) ≡ put out₀ at (digitsOf base count w)
+    → (at + count, out) ≡ put out₀ at (digits-of base count w)
 down-done base w count at out₀ out i rest h l m =
     let e : i ≡ at = omega arith in
     let n : at + count - at ≡ count = omega arith in
     let d = length-digits base count w in
-    let f : at + length (digitsOf base count w) ≤ length out₀ = rw d (h .room) in
-    (λ k. (at + d′ d k, (h .is ∙ ap (λ (z : ℕ). over out₀ z (digitsOf base (at + count - z) w)) e ∙ ap (λ (z : ℕ). over out₀ at (digitsOf base z w)) n) k))
-    ∙ put-fits out₀ at (digitsOf base count w) f
+    let f : at + length (digits-of base count w) ≤ length out₀ = rw d (h .room) in
+    (λ k. (at + d′ d k, (h .is ∙ ap (λ (z : ℕ). over out₀ z (digits-of base (at + count - z) w)) e ∙ ap (λ (z : ℕ). over out₀ at (digits-of base z w)) n) k))
+    ∙ put-fits out₀ at (digits-of base count w) f
   where
     d′ : {m : ℕ} → m ≡ count → count ≡ m
     d′ p = sym p

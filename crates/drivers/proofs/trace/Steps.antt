@@ -16,7 +16,7 @@ use Rattle.numbers.specs.laws.Refusal.{failed, held, at-first, at-next, refuses
 use Rattle.numbers.specs.laws.Pick.{hit, skip}
 use Rattle.oracles.specs.Ell.{EllBuffers}
 use Rattle.drivers.specs.laws.Text.{put-front, put-all}
-use Rattle.drivers.specs.CuttingPlane.{Space, check-space, feas-step, goes-on, feas-ended}
+use Rattle.drivers.specs.CuttingPlane.{State, check-space, feas-step, goes-on, feas-ended}
 use Rattle.drivers.specs.Trace.{said-pieces, last-pieces, ended-pieces, space-of, run-at, step-printed, limit-printed, not-printed, next-tests, next-answer}
 use Rattle.drivers.specs.laws.Trace.{last-most, step-pieces}
 use Rattle.drivers.specs.declared.answer.Answer.{Answer}
@@ -27,7 +27,7 @@ use Rattle.drivers.specs.declared.trace.Printed.{Printed}
 
 module _ (run : Run) (table : List Float) (b : EllBuffers) (grad : List Float) (out : List ℕ) where
   -- the pieces of the step, and the rest of its text; the number of the next one
-  pub step-shown : (said : Said) (s : Space) (more : Bool) (rest : List (List ℕ)) (r : ℕ × List ℕ) (k : ℕ) (next : Run) → 128 ≤ length out
+  pub step-shown : (said : Said) (s : State) (more : Bool) (rest : List (List ℕ)) (r : ℕ × List ℕ) (k : ℕ) (next : Run) → 128 ≤ length out
       → (said, s) ≡ feas-step (run .rows) table (space-of run b grad) → more ≡ goes-on said (s .ell .tsq) (run .options .tolerance)
       → rest ≡ pick more [] (ended-pieces (feas-ended said (run .niter))) → r ≡ put-all out 0 (said-pieces (run .niter) said ++ rest)
       → k ≡ pick more (suc (run .niter)) (run .niter) → next ≡ run-at run s k

@@ -8,28 +8,28 @@ use borrow.Author.Tests.{ltb-true, ltb-false, leb-true, lt-leb, le-leb}
 use lib.Dec.{leb, ltb}
 use lib.ListN.{length}
 use Rattle.numbers.specs.Refusal.{_⨾_, ask}
-use Rattle.numbers.specs.Arr.{isDimension}
+use Rattle.numbers.specs.Arr.{is-dimension}
 use Rattle.numbers.specs.laws.Pick.{and-parts, is-hit, is-skip}
 use Rattle.numbers.specs.laws.Refusal.{both-sound, ask-sound}
 use Rattle.numbers.specs.laws.Arr.{length-tab}
 use Rattle.numbers.specs.declared.refusal.Refusal.the-variants.{Dimension, Room}
 use Rattle.numbers.specs.declared.refusal.Fault.the-variants.{Sound}
 use Rattle.drivers.specs.Rules.{found-place}
-use Rattle.drivers.specs.Record.{numberAt, numbersAt, fields-of, place, lengths-fault}
+use Rattle.drivers.specs.Record.{number-at, numbers-at, fields-of, place, lengths-fault}
 use Rattle.drivers.specs.Answer.{has-point, point-at, answer-walk, outcome-fault, answer-fault, point-room, read-answer-tests}
 
 -- n is in its range, and a point that is there has room
 pub record AnswerSound (n : ℕ) (places : List ℕ) (room : ℕ) : Type 0 where
-  pub dimension : isDimension n ≡ true
+  pub dimension : is-dimension n ≡ true
   pub has-room : has-point places ≡ true → n ≤ room
 
 -- the room that a point needs: n numbers, or none
 module _ (n : ℕ) (bytes places : List ℕ) where
   found-long : has-point places ≡ true → length (point-at n bytes places) ≡ n
-  found-long h = ap length (is-hit (has-point places) (numbersAt bytes (place places found-place) n) [] h) ∙ length-tab (λ k. numberAt bytes (place places found-place) k) n
+  found-long h = ap length (is-hit (has-point places) (numbers-at bytes (place places found-place) n) [] h) ∙ length-tab (λ k. number-at bytes (place places found-place) k) n
 
   none-long : has-point places ≡ false → length (point-at n bytes places) ≡ 0
-  none-long h = ap length (is-skip (has-point places) (numbersAt bytes (place places found-place) n) [] h)
+  none-long h = ap length (is-skip (has-point places) (numbers-at bytes (place places found-place) n) [] h)
 
   pub no-room : (room : ℕ) → (has-point places && ltb room n) ≡ true → leb (length (point-at n bytes places)) room ≡ false
   no-room room h =
@@ -50,6 +50,6 @@ answer-sound n bytes room e =
     let p = both-sound (answer-fault n bytes) (point-room (point-at n bytes places) room) e in
     let rest = answer-walk bytes .0 ⨾ lengths-fault n bytes (fields-of bytes) ⨾ outcome-fault bytes places in
     record {
-      dimension = ask-sound (isDimension n) Dimension 0 (both-sound (ask (isDimension n) Dimension) rest (p .0) .0);
+      dimension = ask-sound (is-dimension n) Dimension 0 (both-sound (ask (is-dimension n) Dimension) rest (p .0) .0);
       has-room = λ h. rw (← found-long n bytes places h) (leb-true (length (point-at n bytes places)) room (ask-sound (leb (length (point-at n bytes places)) room) Room 0 (p .1)));
     }

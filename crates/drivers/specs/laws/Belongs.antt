@@ -8,7 +8,7 @@ use lib.Dec.{eqb}
 use lib.ListN.{length}
 use lib.Ieee.{Float}
 use Rattle.numbers.specs.Pick.{pick}
-use Rattle.numbers.specs.Arr.{isDimension}
+use Rattle.numbers.specs.Arr.{is-dimension}
 use Rattle.numbers.specs.Refusal.{is-fault}
 use Rattle.numbers.specs.laws.Refusal.{failed, held, at-first, at-next, refuses, by-tests}
 use Rattle.numbers.specs.declared.refusal.Refusal.the-variants.{Dimension, Length}
@@ -113,11 +113,11 @@ module _ (j : Job) (table x : List Float) (a : Answer) (point grad : List Float)
 
   -- ---- the answer, from what the code's tests and its assessment r of the point p said, which left the gradient g
 
-  pub no-dimension : isDimension (j .n) ≡ false → (Refused Dimension, grad) ≡ belongs-answer j table x a point grad
+  pub no-dimension : is-dimension (j .n) ≡ false → (Refused Dimension, grad) ≡ belongs-answer j table x a point grad
   unfolding belongs-answer
   no-dimension d = refuses _ _ _ (at-first _ (at-first _ (failed d))) refl
 
-  pub no-length : isDimension (j .n) ≡ true → (eqb (length x) (j .n) && eqb (length point) (j .n)) ≡ false → (Refused Length, grad) ≡ belongs-answer j table x a point grad
+  pub no-length : is-dimension (j .n) ≡ true → (eqb (length x) (j .n) && eqb (length point) (j .n)) ≡ false → (Refused Length, grad) ≡ belongs-answer j table x a point grad
   unfolding belongs-answer
   no-length d h =
       refuses _ _ _ (at-first _ (at-next (held _ _ d) (failed (neither (eqb (length table) (j .rows * j .n)) (eqb (length x) (j .n)) (eqb (length point) (j .n)) (eqb (length grad) (j .n)) h)))) refl

@@ -12,7 +12,7 @@ use lib.Seq.{take-at, set-getD, take-append-le, drop-append-add, drop-append-le,
 use lib.Ieee.{Float, nan, binary64, fits}
 use lib.Ieee.Bits.{ofBits-toBits, toBits-lt}
 use Rattle.numbers.specs.Pick.{pick}
-use Rattle.numbers.specs.Bits.{floatOf, bitsOf, leNumber, leBytes, wordAt}
+use Rattle.numbers.specs.Bits.{float-of, bits-of, le-number, le-bytes, word-at}
 use Rattle.numbers.specs.laws.Bits.{length-bytes, bytes-again, word-low}
 use Rattle.numbers.specs.laws.Arr.{tab-ext, tab-cong}
 use Rattle.numbers.specs.laws.Pick.{is-hit, is-skip, pick-cong}
@@ -23,10 +23,10 @@ use Rattle.numbers.specs.declared.refusal.Fault.the-variants.{Sound, At}
 use Rattle.drivers.specs.declared.rules.Form.{Form}
 use Rattle.drivers.specs.Text.{joined}
 use Rattle.drivers.specs.laws.Text.{joined-append}
-use Rattle.drivers.specs.Record.{tagAt, lengthAt, indexAt, overruns, after, contentOf, numberAt, numbersAt, fields-of, is-met, noted, field-fault, walk-of, missing-fault, record-fault, lengths-fault, row-count, rows-of}
+use Rattle.drivers.specs.Record.{tag-at, length-at, index-at, overruns, after, content-of, number-at, numbers-at, fields-of, is-met, noted, field-fault, walk-of, missing-fault, record-fault, lengths-fault, row-count, rows-of}
 use Rattle.drivers.specs.laws.Record.{fields-after, fields-start, fields-turn, fields-end}
 use Rattle.drivers.specs.Fields.{Field, header, field-bytes, record-bytes, number-bytes}
-use Rattle.drivers.specs.Rules.{rules, ruleAt, is-of, repeats, indexOf, ruleLength, row-place}
+use Rattle.drivers.specs.Rules.{rules, rule-at, is-of, repeats, index-of, rule-length, row-place}
 
 -- every number of a list is one of the format, as each f64 is
 abbrev pub AllF64 : List Float → Type 0
@@ -37,48 +37,48 @@ AllF64 xs = (i : ℕ) → i < length xs → T (fits binary64 (getD xs i nan))
 pub length-numbers : (xs : List Float) → length (number-bytes xs) ≡ 8 * length xs
 unfolding joined
 length-numbers [] = refl
-length-numbers (x ∷ xs) = length-append (leBytes 8 (bitsOf x)) (number-bytes xs) ∙ omega (arith, length-bytes 8 (bitsOf x), length-numbers xs)
+length-numbers (x ∷ xs) = length-append (le-bytes 8 (bits-of x)) (number-bytes xs) ∙ omega (arith, length-bytes 8 (bits-of x), length-numbers xs)
 
 pub length-field : (f : Field) → length (field-bytes f) ≡ 3 + length (f .1)
-unfolding leBytes
+unfolding le-bytes
 length-field f = length-append (header (f .0) (length (f .1))) (f .1)
 
 -- the number at the front of a content, and those behind it
 module _ (x : Float) (rest : List ℕ) where
-  front-again : T (fits binary64 x) → floatOf (wordAt (leBytes 8 (bitsOf x) ++ rest) 0) ≡ x
-  unfolding wordAt
+  front-again : T (fits binary64 x) → float-of (word-at (le-bytes 8 (bits-of x) ++ rest) 0) ≡ x
+  unfolding word-at
   front-again h =
-      ap (λ (l : List ℕ). floatOf (leNumber l)) (take-at (leBytes 8 (bitsOf x)) rest 8 (length-bytes 8 (bitsOf x)))
-      ∙ ap floatOf (bytes-again 8 (bitsOf x) (toBits-lt binary64 x h))
+      ap (λ (l : List ℕ). float-of (le-number l)) (take-at (le-bytes 8 (bits-of x)) rest 8 (length-bytes 8 (bits-of x)))
+      ∙ ap float-of (bytes-again 8 (bits-of x) (toBits-lt binary64 x h))
       ∙ ofBits-toBits binary64 x h
 
-  behind : (i : ℕ) → wordAt (leBytes 8 (bitsOf x) ++ rest) (8 * suc i) ≡ wordAt rest (8 * i)
-  unfolding wordAt
+  behind : (i : ℕ) → word-at (le-bytes 8 (bits-of x) ++ rest) (8 * suc i) ≡ word-at rest (8 * i)
+  unfolding word-at
   behind i =
-      let b = leBytes 8 (bitsOf x) in
-      let e : 8 * suc i ≡ length b + 8 * i = omega (arith, length-bytes 8 (bitsOf x)) in
-      ap (λ (k : ℕ). leNumber (take 8 (drop k (b ++ rest)))) e ∙ ap (λ (l : List ℕ). leNumber (take 8 l)) (drop-append-add b rest (8 * i))
+      let b = le-bytes 8 (bits-of x) in
+      let e : 8 * suc i ≡ length b + 8 * i = omega (arith, length-bytes 8 (bits-of x)) in
+      ap (λ (k : ℕ). le-number (take 8 (drop k (b ++ rest)))) e ∙ ap (λ (l : List ℕ). le-number (take 8 l)) (drop-append-add b rest (8 * i))
 
-number-again : (xs : List Float) (rest : List ℕ) → AllF64 xs → (i : ℕ) → i < length xs → getD xs i nan ≡ floatOf (wordAt (number-bytes xs ++ rest) (8 * i))
+number-again : (xs : List Float) (rest : List ℕ) → AllF64 xs → (i : ℕ) → i < length xs → getD xs i nan ≡ float-of (word-at (number-bytes xs ++ rest) (8 * i))
 unfolding joined
 number-again [] rest h i l = absurd (omega (arith, l))
 number-again (x ∷ xs) rest h zero l =
-    sym (ap (λ (b : List ℕ). floatOf (wordAt b 0)) (append-assoc (leBytes 8 (bitsOf x)) (number-bytes xs) rest) ∙ front-again x (number-bytes xs ++ rest) (h 0 l))
+    sym (ap (λ (b : List ℕ). float-of (word-at b 0)) (append-assoc (le-bytes 8 (bits-of x)) (number-bytes xs) rest) ∙ front-again x (number-bytes xs ++ rest) (h 0 l))
 number-again (x ∷ xs) rest h (suc i) l =
     number-again xs rest (λ j m. h (suc j) (omega arith)) i (omega arith)
-    ∙ sym (ap (λ (b : List ℕ). floatOf (wordAt b (8 * suc i))) (append-assoc (leBytes 8 (bitsOf x)) (number-bytes xs) rest) ∙ ap floatOf (behind x (number-bytes xs ++ rest) i))
+    ∙ sym (ap (λ (b : List ℕ). float-of (word-at b (8 * suc i))) (append-assoc (le-bytes 8 (bits-of x)) (number-bytes xs) rest) ∙ ap float-of (behind x (number-bytes xs ++ rest) i))
 
 -- numbers that were written are read again; integers: `word-low`
-pub numbers-read : (bytes : List ℕ) (p : ℕ) (xs : List Float) (rest : List ℕ) → AllF64 xs → drop p bytes ≡ number-bytes xs ++ rest → numbersAt bytes p (length xs) ≡ xs
-unfolding numberAt
+pub numbers-read : (bytes : List ℕ) (p : ℕ) (xs : List Float) (rest : List ℕ) → AllF64 xs → drop p bytes ≡ number-bytes xs ++ rest → numbers-at bytes p (length xs) ≡ xs
+unfolding number-at
 numbers-read bytes p xs rest h e =
-    sym (tab-ext (λ i. floatOf (wordAt (drop p bytes) (8 * i))) (length xs) xs refl (λ i l. number-again xs rest h i l ∙ sym (ap (λ (b : List ℕ). floatOf (wordAt b (8 * i))) e)))
+    sym (tab-ext (λ i. float-of (word-at (drop p bytes) (8 * i))) (length xs) xs refl (λ i l. number-again xs rest h i l ∙ sym (ap (λ (b : List ℕ). float-of (word-at b (8 * i))) e)))
 
 -- ---- a field that stands in a record, with `rest` behind it
 
 pub record Stands (bytes : List ℕ) (at : ℕ) (f : Field) (rest : List ℕ) : Type 0 where
-  pub tag-is : tagAt bytes at ≡ f .0
-  pub length-is : lengthAt bytes at ≡ length (f .1)
+  pub tag-is : tag-at bytes at ≡ f .0
+  pub length-is : length-at bytes at ≡ length (f .1)
   pub whole : at + (3 + length (f .1)) ≤ length bytes
   pub content-is : drop (at + 3) bytes ≡ f .1 ++ rest
   pub next-is : drop (at + (3 + length (f .1))) bytes ≡ rest
@@ -93,12 +93,12 @@ header-is w tag size e t s = (omega arith, omega arith)
 
 module _ (bytes : List ℕ) where
   pub stands : (at : ℕ) (f : Field) (rest : List ℕ) → Writable f → drop at bytes ≡ field-bytes f ++ rest → Stands bytes at f rest
-  unfolding leBytes
+  unfolding le-bytes
   stands at f rest h e =
       let size = length (f .1) in
       let split = append-assoc (header (f .0) size) (f .1) rest in
       let low = word-low bytes at 3 (f .0 + 256 * size) (f .1 ++ rest) (omega arith) (omega (arith, h .0, h .1)) (e ∙ split) in
-      let head = header-is (wordAt bytes at) (f .0) size low (h .0) (h .1) in
+      let head = header-is (word-at bytes at) (f .0) size low (h .0) (h .1) in
       let content = sym (drop-drop 3 at bytes) ∙ ap (drop 3) (e ∙ split) in
       let long = sym (length-drop at bytes) ∙ ap length e ∙ length-append (field-bytes f) rest in
       let n : at + 3 + size ≡ at + (3 + size) = omega arith in
@@ -113,32 +113,32 @@ module _ (bytes : List ℕ) where
   -- nothing of it is cut short
   module _ {at : ℕ} {f : Field} {rest : List ℕ} (s : Stands bytes at f rest) where
     not-over : overruns bytes at ≡ false
-    not-over = le-ltb (length bytes - at) (3 + lengthAt bytes at) (omega (arith, s .whole, s .length-is))
+    not-over = le-ltb (length bytes - at) (3 + length-at bytes at) (omega (arith, s .whole, s .length-is))
 
-    pub content-at : contentOf bytes at ≡ at + 3
+    pub content-at : content-of bytes at ≡ at + 3
     content-at = is-skip _ _ _ (le-ltb (length bytes - at) 3 (omega (arith, s .whole)))
 
-    pub index-is : indexAt bytes at ≡ indexOf (f .0)
-    index-is = ap indexOf (s .tag-is)
+    pub index-is : index-at bytes at ≡ index-of (f .0)
+    index-is = ap index-of (s .tag-is)
 
     after-is : after bytes at ≡ at + (3 + length (f .1))
     unfolding after
     after-is = is-skip _ _ _ not-over ∙ ap (λ (k : ℕ). at + (3 + k)) (s .length-is)
 
     -- numbers that the content holds
-    pub numbers-are : (n : ℕ) → 8 * n ≤ length (f .1) → numbersAt bytes (at + 3) n ≡ numbersAt (f .1) 0 n
-    unfolding numberAt wordAt
-    numbers-are n h = tab-cong (numberAt bytes (at + 3)) (numberAt (f .1) 0) n each
+    pub numbers-are : (n : ℕ) → 8 * n ≤ length (f .1) → numbers-at bytes (at + 3) n ≡ numbers-at (f .1) 0 n
+    unfolding number-at word-at
+    numbers-are n h = tab-cong (number-at bytes (at + 3)) (number-at (f .1) 0) n each
       where
-        each : (k : ℕ) → k < n → numberAt bytes (at + 3) k ≡ numberAt (f .1) 0 k
+        each : (k : ℕ) → k < n → number-at bytes (at + 3) k ≡ number-at (f .1) 0 k
         each k l =
-            ap (λ (b : List ℕ). floatOf (leNumber (take 8 (drop (8 * k) b)))) (s .content-is)
-            ∙ ap (λ (b : List ℕ). floatOf (leNumber (take 8 b))) (drop-append-le (8 * k) (f .1) rest (omega arith))
-            ∙ ap (λ (b : List ℕ). floatOf (leNumber b)) (take-append-le 8 (drop (8 * k) (f .1)) rest (omega (arith, length-drop (8 * k) (f .1))))
+            ap (λ (b : List ℕ). float-of (le-number (take 8 (drop (8 * k) b)))) (s .content-is)
+            ∙ ap (λ (b : List ℕ). float-of (le-number (take 8 b))) (drop-append-le (8 * k) (f .1) rest (omega arith))
+            ∙ ap (λ (b : List ℕ). float-of (le-number b)) (take-append-le 8 (drop (8 * k) (f .1)) rest (omega (arith, length-drop (8 * k) (f .1))))
 
 -- the length that the table asks of a row
-pub size-row : (n : ℕ) → ruleLength row-place n ≡ 8 * n
-unfolding ruleLength ruleAt rules
+pub size-row : (n : ℕ) → rule-length row-place n ≡ 8 * n
+unfolding rule-length rule-at rules
 size-row n = let e : n ^ 1 ≡ n = rw (pow-suc, pow-zero) (one-mul n) in omega arith
 
 -- ---- folds over a list of fields, of which the first begins at `at`
@@ -164,29 +164,29 @@ tag-fault form places at i = ask-at at (is-of form i) ForeignTag ⨾ ask-at at (
 unfoldable pub walk-tags : Form → ℕ → List Field → List ℕ → Fault × List ℕ
 walk-tags form at [] places = (Sound, places)
 walk-tags form at (f ∷ fs) places =
-    let i = indexOf (f .0) in
+    let i = index-of (f .0) in
     let g = tag-fault form places at i in
     pick (is-fault g) (g, places) (walk-tags form (past at f) fs (noted places i (at + 3)))
 
 -- the lengths, by tags and lengths alone
 abbrev pub is-sized : ℕ → Field → Bool
-is-sized n f = eqb (length (f .1)) (ruleLength (indexOf (f .0)) n)
+is-sized n f = eqb (length (f .1)) (rule-length (index-of (f .0)) n)
 
 unfoldable pub sizes-fault : ℕ → ℕ → List Field → Fault
 sizes-fault n at [] = Sound
 sizes-fault n at (f ∷ fs) = ask-at at (is-sized n f) Length ⨾ sizes-fault n (past at f) fs
 
 abbrev pub Sized : ℕ → Field → Type 0
-Sized n f = length (f .1) ≡ ruleLength (indexOf (f .0)) n
+Sized n f = length (f .1) ≡ rule-length (index-of (f .0)) n
 
 pub sizes-sound : (n : ℕ) (fs : List Field) (at : ℕ) → Each (Sized n) fs → sizes-fault n at fs ≡ Sound
 unfolding sizes-fault Each pick
 sizes-sound n [] at h = refl
-sizes-sound n (f ∷ fs) at h = rw (eq-eqb (length (f .1)) (ruleLength (indexOf (f .0)) n) (h .0)) (sizes-sound n fs (past at f) (h .1))
+sizes-sound n (f ∷ fs) at h = rw (eq-eqb (length (f .1)) (rule-length (index-of (f .0)) n) (h .0)) (sizes-sound n fs (past at f) (h .1))
 
 -- the rows
 abbrev pub is-row-field : Field → Bool
-is-row-field f = eqb (indexOf (f .0)) row-place
+is-row-field f = eqb (index-of (f .0)) row-place
 
 unfoldable pub count-rows : List Field → ℕ
 count-rows [] = 0
@@ -194,7 +194,7 @@ count-rows (f ∷ fs) = pick (is-row-field f) 1 0 + count-rows fs
 
 unfoldable pub all-rows : ℕ → List Field → List Float
 all-rows n [] = []
-all-rows n (f ∷ fs) = pick (is-row-field f) (numbersAt (f .1) 0 n) [] ++ all-rows n fs
+all-rows n (f ∷ fs) = pick (is-row-field f) (numbers-at (f .1) 0 n) [] ++ all-rows n fs
 
 -- ---- the walk over some fields and then others, and over fields of one tag that may repeat
 
@@ -207,21 +207,21 @@ pub walk-on : (form : Form) (fs gs : List Field) (at : ℕ) (places places′ : 
 unfolding walk-tags joined
 walk-on form [] gs at places places′ e = (λ i. walk-tags form (sym (add-zero at) i) gs (e i .1))
 walk-on form (f ∷ fs) gs at places places′ e =
-    let g = tag-fault form places at (indexOf (f .0)) in
+    let g = tag-fault form places at (index-of (f .0)) in
     let n : past at f + length (record-bytes fs) ≡ at + length (record-bytes (f ∷ fs)) = omega (arith, length-append (field-bytes f) (record-bytes fs), length-field f) in
-    let t = first-sound g places (walk-tags form (past at f) fs (noted places (indexOf (f .0)) (at + 3))) places′ e in
-    is-skip (is-fault g) (g, places) _ t ∙ walk-on form fs gs (past at f) (noted places (indexOf (f .0)) (at + 3)) places′ (sym (is-skip (is-fault g) (g, places) _ t) ∙ e)
+    let t = first-sound g places (walk-tags form (past at f) fs (noted places (index-of (f .0)) (at + 3))) places′ e in
+    is-skip (is-fault g) (g, places) _ t ∙ walk-on form fs gs (past at f) (noted places (index-of (f .0)) (at + 3)) places′ (sym (is-skip (is-fault g) (g, places) _ t) ∙ e)
     ∙ ap (λ (k : ℕ). walk-tags form k gs places′) n
 
 pub noted-met : (places : List ℕ) (i p : ℕ) → is-met places i ≡ true → noted places i p ≡ places
 noted-met places i p h = ap (set places i) (is-skip _ _ _ (not-true _ h)) ∙ set-getD places i 0
 
-pub walk-many : (form : Form) (i : ℕ) (fs : List Field) (at : ℕ) (places : List ℕ) → is-of form i ≡ true → repeats i ≡ true → is-met places i ≡ true → Each (λ f. indexOf (f .0) ≡ i) fs
+pub walk-many : (form : Form) (i : ℕ) (fs : List Field) (at : ℕ) (places : List ℕ) → is-of form i ≡ true → repeats i ≡ true → is-met places i ≡ true → Each (λ f. index-of (f .0) ≡ i) fs
     → walk-tags form at fs places ≡ (Sound, places)
 unfolding walk-tags Each
 walk-many form i [] at places o r m h = refl
 walk-many form i (f ∷ fs) at places o r m h =
-    let e : indexOf (f .0) ≡ i = h .0 in
+    let e : index-of (f .0) ≡ i = h .0 in
     is-skip _ _ _ (ap is-fault (ap (tag-fault form places at) e ∙ sound))
     ∙ ap (walk-tags form (past at f) fs) (ap (λ (k : ℕ). noted places k (at + 3)) e ∙ noted-met places i (at + 3) m) ∙ walk-many form i fs (past at f) places o r m (h .1)
   where
@@ -257,9 +257,9 @@ module _ (bytes : List ℕ) where
   walk-is form [] at places w e = refl
   walk-is form (f ∷ fs) at places w e =
       let s = stands bytes at f (record-bytes fs) (w .0) e in
-      let i = indexOf (f .0) in
+      let i = index-of (f .0) in
       let fault = ap (λ (k : ℕ). field-fault-of k) (index-is bytes s) ∙ field-sound form places at i _ _ (le-leb 3 (length bytes - at) (omega (arith, s .whole))) (not-over bytes s) in
-      ap (λ (g : Fault). pick (is-fault g) (g, places) (walk-of bytes form (starts (past at f) fs) (noted places (indexAt bytes at) (contentOf bytes at)))) fault
+      ap (λ (g : Fault). pick (is-fault g) (g, places) (walk-of bytes form (starts (past at f) fs) (noted places (index-at bytes at) (content-of bytes at)))) fault
       ∙ ap (λ (r : Fault × List ℕ). pick (is-fault (tag-fault form places at i)) (tag-fault form places at i, places) r)
       ((λ j. walk-of bytes form (starts (past at f) fs) (noted places (index-is bytes s j) (content-at bytes s j))) ∙ walk-is form fs (past at f) (noted places i (at + 3)) (w .1) (s .next-is))
     where
@@ -271,7 +271,7 @@ module _ (bytes : List ℕ) where
   lengths-are n [] at w e = refl
   lengths-are n (f ∷ fs) at w e =
       let s = stands bytes at f (record-bytes fs) (w .0) e in
-      (λ j. ask-at at (eqb (s .length-is j) (ruleLength (index-is bytes s j) n)) Length ⨾ lengths-are n fs (past at f) (w .1) (s .next-is) j)
+      (λ j. ask-at at (eqb (s .length-is j) (rule-length (index-is bytes s j) n)) Length ⨾ lengths-are n fs (past at f) (w .1) (s .next-is) j)
 
   rows-are : (n : ℕ) (fs : List Field) (at : ℕ) → Each Writable fs → Each (Sized n) fs → drop at bytes ≡ record-bytes fs
       → (row-count bytes (starts at fs) ≡ count-rows fs) × (rows-of n bytes (starts at fs) ≡ all-rows n fs)
@@ -280,15 +280,15 @@ module _ (bytes : List ℕ) where
   rows-are n (f ∷ fs) at w z e =
       let s = stands bytes at f (record-bytes fs) (w .0) e in
       let r = rows-are n fs (past at f) (w .1) (z .1) (s .next-is) in
-      let numbers : is-row-field f ≡ true → numbersAt bytes (contentOf bytes at) n ≡ numbersAt (f .1) 0 n =
-      λ t. ap (λ (p : ℕ). numbersAt bytes p n) (content-at bytes s) ∙ numbers-are bytes s n (omega (arith, z .0, row-size n (f .0) t)) in (
+      let numbers : is-row-field f ≡ true → numbers-at bytes (content-of bytes at) n ≡ numbers-at (f .1) 0 n =
+      λ t. ap (λ (p : ℕ). numbers-at bytes p n) (content-at bytes s) ∙ numbers-are bytes s n (omega (arith, z .0, row-size n (f .0) t)) in (
         (λ j. pick (eqb (index-is bytes s j) row-place) 1 0 + r .0 j),
-        ap (λ (i : ℕ). pick (eqb i row-place) (numbersAt bytes (contentOf bytes at) n) [] ++ rows-of n bytes (starts (past at f) fs)) (index-is bytes s)
+        ap (λ (i : ℕ). pick (eqb i row-place) (numbers-at bytes (content-of bytes at) n) [] ++ rows-of n bytes (starts (past at f) fs)) (index-is bytes s)
             ∙ (λ j. pick-cong (is-row-field f) {b = []} numbers (λ _. refl) j ++ r .1 j),
       )
     where
-      row-size : (n tag : ℕ) → eqb (indexOf tag) row-place ≡ true → ruleLength (indexOf tag) n ≡ 8 * n
-      row-size n tag t = ap (λ (i : ℕ). ruleLength i n) (eqb-true (indexOf tag) row-place t) ∙ size-row n
+      row-size : (n tag : ℕ) → eqb (index-of tag) row-place ≡ true → rule-length (index-of tag) n ≡ 8 * n
+      row-size n tag t = ap (λ (i : ℕ). rule-length i n) (eqb-true (index-of tag) row-place t) ∙ size-row n
 
 -- ---- the laws of a written record
 
@@ -315,7 +315,7 @@ module _ (fs : List Field) (w : Each Writable fs) where
 
 -- the content of a field that has others before and behind it
 pub content-written : (fs : List Field) (f : Field) (gs : List Field) → drop (length (record-bytes fs) + 3) (record-bytes (fs ++ f ∷ gs)) ≡ f .1 ++ record-bytes gs
-unfolding joined leBytes
+unfolding joined le-bytes
 content-written fs f gs =
     ap (λ (l : List (List ℕ)). drop (length (record-bytes fs) + 3) (joined l)) (map-append field-bytes fs (f ∷ gs))
     ∙ ap (drop (length (record-bytes fs) + 3)) (joined-append (map field-bytes fs) (map field-bytes (f ∷ gs)))

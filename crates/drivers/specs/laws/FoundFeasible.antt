@@ -11,7 +11,7 @@ use lib.Ieee.{Float}
 use Rattle.oracles.specs.Verdict.{judge, is-feasible}
 use Rattle.oracles.specs.Ell.{EllBuffers}
 use Rattle.drivers.specs.Record.{fronted}
-use Rattle.drivers.specs.CuttingPlane.{Space, feas-run, kept, is-found, run-tests, feas-answer}
+use Rattle.drivers.specs.CuttingPlane.{State, feas-run, kept, is-found, run-tests, feas-answer}
 use Rattle.drivers.specs.Job.{read-job-answer}
 use Rattle.drivers.specs.Belongs.{feasible-for, is-of}
 use Rattle.drivers.specs.laws.StepRight.{right-fits}
@@ -29,7 +29,7 @@ use Rattle.numbers.specs.laws.Over.{front-over}
 
 -- An answer, r, to a job whose point is x. Its steps are within the job's limit. A point that is found is feasible for the job.
 -- Where the limit allows a step, an answer without a point belongs to the job too: its own point is not feasible.
-pub record Answered (j : Job) (table x : List Float) (r : FeasAnswer × Space × List Float) : Type 0 where
+pub record Answered (j : Job) (table x : List Float) (r : FeasAnswer × State × List Float) : Type 0 where
   pub answer : Answer
   pub answer-is : r .0 ≡ Ended answer
   pub steps-within : answer .steps ≤ j .options .«max_iters»
@@ -48,10 +48,10 @@ module _ (j : Job) (h : JobSound j) (table : List Float) (b : EllBuffers) (grad 
         belongs = λ k. sym (both-ways (e .answer .found) (λ f. sym (found f)) (λ f. sym (ap not (e .none-feasible f k))));
       })
     where
-      s : Space
+      s : State
       s = job-space j b grad
 
-      r : FeasAnswer × Space
+      r : FeasAnswer × State
       r = feas-run (j .rows) table (j .options .tolerance) (j .options .«max_iters») 0 s
 
       e : RunEnded (j .rows) table (j .options .«max_iters») 0 s r

@@ -7,7 +7,7 @@ use borrow.Author.Tests.{leb-true}
 use lib.Dec.{leb, eqb}
 use lib.IntN.{ℤ, pos, _-ℤ_}
 use lib.Signed.{leZ}
-use Rattle.numbers.specs.Arr.{isDimension}
+use Rattle.numbers.specs.Arr.{is-dimension}
 use Rattle.numbers.specs.laws.Arr.{dimension-most}
 use Rattle.numbers.specs.declared.refusal.Refusal.the-variants.{Dimension, Length, Band, Cursor}
 use Rattle.numbers.specs.declared.refusal.Fault.{Fault}
@@ -15,43 +15,43 @@ use Rattle.numbers.specs.declared.refusal.Fault.the-variants.{Sound}
 use Rattle.numbers.specs.laws.Pick.{is-hit, and-parts}
 use Rattle.numbers.specs.Refusal.{is-fault, _⨾_, ask-at}
 use Rattle.numbers.specs.laws.Refusal.{no-fault, both-sound, ask-sound}
-use Rattle.oracles.specs.Scan.{none, isRows}
-use Rattle.oracles.specs.LowpassOracle.{start-oracle, isOf, bands-fit, cursors-fit}
+use Rattle.oracles.specs.Scan.{none, is-rows}
+use Rattle.oracles.specs.LowpassOracle.{start-oracle, has-band, bands-fit, cursors-fit}
 use Rattle.oracles.specs.laws.Start.{start-before}
 use Rattle.oracles.specs.declared.lowpass_oracle.LowpassOracle.{LowpassOracle}
-use Rattle.drivers.specs.Record.{lengthAt, startOf, halfAt, fields-of, lengths-fault, place}
+use Rattle.drivers.specs.Record.{length-at, start-of, half-at, fields-of, lengths-fault, place}
 use Rattle.drivers.specs.Job.{row-end, job-oracle, job-at, job-walk, size-fault, job-fault}
 use Rattle.drivers.specs.declared.job.Job.{Job}
-use Rattle.drivers.specs.Rules.{ruleLength, bands-place, cursors-place, n-place}
+use Rattle.drivers.specs.Rules.{rule-length, bands-place, cursors-place, n-place}
 
 -- the range of a dimension that no fault comes from
-pub size-sound : (rule least : ℕ) (bytes : List ℕ) (p : ℕ) → size-fault rule least bytes p ≡ Sound → (leb least (halfAt bytes p) && leb (halfAt bytes p) 32) ≡ true
+pub size-sound : (rule least : ℕ) (bytes : List ℕ) (p : ℕ) → size-fault rule least bytes p ≡ Sound → (leb least (half-at bytes p) && leb (half-at bytes p) 32) ≡ true
 unfolding size-fault
 size-sound rule least bytes p e =
-    let own = ask-at (startOf p) (eqb (lengthAt bytes (startOf p)) (ruleLength rule 0)) Length in
-    let range = ask-at (startOf p) (leb least (halfAt bytes p) && leb (halfAt bytes p) 32) Dimension in
-    ask-sound _ Dimension (startOf p) (both-sound own range e .1)
+    let own = ask-at (start-of p) (eqb (length-at bytes (start-of p)) (rule-length rule 0)) Length in
+    let range = ask-at (start-of p) (leb least (half-at bytes p) && leb (half-at bytes p) 32) Dimension in
+    ask-sound _ Dimension (start-of p) (both-sound own range e .1)
 
-pub size-small : (rule least : ℕ) (bytes : List ℕ) (p : ℕ) (f : Fault) → f ≡ size-fault rule least bytes p → is-fault f ≡ false → halfAt bytes p ≤ 32
-size-small rule least bytes p f e t = leb-true (halfAt bytes p) 32 (and-parts (leb least (halfAt bytes p)) _ (size-sound rule least bytes p (sym e ∙ no-fault f t)) .1)
+pub size-small : (rule least : ℕ) (bytes : List ℕ) (p : ℕ) (f : Fault) → f ≡ size-fault rule least bytes p → is-fault f ≡ false → half-at bytes p ≤ 32
+size-small rule least bytes p f e t = leb-true (half-at bytes p) 32 (and-parts (leb least (half-at bytes p)) _ (size-sound rule least bytes p (sym e ∙ no-fault f t)) .1)
 
 -- ---- what a job has that is read
 
 pub record JobSound (j : Job) : Type 0 where
-  pub dimension : isDimension (j .n) ≡ true
+  pub dimension : is-dimension (j .n) ≡ true
   pub bands : bands-fit (job-oracle j) (j .rows) ≡ true
   pub cursors : cursors-fit (job-oracle j) ≡ true
 
 -- a count of rows that a table can have
-pub sound-rows : (j : Job) → JobSound j → isRows (j .rows) ≡ true
+pub sound-rows : (j : Job) → JobSound j → is-rows (j .rows) ≡ true
 sound-rows j h =
     let o = job-oracle j in
-    let b₃ = and-parts _ (isOf (o .rr3) (o .nwstop) (pos (j .rows))) (h .bands) in
-    let b₂ = and-parts _ (isOf (o .rr2) (o .nwpass) (o .nwstop)) (b₃ .0) in
-    let b₁ = and-parts _ (isOf (o .rr1) (pos 0) (o .nwpass)) (b₂ .0) in
+    let b₃ = and-parts _ (has-band (o .rr3) (o .nwstop) (pos (j .rows))) (h .bands) in
+    let b₂ = and-parts _ (has-band (o .rr2) (o .nwpass) (o .nwstop)) (b₃ .0) in
+    let b₁ = and-parts _ (has-band (o .rr1) (pos 0) (o .nwpass)) (b₂ .0) in
     let h₃ = and-parts _ (leZ (o .nwstop) (pos (j .rows))) (b₁ .0) in
     let h₂ = and-parts _ (leZ (o .nwpass) (o .nwstop)) (h₃ .0) in
-    and-parts (isRows (j .rows)) (leZ (pos 0) (o .nwpass)) (h₂ .0) .0
+    and-parts (is-rows (j .rows)) (leZ (pos 0) (o .nwpass)) (h₂ .0) .0
 
 pub rows-from : (j : Job) → JobSound j → 1 ≤ j .rows
 rows-from j h = leb-true 1 (j .rows) (and-parts (leb 1 (j .rows)) (leb (j .rows) 1024) (sound-rows j h) .0)
@@ -80,8 +80,8 @@ sound-job bytes e =
     let j = job-at bytes places in
     let f₁ = size-fault n-place 2 bytes (place places n-place) in
     let f₂ = lengths-fault (j .n) bytes (fields-of bytes) in
-    let f₃ = ask-at (startOf (place places bands-place)) (bands-fit (job-oracle j) (j .rows)) Band in
-    let f₄ = ask-at (startOf (place places cursors-place)) (cursors-fit (job-oracle j)) Cursor in
+    let f₃ = ask-at (start-of (place places bands-place)) (bands-fit (job-oracle j) (j .rows)) Band in
+    let f₄ = ask-at (start-of (place places cursors-place)) (cursors-fit (job-oracle j)) Cursor in
     let s₁ = both-sound f₁ (f₂ ⨾ f₃ ⨾ f₄) (both-sound (job-walk bytes .0) (f₁ ⨾ f₂ ⨾ f₃ ⨾ f₄) e .1) in
     let s₃ = both-sound f₃ f₄ (both-sound f₂ (f₃ ⨾ f₄) (s₁ .1) .1) in
     record {

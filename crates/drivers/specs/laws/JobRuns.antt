@@ -19,8 +19,8 @@ use Rattle.numbers.specs.Refusal.{_⨾_, unless}
 use Rattle.numbers.specs.laws.Refusal.{both-sound, ask-sound}
 use Rattle.oracles.specs.Ell.{EllBuffers}
 use Rattle.oracles.specs.laws.EllCalls.{EllLong, ell-makes}
-use Rattle.drivers.specs.Record.{numberAt, numbersAt, fields-of, row-count, rows-of, is-row, rows-in, contentOf, fronted, place}
-use Rattle.drivers.specs.CuttingPlane.{Space, check-space, feas-run}
+use Rattle.drivers.specs.Record.{number-at, numbers-at, fields-of, row-count, rows-of, is-row, rows-in, content-of, fronted, place}
+use Rattle.drivers.specs.CuttingPlane.{State, check-space, feas-run}
 use Rattle.drivers.specs.Job.{FullJob, job-oracle, job-at, full-job-at, job-walk, full-job, job-fault, has-room, room-fault, read-job-answer}
 use Rattle.drivers.specs.laws.Job.{JobSound, sound-job}
 use Rattle.drivers.specs.Trace.{run-of, new-run-answer, space-of}
@@ -53,8 +53,8 @@ pub rows-long : (n : ℕ) (bytes fields : List ℕ) → length (rows-of n bytes 
 unfolding rows-of row-count
 rows-long n bytes [] = sym (zero-mul n)
 rows-long n bytes (at ∷ rest) =
-    length-append (pick (is-row bytes at) (numbersAt bytes (contentOf bytes at) n) []) (rows-of n bytes rest)
-    ∙ omega (arith, row-long (is-row bytes at) n (numbersAt bytes (contentOf bytes at) n) (length-tab _ n), rows-long n bytes rest, add-mul (rows-in bytes at) (row-count bytes rest) n)
+    length-append (pick (is-row bytes at) (numbers-at bytes (content-of bytes at) n) []) (rows-of n bytes rest)
+    ∙ omega (arith, row-long (is-row bytes at) n (numbers-at bytes (content-of bytes at) n) (length-tab _ n), rows-long n bytes rest, add-mul (rows-in bytes at) (row-count bytes rest) n)
 
 -- the numbers of a job are as many as it says
 pub record FullLong (f : FullJob) : Type 0 where
@@ -68,8 +68,8 @@ full-long bytes places =
     let n = job-at bytes places .n in
     record {
       table-is = rows-long n bytes (fields-of bytes);
-      point-is = length-tab (λ k. numberAt bytes (place places point-place) k) n;
-      matrix-is = length-tab (λ k. numberAt bytes (place places matrix-place) k) (n * n);
+      point-is = length-tab (λ k. number-at bytes (place places point-place) k) n;
+      matrix-is = length-tab (λ k. number-at bytes (place places matrix-place) k) (n * n);
     }
 
 -- what has room holds them
@@ -121,7 +121,7 @@ abbrev pub job-run : Job → Run
 job-run j =
     record { oracle = job-oracle j; ell = record { ndim = j .n; kappa = j .kappa; helper = made (j .n); tsq = 0ᶠ }; options = j .options; rows = j .rows; niter = 0 }
 
-abbrev pub job-space : Job → EllBuffers → List Float → Space
+abbrev pub job-space : Job → EllBuffers → List Float → State
 job-space j b grad = space-of (job-run j) b grad
 
 pub run-made : (j : Job) → JobSound j → new-run-answer j ≡ Made (job-run j)

@@ -10,11 +10,11 @@ use lib.Dec.{leb}
 use lib.ListN.{length, take}
 use lib.IntN.{ℤ}
 use lib.Ieee.{Float, lt}
-use Rattle.oracles.specs.Verdict.{feasible, Has, asked, judge, valueIn}
+use Rattle.oracles.specs.Verdict.{feasible, Has, asked, judge, value-in}
 use Rattle.oracles.specs.laws.Judge.{judge-feasible, unbroken-feasible}
 use Rattle.oracles.specs.declared.lowpass_oracle.LowpassOracle.{LowpassOracle}
 use Rattle.drivers.specs.Record.{fronted}
-use Rattle.drivers.specs.CuttingPlane.{OptimSpace, check-space, kept, plain, optim-step}
+use Rattle.drivers.specs.CuttingPlane.{OptimState, check-space, kept, plain, optim-step}
 use Rattle.drivers.specs.laws.StepRight.{right-fits}
 use Rattle.drivers.specs.laws.OptimRight.{offer-asked, Keeps, Passes, optim-step-right}
 use Rattle.numbers.specs.declared.refusal.Fault.the-variants.{Sound}
@@ -47,7 +47,7 @@ tighter o offer gamma n rows table x row e h =
     record {
       point-feasible = unbroken-feasible (asked o gamma n rows table x) (record {
         pass-rows = u .pass-rows;
-        stop-rows = λ i l m. rw (h .largest i l m) (or-parts (lt offer (valueIn (asked o offer n rows table x) i)) _ (u .stop-rows i l m) .1);
+        stop-rows = λ i l m. rw (h .largest i l m) (or-parts (lt offer (value-in (asked o offer n rows table x) i)) _ (u .stop-rows i l m) .1);
         middle-rows = u .middle-rows;
         sign-holds = u .sign-holds;
       });
@@ -58,12 +58,12 @@ tighter o offer gamma n rows table x row e h =
 -- ---- between the steps
 
 -- the space after so many steps
-unfoldable pub after-steps : ℕ → List Float → ℕ → OptimSpace → OptimSpace
+unfoldable pub after-steps : ℕ → List Float → ℕ → OptimState → OptimState
 after-steps rows table zero s = s
 after-steps rows table (suc i) s = optim-step rows table (after-steps rows table i s) .1
 
 -- after so many steps from s₀ the front of x_best is the centre that was feasible at one of them for the number offered there, and it is tight for gamma
-pub record Best (rows : ℕ) (table : List Float) (s₀ : OptimSpace) (taken : ℕ) (gamma : Float) (best : List Float) : Type 0 where
+pub record Best (rows : ℕ) (table : List Float) (s₀ : OptimState) (taken : ℕ) (gamma : Float) (best : List Float) : Type 0 where
   pub step : ℕ
   pub before : step < taken
   pub centre-is : take (s₀ .ell .ndim) best ≡ after-steps rows table step s₀ .buffers .xc
@@ -71,25 +71,25 @@ pub record Best (rows : ℕ) (table : List Float) (s₀ : OptimSpace) (taken : �
   pub tight : Tight (s₀ .oracle) (s₀ .ell .ndim) rows table gamma (take (s₀ .ell .ndim) best)
 
 -- it stays so after more steps that keep gamma and x_best
-pub best-later : (rows : ℕ) (table : List Float) (s₀ : OptimSpace) (taken taken′ : ℕ) (gamma gamma′ : Float) (best best′ : List Float) → taken ≤ taken′ → gamma′ ≡ gamma → best′ ≡ best
+pub best-later : (rows : ℕ) (table : List Float) (s₀ : OptimState) (taken taken′ : ℕ) (gamma gamma′ : Float) (best best′ : List Float) → taken ≤ taken′ → gamma′ ≡ gamma → best′ ≡ best
     → Best rows table s₀ taken gamma best → Best rows table s₀ taken′ gamma′ best′
 best-later rows table s₀ taken taken′ gamma gamma′ best best′ l e e′ b =
     subst (λ (z : List Float). Best rows table s₀ taken′ gamma′ z) (sym e′)
     (subst (λ (z : Float). Best rows table s₀ taken′ z best) (sym e)
     (record { step = b .step; before = omega (arith, l, b .before); centre-is = b .centre-is; offer-feasible = b .offer-feasible; tight = b .tight }))
 
-module _ (rows : ℕ) (table : List Float) (s₀ : OptimSpace) (k₀ : ℕ) where
+module _ (rows : ℕ) (table : List Float) (s₀ : OptimState) (k₀ : ℕ) where
   abbrev n : ℕ
   n = s₀ .ell .ndim
 
   -- x_best and gamma of s, after so many steps from s₀: a point that is found is the best, and without one nothing is written
-  pub record Held (taken : ℕ) (s : OptimSpace) : Type 0 where
+  pub record Held (taken : ℕ) (s : OptimState) : Type 0 where
     pub best-long : length (s .best) ≡ length (s₀ .best)
     pub best-is : s₀ .found ≡ false → n ≤ length (s₀ .best) → s .found ≡ true → Best rows table s₀ taken (s .gamma) (s .best)
     pub unwritten : s .found ≡ false → (s .best ≡ s₀ .best) × (s .gamma ≡ s₀ .gamma)
 
   -- s stands before step k of a run that began with s₀ at step k₀: the tests pass, and the questions stay
-  pub record Going (k : ℕ) (s : OptimSpace) : Type 0 where
+  pub record Going (k : ℕ) (s : OptimState) : Type 0 where
     pub taken : ℕ
     pub k-is : k ≡ k₀ + taken
     pub reached : s ≡ after-steps rows table taken s₀
@@ -110,16 +110,16 @@ module _ (rows : ℕ) (table : List Float) (s₀ : OptimSpace) (k₀ : ℕ) wher
     held = record { best-long = refl; best-is = λ f _ t. absurd (true≢false (sym t ∙ f)); unwritten = λ _. (refl, refl) };
   }
 
-  module _ (k : ℕ) (s : OptimSpace) (g : Going k s) where
+  module _ (k : ℕ) (s : OptimState) (g : Going k s) where
     -- a step that keeps its centre, and one that does not
-    keeps-held : (s′ : OptimSpace) → Keeps rows table s s′ → Held (suc (g .taken)) s′
+    keeps-held : (s′ : OptimState) → Keeps rows table s s′ → Held (suc (g .taken)) s′
     keeps-held s′ p = record {
       best-long = ap length (p .best-is) ∙ kept-long xc (s .best) ∙ g .held .best-long;
       best-is = λ _ room _. record {
         step = g .taken;
         before = omega arith;
-        centre-is = front room ∙ ap (λ (z : OptimSpace). z .buffers .xc) (g .reached);
-        offer-feasible = ap (λ (z : OptimSpace). judge (offer-asked rows table z)) (sym (g .reached)) ∙ p .centre-feasible;
+        centre-is = front room ∙ ap (λ (z : OptimState). z .buffers .xc) (g .reached);
+        offer-feasible = ap (λ (z : OptimState). judge (offer-asked rows table z)) (sym (g .reached)) ∙ p .centre-feasible;
         tight = tighter (s₀ .oracle) (s .gamma) (s′ .gamma) n rows table (take n (s′ .best)) (p .row) (ap judge (sym (same room)) ∙ p .centre-feasible) (subst (λ q. Has q (s′ .gamma) (p .row)) (same room) (p .value-is));
       };
       unwritten = λ f. absurd (true≢false (sym (p .found-is) ∙ f));
@@ -139,7 +139,7 @@ module _ (rows : ℕ) (table : List Float) (s₀ : OptimSpace) (k₀ : ℕ) wher
             ∙ g .asks-same (s .gamma) n xc
             ∙ ap (λ (x : List Float). asked (s₀ .oracle) (s .gamma) n rows table x) (sym (front room))
 
-    passes-held : (s′ : OptimSpace) → Passes s s′ → Held (suc (g .taken)) s′
+    passes-held : (s′ : OptimState) → Passes s s′ → Held (suc (g .taken)) s′
     passes-held s′ p = record {
       best-long = ap length (p .best-stays) ∙ g .held .best-long;
       best-is = λ f room t. best-later rows table s₀ (g .taken) (suc (g .taken)) (s .gamma) (s′ .gamma) (s .best) (s′ .best) (omega arith) (p .gamma-stays) (p .best-stays) (g .held .best-is f room (sym (p .found-stays) ∙ t));
@@ -154,7 +154,7 @@ module _ (rows : ℕ) (table : List Float) (s₀ : OptimSpace) (k₀ : ℕ) wher
         record {
           taken = suc (g .taken);
           k-is = omega (arith, g .k-is);
-          reached = ap (λ (z : OptimSpace). optim-step rows table z .1) (g .reached);
+          reached = ap (λ (z : OptimState). optim-step rows table z .1) (g .reached);
           right = h .right;
           ndim-is = h .ndim-stays ∙ g .ndim-is;
           asks-same = λ gamma m x. h .asks-same gamma m x ∙ g .asks-same gamma m x;

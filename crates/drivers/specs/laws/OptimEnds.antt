@@ -12,7 +12,7 @@ use Rattle.oracles.specs.Verdict.{feasible, judge, no-stop-value}
 use Rattle.oracles.specs.Numbered.{update-number}
 use Rattle.oracles.specs.declared.ell_common.Update.{Update}
 use Rattle.oracles.specs.declared.ell_common.Update.the-variants.{Status, Refused as NotUpdated}
-use Rattle.drivers.specs.CuttingPlane.{OptimSpace, OptimLeft, check-space, plain, leaves, optim-step, optim-goes-on, optim-ended, run-tests, optim-run, optim-answer}
+use Rattle.drivers.specs.CuttingPlane.{OptimState, OptimLeft, check-space, plain, leaves, optim-step, optim-goes-on, optim-ended, run-tests, optim-run, optim-answer}
 use Rattle.drivers.specs.Numbered.{optim-number}
 use Rattle.drivers.specs.laws.OptimRight.{offer-asked, OptimStepped, optim-step-right}
 use Rattle.drivers.specs.laws.OptimBest.{Best, best-later, Going, start, next}
@@ -25,12 +25,12 @@ use Rattle.numbers.specs.laws.Refusal.{held, at-next, accepts}
 
 -- A run that began with s₀ at step k₀ has answered r after the steps k, k + 1, .. of which so many were left: it has ended, or was halted by 6 at one of them.
 -- It leaves what stood before a step: the one after the last. Where it is halted, that is the halted step itself, which is refused by 6, on a centre that is feasible for gamma while no stop value compares.
-pub record OptimRunEnded (rows : ℕ) (table : List Float) (s₀ : OptimSpace) (k₀ left k : ℕ) (r : OptimLeft) : Type 0 where
+pub record OptimRunEnded (rows : ℕ) (table : List Float) (s₀ : OptimState) (k₀ left k : ℕ) (r : OptimLeft) : Type 0 where
   pub answer : Answer
   pub outcome : ((r .answer ≡ EndedOptim answer) × (optim-number (r .answer) ≡ 0)) ⊎ ((r .answer ≡ Halted answer) × (optim-number (r .answer) ≡ 6))
   pub steps-from : k ≤ answer .steps
   pub steps-within : answer .steps ≤ k + left
-  pub final : OptimSpace
+  pub final : OptimState
   pub leaves-it : r ≡ leaves (r .answer) final
   pub found-is : answer .found ≡ final .found
   pub until : ℕ
@@ -41,9 +41,9 @@ pub record OptimRunEnded (rows : ℕ) (table : List Float) (s₀ : OptimSpace) (
   pub halted-by : optim-number (r .answer) ≡ 6 → update-number (optim-step rows table final .0) ≡ 6
   pub halted-where : optim-number (r .answer) ≡ 6 → (judge (offer-asked rows table final) ≡ feasible) × (no-stop-value (offer-asked rows table final) ≡ true)
 
-module _ (rows : ℕ) (table : List Float) (s₀ : OptimSpace) (k₀ : ℕ) where
+module _ (rows : ℕ) (table : List Float) (s₀ : OptimState) (k₀ : ℕ) where
   -- a step that is the last
-  last-step : (left k : ℕ) (s s′ : OptimSpace) (u : Update) → Going rows table s₀ k₀ k s → Going rows table s₀ k₀ (suc k) s′ → OptimStepped rows table s (u, s′)
+  last-step : (left k : ℕ) (s s′ : OptimState) (u : Update) → Going rows table s₀ k₀ k s → Going rows table s₀ k₀ (suc k) s′ → OptimStepped rows table s (u, s′)
       → update-number (optim-step rows table s .0) ≡ update-number u → OptimRunEnded rows table s₀ k₀ (suc left) k (leaves (optim-ended u (s′ .found) k) s′)
   last-step left k s s′ (Status status) g g′ h met = record {
     answer = record { found = s′ .found; steps = k };
@@ -69,8 +69,8 @@ module _ (rows : ℕ) (table : List Float) (s₀ : OptimSpace) (k₀ : ℕ) wher
         steps-from = omega arith;
         steps-within = omega arith;
         final = s;
-        leaves-it = ap (λ (z : OptimSpace). leaves (Halted (record { found = s′ .found; steps = k })) z) (halt .same);
-        found-is = ap (λ (z : OptimSpace). z .found) (halt .same);
+        leaves-it = ap (λ (z : OptimState). leaves (Halted (record { found = s′ .found; steps = k })) z) (halt .same);
+        found-is = ap (λ (z : OptimState). z .found) (halt .same);
         until = k;
         going = g;
         until-within = omega arith;
@@ -80,7 +80,7 @@ module _ (rows : ℕ) (table : List Float) (s₀ : OptimSpace) (k₀ : ℕ) wher
         halted-where = λ _. (halt .centre-feasible, halt .no-value);
       }
 
-  run-on : (tolerance : Float) (left k : ℕ) (s : OptimSpace) → Going rows table s₀ k₀ k s → OptimRunEnded rows table s₀ k₀ left k (optim-run rows table tolerance left k s)
+  run-on : (tolerance : Float) (left k : ℕ) (s : OptimState) → Going rows table s₀ k₀ k s → OptimRunEnded rows table s₀ k₀ left k (optim-run rows table tolerance left k s)
   unfolding optim-run
   run-on tolerance zero k s g = record {
     answer = record { found = s .found; steps = k };
@@ -127,7 +127,7 @@ module _ (rows : ℕ) (table : List Float) (s₀ : OptimSpace) (k₀ : ℕ) wher
   optim-run-ends right tolerance left = run-on tolerance left k₀ s₀ (start rows table s₀ k₀ right)
 
 -- so does the whole call, where x_best has room for the point
-pub optim-answered : (options : Options) (rows : ℕ) (table : List Float) (s : OptimSpace) → check-space rows table (plain s) ≡ Sound → s .ell .ndim ≤ length (s .best)
+pub optim-answered : (options : Options) (rows : ℕ) (table : List Float) (s : OptimState) → check-space rows table (plain s) ≡ Sound → s .ell .ndim ≤ length (s .best)
     → OptimRunEnded rows table s 0 (options .«max_iters») 0 (optim-answer options rows table s)
 unfolding optim-answer
 optim-answered options rows table s right room =
@@ -136,7 +136,7 @@ optim-answered options rows table s right room =
     (optim-run-ends rows table s 0 right (options .tolerance) (options .«max_iters»))
 
 -- and a point that it has found is the best: the centre of one of its steps
-pub optim-best : (options : Options) (rows : ℕ) (table : List Float) (s : OptimSpace) (right : check-space rows table (plain s) ≡ Sound) (room : s .ell .ndim ≤ length (s .best)) → s .found ≡ false
+pub optim-best : (options : Options) (rows : ℕ) (table : List Float) (s : OptimState) (right : check-space rows table (plain s) ≡ Sound) (room : s .ell .ndim ≤ length (s .best)) → s .found ≡ false
     → let r = optim-answer options rows table s in
     let e = optim-answered options rows table s right room in
     e .answer .found ≡ true → Best rows table s (suc (e .answer .steps)) (r .gamma) (r .best)

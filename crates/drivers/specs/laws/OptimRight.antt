@@ -10,7 +10,7 @@ use lib.ListN.{length}
 use lib.IntN.{ℤ}
 use lib.Ieee.{Float}
 use Rattle.numbers.specs.Pick.{pick}
-use Rattle.numbers.specs.Refusal.{refusalNumber}
+use Rattle.numbers.specs.Refusal.{refusal-number}
 use Rattle.numbers.specs.declared.refusal.Refusal.{Refusal}
 use Rattle.numbers.specs.declared.cut.CutChoice.{CutChoice}
 use Rattle.numbers.specs.laws.Pick.{and-parts}
@@ -31,7 +31,7 @@ use Rattle.oracles.specs.declared.lowpass_oracle.LowpassOracle.{LowpassOracle}
 use Rattle.oracles.specs.declared.lowpass_oracle.Verdict.the-variants.{Feasible as IsFeasible, Refused as NotAssessed}
 use Rattle.oracles.specs.declared.lowpass_oracle.OptimVerdict.{OptimVerdict}
 use Rattle.oracles.specs.declared.lowpass_oracle.OptimVerdict.the-variants.{Improved, Cut as CutOptim, Refused as NotOptim}
-use Rattle.drivers.specs.CuttingPlane.{OptimSpace, check-space, kept, plain, optim-updated, optim-cut, optim-step, optim-ended}
+use Rattle.drivers.specs.CuttingPlane.{OptimState, check-space, kept, plain, optim-updated, optim-cut, optim-step, optim-ended}
 use Rattle.drivers.specs.Numbered.{optim-number}
 use Rattle.drivers.specs.laws.StepRight.{Fitting, right-fits, fits-right, oracle-accepts, ell-accepts}
 use Rattle.drivers.specs.laws.Untouched.{is-improved, untouched}
@@ -40,7 +40,7 @@ use Rattle.numbers.specs.declared.refusal.Fault.the-variants.{Sound}
 -- ---- a step
 
 -- what a step asks: whether the centre is feasible for the offered number
-abbrev pub offer-asked : ℕ → List Float → OptimSpace → Question
+abbrev pub offer-asked : ℕ → List Float → OptimState → Question
 offer-asked rows table s = asked (s .oracle) (s .gamma) (s .ell .ndim) rows table (s .buffers .xc)
 
 abbrev pub is-halted : Update → Bool
@@ -48,14 +48,14 @@ is-halted (Status status) = false
 is-halted (NotUpdated why) = true
 
 -- a step that is refused: by 6, on a centre that is feasible for the offered number while no stop value compares, and nothing has changed
-pub record Halts (rows : ℕ) (table : List Float) (s s′ : OptimSpace) (why : Refusal) : Type 0 where
-  pub six : refusalNumber why ≡ 6
+pub record Halts (rows : ℕ) (table : List Float) (s s′ : OptimState) (why : Refusal) : Type 0 where
+  pub six : refusal-number why ≡ 6
   pub centre-feasible : judge (offer-asked rows table s) ≡ feasible
   pub no-value : no-stop-value (offer-asked rows table s) ≡ true
   pub same : s′ ≡ s
 
 -- a centre that is kept as the best point: it is feasible for the offered number, and the number that is left is its largest stop value
-pub record Keeps (rows : ℕ) (table : List Float) (s s′ : OptimSpace) : Type 0 where
+pub record Keeps (rows : ℕ) (table : List Float) (s s′ : OptimState) : Type 0 where
   pub centre-feasible : judge (offer-asked rows table s) ≡ feasible
   pub found-is : s′ .found ≡ true
   pub best-is : s′ .best ≡ kept true (s .buffers .xc) (s .best)
@@ -63,13 +63,13 @@ pub record Keeps (rows : ℕ) (table : List Float) (s s′ : OptimSpace) : Type 
   pub value-is : Has (offer-asked rows table s) (s′ .gamma) row
 
 -- a centre that is cut off, or halts: number and best point stay
-pub record Passes (s s′ : OptimSpace) : Type 0 where
+pub record Passes (s s′ : OptimState) : Type 0 where
   pub gamma-stays : s′ .gamma ≡ s .gamma
   pub found-stays : s′ .found ≡ s .found
   pub best-stays : s′ .best ≡ s .best
 
 -- a step from a space that is right
-pub record OptimStepped (rows : ℕ) (table : List Float) (s : OptimSpace) (r : Update × OptimSpace) : Type 0 where
+pub record OptimStepped (rows : ℕ) (table : List Float) (s : OptimState) (r : Update × OptimState) : Type 0 where
   pub halts : (why : Refusal) → r .0 ≡ NotUpdated why → Halts rows table s (r .1) why
   pub halted-is : is-halted (r .0) ≡ (is-feasible (judge (offer-asked rows table s)) && no-stop-value (offer-asked rows table s))
   pub keeps-or-passes : Keeps rows table s (r .1) ⊎ Passes s (r .1)
@@ -95,7 +95,7 @@ asks-by o o′ left e rows table gamma n x =
       x = x;
     }) e
 
-module _ (rows : ℕ) (table : List Float) (s : OptimSpace) (is-right : check-space rows table (plain s) ≡ Sound) where
+module _ (rows : ℕ) (table : List Float) (s : OptimState) (is-right : check-space rows table (plain s) ≡ Sound) where
   abbrev n : ℕ
   n = s .ell .ndim
 
@@ -110,7 +110,7 @@ module _ (rows : ℕ) (table : List Float) (s : OptimSpace) (is-right : check-sp
 
   -- a step that updates
   module _ (o : LowpassOracle) (gamma : Float) (g : List Float) (found : Bool) (best : List Float) (strategy : CutStrategy) (beta : CutChoice) where
-    abbrev after : Update × OptimSpace
+    abbrev after : Update × OptimState
     after = optim-updated s o gamma g found best (ell-update-answer (s .ell) strategy g beta (s .buffers))
 
     updates : is-accepted o n rows table (s .buffers .xc) g ≡ true → length g ≡ n → limits o ≡ limits (offered (s .oracle) (s .gamma))
@@ -146,12 +146,12 @@ module _ (rows : ℕ) (table : List Float) (s : OptimSpace) (is-right : check-sp
   cut-right o gamma (CutOptim group beta) g again l R same-o same-gamma same-g k =
       updates o gamma g (s .found) (s .best) BiasCut beta again l (k refl) (sym (R .six-is)) (inr (record { gamma-stays = same-gamma refl; found-stays = refl; best-stays = refl }))
   cut-right o gamma (NotOptim why) g again l R same-o same-gamma same-g k =
-      let t = six-feasible q (eqb (refusalNumber why) 6) why (R .verdict-is) in
+      let t = six-feasible q (eqb (refusal-number why) 6) why (R .verdict-is) in
       let both = sym (R .six-is) ∙ t .0 in
       let same : optim-cut s o gamma (NotOptim why) g .1 ≡ s = rw (same-o refl, same-gamma refl, same-g refl) in
       record {
         halts = λ why′ e. record {
-          six = (let z : why′ ≡ why = cc in rw z (eqb-true (refusalNumber why) 6 (t .0)));
+          six = (let z : why′ ≡ why = cc in rw z (eqb-true (refusal-number why) 6 (t .0)));
           centre-feasible = t .1;
           no-value = and-parts (is-feasible (judge q)) (no-stop-value q) both .1;
           same = same;
@@ -160,7 +160,7 @@ module _ (rows : ℕ) (table : List Float) (s : OptimSpace) (is-right : check-sp
         keeps-or-passes = inr (record { gamma-stays = same-gamma refl; found-stays = refl; best-stays = refl });
         ndim-stays = refl;
         asks-same = λ gamma′ n′ x. ap (λ (z : LowpassOracle). asked z gamma′ n′ rows table x) (same-o refl);
-        right = ap (λ (z : OptimSpace). check-space rows table (plain z)) same ∙ is-right;
+        right = ap (λ (z : OptimState). check-space rows table (plain z)) same ∙ is-right;
       }
 
   pub optim-step-right : OptimStepped rows table s (optim-step rows table s)
@@ -179,6 +179,6 @@ module _ (rows : ℕ) (table : List Float) (s : OptimSpace) (is-right : check-sp
   pub ended-number : (found : Bool) (k : ℕ) → optim-number (optim-ended (optim-step rows table s .0) found k) ≡ update-number (optim-step rows table s .0)
   ended-number found k = go (optim-step rows table s .0) (λ why e. optim-step-right .halts why e .six)
     where
-      go : (u : Update) → ((why : Refusal) → u ≡ NotUpdated why → refusalNumber why ≡ 6) → optim-number (optim-ended u found k) ≡ update-number u
+      go : (u : Update) → ((why : Refusal) → u ≡ NotUpdated why → refusal-number why ≡ 6) → optim-number (optim-ended u found k) ≡ update-number u
       go (Status status) f = refl
       go (NotUpdated why) f = sym (f why refl)

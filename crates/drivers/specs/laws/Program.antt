@@ -14,7 +14,7 @@ use Rattle.numbers.specs.Refusal.{_⨾_, unless}
 use Rattle.numbers.specs.laws.Refusal.{held, at-first, at-next, refuses, accepts, by-tests}
 use Rattle.oracles.specs.Ell.{EllBuffers}
 use Rattle.drivers.specs.Record.{fronted}
-use Rattle.drivers.specs.Job.{FullJob, job-oracle, optionsOf, job-at, full-job-at, job-walk, full-job, job-fault, has-room, room-fault, read-into, read-job-answer}
+use Rattle.drivers.specs.Job.{FullJob, job-oracle, options-of, job-at, full-job-at, job-walk, full-job, job-fault, has-room, room-fault, read-into, read-job-answer}
 use Rattle.drivers.specs.laws.Job.{JobSound, n-to, rows-to, sound-job}
 use Rattle.drivers.specs.Trace.{text-room, printed, input-tests, new-run-answer, opened-run, opened-read, with-slices, run-text, open-answer}
 use Rattle.numbers.specs.laws.Over.{front-over}
@@ -62,7 +62,7 @@ printed-front text out h =
 
 -- the step limit has 16 bits
 limit-small : (bytes places : List ℕ) → job-at bytes places .options .«max_iters» < 65536
-unfolding optionsOf job-at
+unfolding options-of job-at
 limit-small bytes places = omega arith
 
 -- numbers at the front of a list are its front

@@ -8,7 +8,7 @@ use lib.Dec.{ltb}
 use lib.ListN.{length, drop, take}
 use Rattle.numbers.specs.Pick.{pick}
 use Rattle.numbers.specs.laws.Pick.{is-hit, is-skip, pick-cong, by-test}
-use Rattle.drivers.specs.Record.{lengthAt, overruns, after, fields-from, fields-of, is-row, numbersAt, contentOf}
+use Rattle.drivers.specs.Record.{length-at, overruns, after, fields-from, fields-of, is-row, numbers-at, content-of}
 use lib.Ieee.{Float}
 
 -- ---- the fields from `at` on
@@ -20,7 +20,7 @@ module _ (bytes : List ℕ) where
   -- the next field begins further on, and at most at the end
   pub after-past : (at : ℕ) → at < length bytes → at < after bytes at
   unfolding after
-  after-past at h = by-test (λ z. at < z) (overruns bytes at) (length bytes) (at + (3 + lengthAt bytes at)) (λ _. h) (λ _. omega arith)
+  after-past at h = by-test (λ z. at < z) (overruns bytes at) (length bytes) (at + (3 + length-at bytes at)) (λ _. h) (λ _. omega arith)
 
   -- so a walk ends
   pub left-less : (at next : ℕ) → next ≡ after bytes at → at < length bytes → length bytes - next < length bytes - at
@@ -57,4 +57,4 @@ module _ (bytes : List ℕ) where
 -- the table when rows fill it up to k and the next field has been seen
 unfoldable pub row-filled : List ℕ → ℕ → ℕ → ℕ → List Float → ℕ × List Float
 row-filled bytes at n k table =
-    pick (is-row bytes at) (k + n, take k table ++ numbersAt bytes (contentOf bytes at) n ++ drop (k + n) table) (k, table)
+    pick (is-row bytes at) (k + n, take k table ++ numbers-at bytes (content-of bytes at) n ++ drop (k + n) table) (k, table)

@@ -10,7 +10,7 @@ use lib.Ieee.{Float}
 use Rattle.numbers.specs.declared.refusal.Refusal.{Refusal}
 use Rattle.numbers.specs.laws.Refusal.{both-sound, of-test, of-chain, by-tests}
 use Rattle.oracles.specs.laws.CursorRule.{NotSix, not-six}
-use Rattle.drivers.specs.CuttingPlane.{Space, OptimSpace, OptimLeft, checkOf, check-space, run-tests, plain, leaves, feas-answer, optim-answer}
+use Rattle.drivers.specs.CuttingPlane.{State, OptimState, OptimLeft, check-of, check-space, run-tests, plain, leaves, feas-answer, optim-answer}
 use Rattle.drivers.specs.Numbered.{optim-number}
 use Rattle.drivers.specs.laws.RunEnds.{run-ends}
 use Rattle.drivers.specs.laws.OptimEnds.{optim-run-ends}
@@ -36,26 +36,26 @@ was-halted (Halted a) = true
 was-halted (NotRunOptim why) = false
 
 -- the tests before a run refuse by 1 to 4, and 11
-run-not-six : (rows : ℕ) (table : List Float) (s : Space) (best : List Float) → NotSix (run-tests rows table s best)
-unfolding checkOf
+run-not-six : (rows : ℕ) (table : List Float) (s : State) (best : List Float) → NotSix (run-tests rows table s best)
+unfolding check-of
 run-not-six rows table s best = of-chain NotSix _ _ (not-six (s .oracle) (s .ell .ndim) rows _) (of-test NotSix _ _ _ (record { no = refl }) (record { no = refl }))
 
 module _ (options : Options) (rows : ℕ) (table : List Float) where
   -- `cutting_plane_feas`
-  pub feas-refused : (s : Space) (best : List Float) (why : Refusal) → feas-answer options rows table s best .0 ≡ NotRun why → feas-answer options rows table s best ≡ (NotRun why, s, best)
+  pub feas-refused : (s : State) (best : List Float) (why : Refusal) → feas-answer options rows table s best .0 ≡ NotRun why → feas-answer options rows table s best ≡ (NotRun why, s, best)
   unfolding feas-answer
   feas-refused s best why =
       by-tests P (run-tests rows table s best) _ _ (λ w place e. back w)
       (λ e h. absurd (true≢false (sym (ap is-refused h) ∙ ap is-refused (run-ends rows table (options .tolerance) (options .«max_iters») 0 s (both-sound (check-space rows table s) _ e .0) .answer-is))))
     where
-      P : FeasAnswer × Space × List Float → Type 0
+      P : FeasAnswer × State × List Float → Type 0
       P r = r .0 ≡ NotRun why → r ≡ (NotRun why, s, best)
 
       back : (w : Refusal) → P (NotRun w, s, best)
       back w h = ap (λ (a : FeasAnswer). (a, s, best)) h
 
   -- `cutting_plane_optim`
-  pub optim-refused : (s : OptimSpace) (why : Refusal) → optim-answer options rows table s .answer ≡ NotRunOptim why → optim-answer options rows table s ≡ leaves (NotRunOptim why) s
+  pub optim-refused : (s : OptimState) (why : Refusal) → optim-answer options rows table s .answer ≡ NotRunOptim why → optim-answer options rows table s ≡ leaves (NotRunOptim why) s
   unfolding optim-answer
   optim-refused s why =
       by-tests P (run-tests rows table (plain s) (s .best)) _ _ (λ w place e. back w)
@@ -74,7 +74,7 @@ module _ (options : Options) (rows : ℕ) (table : List Float) where
       begun a d (inr e) = ap is-refused-optim (e .0)
 
   -- the number 6 is told of a run that was halted, and of no other
-  pub six-halted : (s : OptimSpace) → eqb (optim-number (optim-answer options rows table s .answer)) 6 ≡ was-halted (optim-answer options rows table s .answer)
+  pub six-halted : (s : OptimState) → eqb (optim-number (optim-answer options rows table s .answer)) 6 ≡ was-halted (optim-answer options rows table s .answer)
   unfolding optim-answer
   six-halted s =
       by-tests P (run-tests rows table (plain s) (s .best)) _ _ (λ w place e. subst NotSix e (run-not-six rows table (plain s) (s .best)) .no)

@@ -9,9 +9,9 @@ use lib.Dec.{leb, ltb, eqb}
 use lib.ListN.{length, take, set}
 use lib.Ieee.{Float}
 use Rattle.numbers.specs.Pick.{pick, some}
-use Rattle.numbers.specs.Bits.{leBytes}
+use Rattle.numbers.specs.Bits.{le-bytes}
 use Rattle.numbers.specs.Over.{over}
-use Rattle.numbers.specs.Arr.{isDimension, sized}
+use Rattle.numbers.specs.Arr.{is-dimension, sized}
 use Rattle.numbers.specs.Refusal.{ask}
 use Rattle.numbers.specs.laws.Over.{over-none, front-over}
 use Rattle.numbers.specs.laws.Bits.{word-low}
@@ -22,7 +22,7 @@ use Rattle.numbers.specs.declared.refusal.Refusal.the-variants.{Dimension, Leng
 use Rattle.numbers.specs.declared.refusal.Fault.{Fault}
 use Rattle.numbers.specs.declared.refusal.Fault.the-variants.{Sound}
 use Rattle.drivers.specs.Text.{joined}
-use Rattle.drivers.specs.Record.{tagAt, halfAt, numbersAt, no-places, place, missing-fault, fronted}
+use Rattle.drivers.specs.Record.{tag-at, half-at, numbers-at, no-places, place, missing-fault, fronted}
 use Rattle.drivers.specs.Fields.{Field, record-bytes}
 use Rattle.drivers.specs.Answer.{has-point, outcome-byte, answer-at, point-at, answer-walk, outcome-fault, answer-fault, read-answer-answer, outcome-field, steps-field, point-field, answer-bytes, write-answer-tests, write-answer-answer}
 use Rattle.drivers.specs.laws.Answer.{room-there}
@@ -31,7 +31,7 @@ use Rattle.drivers.specs.declared.answer.Answer.{Answer}
 use Rattle.drivers.specs.declared.answer.AnswerRead.the-variants.{Read}
 use Rattle.drivers.specs.declared.answer.AnswerWritten.{AnswerWritten}
 use Rattle.drivers.specs.declared.answer.AnswerWritten.the-variants.{Bytes, Refused as NotWritten}
-use Rattle.drivers.specs.Rules.{rules, ruleAt, indexIn, indexOf, ruleLength, answer-form, outcome-place, steps-place, found-place}
+use Rattle.drivers.specs.Rules.{rules, rule-at, index-in, index-of, rule-length, answer-form, outcome-place, steps-place, found-place}
 
 -- ---- fields that an answer's reader takes, and where it finds their contents
 
@@ -40,12 +40,12 @@ module _ (n : ℕ) (fs : List Field) (places : List ℕ) (point : List Float) wh
   bytes = record-bytes fs
 
   record Taken : Type 0 where
-    dimension : isDimension n ≡ true
+    dimension : is-dimension n ≡ true
     writable : Each Writable fs
     sized : Each (Sized n) fs
     walked : walk-tags answer-form 0 fs no-places ≡ (Sound, places)
     none-missing : missing-fault (length bytes) answer-form places ≡ Sound
-    outcome : tagAt bytes (place places outcome-place) ≡ outcome-byte (has-point places)
+    outcome : tag-at bytes (place places outcome-place) ≡ outcome-byte (has-point places)
     room : (has-point places && ltb (length point) n) ≡ false
 
   module _ (t : Taken) where
@@ -69,21 +69,21 @@ module _ (n : ℕ) (fs : List Field) (places : List ℕ) (point : List Float) wh
 abbrev head-places : List ℕ
 head-places = set (set no-places outcome-place 3) steps-place 7
 
-module _ (n s : ℕ) (point : List Float) (dimension : isDimension n ≡ true) (small : s < 65536) where
+module _ (n s : ℕ) (point : List Float) (dimension : is-dimension n ≡ true) (small : s < 65536) where
   module _ (t : Bool) (o : outcome-byte t < 256) (fs : List Field) where
     abbrev written : List ℕ
     written = record-bytes (outcome-field t ∷ steps-field s ∷ fs)
 
-    outcome-read : tagAt written 3 ≡ outcome-byte t
+    outcome-read : tag-at written 3 ≡ outcome-byte t
     unfolding joined
     outcome-read = word-low written 3 1 (outcome-byte t) _ (omega arith) o (content-written [] (outcome-field t) (steps-field s ∷ fs))
 
-    steps-read : halfAt written 7 ≡ s
-    unfolding joined leBytes
+    steps-read : half-at written 7 ≡ s
+    unfolding joined le-bytes
     steps-read = word-low written 7 2 s _ (omega arith) small (content-written (outcome-field t ∷ []) (steps-field s) fs)
 
   none-again : read-answer-answer n (answer-bytes (record { found = false; steps = s }) []) point ≡ (Read (record { found = false; steps = s }), point)
-  unfolding joined leBytes Each walk-tags missing-fault some rules ruleAt indexIn indexOf ruleLength pick
+  unfolding joined le-bytes Each walk-tags missing-fault some rules rule-at index-in index-of rule-length pick
   none-again =
       read-is n (outcome-field false ∷ steps-field s ∷ []) head-places point (record {
         dimension = dimension;
@@ -98,12 +98,12 @@ module _ (n s : ℕ) (point : List Float) (dimension : isDimension n ≡ true) (
 
   found-again : (x : List Float) → length x ≡ n → AllF64 x → n ≤ length point
       → read-answer-answer n (answer-bytes (record { found = true; steps = s }) x) point ≡ (Read (record { found = true; steps = s }), fronted x point)
-  unfolding joined leBytes Each walk-tags missing-fault some rules ruleAt indexIn indexOf ruleLength pick
+  unfolding joined le-bytes Each walk-tags missing-fault some rules rule-at index-in index-of rule-length pick
   found-again x long f64 room =
       let last = point-field x ∷ [] in
       let bytes = answer-bytes (record { found = true; steps = s }) x in
-      let numbers : numbersAt bytes 12 n ≡ x =
-      ap (λ (k : ℕ). numbersAt bytes 12 k) (sym long) ∙ numbers-read bytes 12 x [] f64 (content-written (outcome-field true ∷ steps-field s ∷ []) (point-field x) []) in
+      let numbers : numbers-at bytes 12 n ≡ x =
+      ap (λ (k : ℕ). numbers-at bytes 12 k) (sym long) ∙ numbers-read bytes 12 x [] f64 (content-written (outcome-field true ∷ steps-field s ∷ []) (point-field x) []) in
       read-is n (outcome-field true ∷ steps-field s ∷ last) (set head-places found-place 12) point (record {
         dimension = dimension;
         writable = ((omega arith, omega arith), ((omega arith, omega arith), ((omega arith, omega (arith, length-numbers x, long, dimension-most n dimension)), tt)));
@@ -125,7 +125,7 @@ refused-apart why out out′ k e =
 module _ (n : ℕ) (a : Answer) (x point : List Float) (small : a .steps < 65536) (f64 : AllF64 x) (room : a .found ≡ true → n ≤ length point) where
   -- An answer's record, read again, is the answer, with its point, number for number, at the front of the output; without a point the output stays.
   -- The steps are a 16-bit number and each number of the point is an f64, as their types say; NaN comes back as NaN.
-  pub answer-again : isDimension n ≡ true → length x ≡ n → read-answer-answer n (answer-bytes a x) point ≡ (Read a, pick (a .found) (fronted x point) point)
+  pub answer-again : is-dimension n ≡ true → length x ≡ n → read-answer-answer n (answer-bytes a x) point ≡ (Read a, pick (a .found) (fronted x point) point)
   unfolding pick
   answer-again d long = go (a .found) room
     where
@@ -142,12 +142,12 @@ module _ (n : ℕ) (a : Answer) (x point : List Float) (small : a .steps < 65536
       let bytes = answer-bytes a x in
       by-tests P (write-answer-tests n a x out) _ _ (λ why place f e. refused-apart why out out′ k e)
       (λ f e.
-      let s = both-sound (ask (isDimension n) Dimension) (ask (eqb (length x) n) Length) (both-sound (sized n (eqb (length x) n)) (ask (leb (length bytes) (length out)) Room) f .0) in
+      let s = both-sound (ask (is-dimension n) Dimension) (ask (eqb (length x) n) Length) (both-sound (sized n (eqb (length x) n)) (ask (leb (length bytes) (length out)) Room) f .0) in
       let r : Bytes (length bytes) ≡ Bytes k = ap (λ z. z .0) e in
       let k-is : length bytes ≡ k = cc in
       let out-is : over out 0 bytes ≡ out′ = ap (λ z. z .1) e in
       ap (λ (l : List ℕ). read-answer-answer n l point) (rw (← k-is, ← out-is) (front-over out bytes))
-      ∙ answer-again (ask-sound (isDimension n) Dimension 0 (s .0)) (eqb-true (length x) n (ask-sound (eqb (length x) n) Length 0 (s .1))))
+      ∙ answer-again (ask-sound (is-dimension n) Dimension 0 (s .0)) (eqb-true (length x) n (ask-sound (eqb (length x) n) Length 0 (s .1))))
     where
       P : AnswerWritten × List ℕ → Type 0
       P r = r ≡ (Bytes k, out′) → read-answer-answer n (take k out′) point ≡ (Read a, pick (a .found) (fronted x point) point)

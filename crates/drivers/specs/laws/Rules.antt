@@ -14,7 +14,7 @@ use Rattle.numbers.specs.Pick.{pick}
 use Rattle.numbers.specs.laws.Pick.{is-hit, is-skip}
 use Rattle.drivers.specs.declared.rules.Rule.{Rule}
 use Rattle.drivers.specs.declared.rules.Form.{Form}
-use Rattle.drivers.specs.Rules.{no-rule, tags, is-of, rules, ruleAt, indexIn, indexOf}
+use Rattle.drivers.specs.Rules.{no-rule, tags, is-of, rules, rule-at, index-in, index-of}
 
 -- a test that every rule of a list passes, and the one past its end
 holds-of-all : (Rule → Bool) → List Rule → Bool
@@ -31,18 +31,18 @@ is-small : Rule → Bool
 is-small r = leb (r .2) 24 && (leb (r .3) 8 && leb (r .4) 2)
 
 -- a field's length is far below a word's limit
-pub rule-small : (i : ℕ) → (ruleAt i .2 ≤ 24) × (ruleAt i .3 ≤ 8) × (ruleAt i .4 ≤ 2)
-unfolding ruleAt rules holds-of-all is-small
+pub rule-small : (i : ℕ) → (rule-at i .2 ≤ 24) × (rule-at i .3 ≤ 8) × (rule-at i .4 ≤ 2)
+unfolding rule-at rules holds-of-all is-small
 rule-small i =
-    let r = ruleAt i in
-    let h : is-small (ruleAt i) ≡ true = each-holds is-small rules no-rule refl refl i in
+    let r = rule-at i in
+    let h : is-small (rule-at i) ≡ true = each-holds is-small rules no-rule refl refl i in
     let a = and-eq-true-iff (leb (r .2) 24) (leb (r .3) 8 && leb (r .4) 2) .0 h in
     let b = and-eq-true-iff (leb (r .3) 8) (leb (r .4) 2) .0 (a .1) in
     (leb-true (r .2) 24 (a .0), leb-true (r .3) 8 (b .0), leb-true (r .4) 2 (b .1))
 
 -- an element that is read within the table, whatever is read past it
-pub rule-within : (i : ℕ) (d : Rule) → i < 12 → getD rules i d ≡ ruleAt i
-unfolding ruleAt rules
+pub rule-within : (i : ℕ) (d : Rule) → i < 12 → getD rules i d ≡ rule-at i
+unfolding rule-at rules
 rule-within i d h =
     let a = drop-cons rules i d h in
     let b = drop-cons rules i no-rule h in
@@ -50,39 +50,39 @@ rule-within i d h =
 
 -- the search for a tag: none passed, one that is found, one passed, and none left
 module _ (tag : ℕ) where
-  pub index-start : indexOf tag ≡ 0 + indexIn (drop 0 rules) tag
-  unfolding indexOf
+  pub index-start : index-of tag ≡ 0 + index-in (drop 0 rules) tag
+  unfolding index-of
   index-start = omega arith
 
-  rule-next : (i : ℕ) → i < 12 → indexIn (drop i rules) tag ≡ pick (eqb (ruleAt i .0) tag) 0 (suc (indexIn (drop (i + 1) rules) tag))
-  unfolding ruleAt indexIn
+  rule-next : (i : ℕ) → i < 12 → index-in (drop i rules) tag ≡ pick (eqb (rule-at i .0) tag) 0 (suc (index-in (drop (i + 1) rules) tag))
+  unfolding rule-at index-in
   rule-next i h = rw (drop-cons rules i no-rule h, add-one)
 
-  module _ (i : ℕ) (r : Rule) (is : r ≡ ruleAt i) (h : i < 12) where
-    pub index-found : r .0 ≡ tag → indexOf tag ≡ i + indexIn (drop i rules) tag → i ≡ indexOf tag
+  module _ (i : ℕ) (r : Rule) (is : r ≡ rule-at i) (h : i < 12) where
+    pub index-found : r .0 ≡ tag → index-of tag ≡ i + index-in (drop i rules) tag → i ≡ index-of tag
     index-found e k =
-        let t : eqb (ruleAt i .0) tag ≡ true = rw (← is) (eq-eqb (r .0) tag e) in
+        let t : eqb (rule-at i .0) tag ≡ true = rw (← is) (eq-eqb (r .0) tag e) in
         omega (arith, k, rule-next i h ∙ is-hit _ _ _ t)
 
-    pub index-turn : (r .0 ≡ tag → ⊥) → indexOf tag ≡ i + indexIn (drop i rules) tag → indexOf tag ≡ i + 1 + indexIn (drop (i + 1) rules) tag
+    pub index-turn : (r .0 ≡ tag → ⊥) → index-of tag ≡ i + index-in (drop i rules) tag → index-of tag ≡ i + 1 + index-in (drop (i + 1) rules) tag
     index-turn e k =
-        let t : eqb (ruleAt i .0) tag ≡ false = rw (← is) (ne-eqb (r .0) tag e) in
+        let t : eqb (rule-at i .0) tag ≡ false = rw (← is) (ne-eqb (r .0) tag e) in
         omega (arith, k, rule-next i h ∙ is-skip _ _ _ t)
 
-  pub index-end : (i : ℕ) → i ≡ 12 → indexOf tag ≡ i + indexIn (drop i rules) tag → i ≡ indexOf tag
-  unfolding indexIn rules
+  pub index-end : (i : ℕ) → i ≡ 12 → index-of tag ≡ i + index-in (drop i rules) tag → i ≡ index-of tag
+  unfolding index-in rules
   index-end i e k = omega (arith, k, none i e)
     where
-      none : (i : ℕ) → i ≡ 12 → indexIn (drop i rules) tag ≡ 0
+      none : (i : ℕ) → i ≡ 12 → index-in (drop i rules) tag ≡ 0
       none i e = rw e
 
 -- a tag that a form has is in the table
 pub is-of-listed : (form : Form) (i : ℕ) → is-of form i ≡ true → i < tags
-unfolding ruleAt rules
+unfolding rule-at rules
 is-of-listed form i h = go (ltb i tags) refl
   where
     go : (t : Bool) → ltb i tags ≡ t → i < tags
     go true e = ltb-true i tags e
     go false e =
-        let p : ruleAt i .1 ≡ 0 = ap (λ (r : Rule). r .1) (List·getD-eq-default rules no-rule (ltb-false i tags e)) in
+        let p : rule-at i .1 ≡ 0 = ap (λ (r : Rule). r .1) (List·getD-eq-default rules no-rule (ltb-false i tags e)) in
         absurd (true≢false (sym h ∙ ap (λ (k : ℕ). eqb (k / form .bit % 2) 1) p ∙ ap (λ (k : ℕ). eqb (k % 2) 1) (zero-div (form .bit))))

@@ -6,7 +6,7 @@ use mathlib.Core.List.{List}
 use native.Mathlib.Omega.{arith}
 use lib.Ieee.{Float}
 use Rattle.oracles.specs.Verdict.{Limits, limits, asked, judge, is-feasible}
-use Rattle.drivers.specs.CuttingPlane.{Space, check-space, feas-step, goes-on, feas-ended, feas-run}
+use Rattle.drivers.specs.CuttingPlane.{State, check-space, feas-step, goes-on, feas-ended, feas-run}
 use Rattle.drivers.specs.laws.StepRight.{centre-asked, says-feasible, Stepped, step-right}
 use Rattle.drivers.specs.declared.answer.Answer.{Answer}
 use Rattle.numbers.specs.declared.refusal.Fault.the-variants.{Sound}
@@ -17,12 +17,12 @@ use Rattle.drivers.specs.declared.cutting_plane.FeasAnswer.the-variants.
 use Rattle.numbers.specs.laws.Pick.{by-test}
 
 -- whether the centre of a space is feasible
-abbrev pub centre-feasible : ℕ → List Float → Space → Bool
+abbrev pub centre-feasible : ℕ → List Float → State → Bool
 centre-feasible rows table s = is-feasible (judge (centre-asked rows table s))
 
 -- The steps k, k + 1, .. of which so many are left have ended with an answer, r. Its steps are not before k, and within what was left.
 -- A point is found at one of the steps, and the centre that is left is feasible. Where none is found and a step was left, the centre of s is not.
-pub record RunEnded (rows : ℕ) (table : List Float) (left k : ℕ) (s : Space) (r : FeasAnswer × Space) : Type 0 where
+pub record RunEnded (rows : ℕ) (table : List Float) (left k : ℕ) (s : State) (r : FeasAnswer × State) : Type 0 where
   pub answer : Answer
   pub answer-is : r .0 ≡ Ended answer
   pub steps-from : k ≤ answer .steps
@@ -36,14 +36,14 @@ pub record RunEnded (rows : ℕ) (table : List Float) (left k : ℕ) (s : Space)
 
 module _ (rows : ℕ) (table : List Float) where
   -- what is asked about the centre of s′ is what the oracle of s would be asked about it
-  pub asked-again : (s s′ : Space) → s′ .ell .ndim ≡ s .ell .ndim → limits (s′ .oracle) ≡ limits (s .oracle)
+  pub asked-again : (s s′ : State) → s′ .ell .ndim ≡ s .ell .ndim → limits (s′ .oracle) ≡ limits (s .oracle)
       → centre-asked rows table s′ ≡ asked (s .oracle) (s .oracle .«sp_sq») (s .ell .ndim) rows table (s′ .buffers .xc)
   asked-again s s′ n-is l-is =
       ap (λ (n : ℕ). record { n = n; rows = rows; limits = limits (s′ .oracle); table = table; x = s′ .buffers .xc }) n-is
       ∙ ap (λ (l : Limits). record { n = s .ell .ndim; rows = rows; limits = l; table = table; x = s′ .buffers .xc }) l-is
 
   -- a step that is the last
-  last-step : (left k : ℕ) (s : Space) (said : Said) (s′ : Space) → Stepped rows table s (said, s′) → RunEnded rows table (suc left) k s (feas-ended said k, s′)
+  last-step : (left k : ℕ) (s : State) (said : Said) (s′ : State) → Stepped rows table s (said, s′) → RunEnded rows table (suc left) k s (feas-ended said k, s′)
   last-step left k s Feasible s′ h = record {
     answer = record { found = true; steps = k };
     answer-is = refl;
@@ -80,7 +80,7 @@ module _ (rows : ℕ) (table : List Float) where
   goes-infeasible (Cut group beta status) tsq tolerance e = refl
   goes-infeasible (Refused why) tsq tolerance e = refl
 
-  pub run-ends : (tolerance : Float) (left k : ℕ) (s : Space) → check-space rows table s ≡ Sound → RunEnded rows table left k s (feas-run rows table tolerance left k s)
+  pub run-ends : (tolerance : Float) (left k : ℕ) (s : State) → check-space rows table s ≡ Sound → RunEnded rows table left k s (feas-run rows table tolerance left k s)
   unfolding feas-run
   run-ends tolerance zero k s right = record {
     answer = record { found = false; steps = k };

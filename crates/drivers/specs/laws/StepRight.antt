@@ -7,7 +7,7 @@ use borrow.Author.Tests.{eq-eqb, eqb-true}
 use lib.Dec.{eqb}
 use lib.ListN.{length}
 use lib.Ieee.{Float}
-use Rattle.numbers.specs.Arr.{isDimension}
+use Rattle.numbers.specs.Arr.{is-dimension}
 use Rattle.numbers.specs.declared.cut.CutChoice.{CutChoice}
 use Rattle.numbers.specs.laws.Pick.{and-parts}
 use Rattle.oracles.specs.LowpassOracle.{bands-fit, cursors-fit, assess-feas-answer}
@@ -24,7 +24,7 @@ use Rattle.oracles.specs.declared.lowpass_oracle.Group.{Group}
 use Rattle.oracles.specs.declared.lowpass_oracle.Group.the-variants.{Pass, Stop, Middle, Sign}
 use Rattle.oracles.specs.declared.lowpass_oracle.Verdict.{Verdict}
 use Rattle.oracles.specs.declared.lowpass_oracle.Verdict.the-variants.{Feasible as IsFeasible, Cut as IsCut, Refused as NotAssessed}
-use Rattle.drivers.specs.CuttingPlane.{Space, run-fits, checkOf, check-space, said-of, feas-cut, feas-step}
+use Rattle.drivers.specs.CuttingPlane.{State, run-fits, check-of, check-space, said-of, feas-cut, feas-step}
 use Rattle.numbers.specs.declared.refusal.Fault.the-variants.{Sound}
 use Rattle.drivers.specs.declared.cutting_plane.Said.{Said}
 use Rattle.drivers.specs.declared.cutting_plane.Said.the-variants.{Feasible, Cut, Refused}
@@ -32,23 +32,23 @@ use Rattle.drivers.specs.declared.cutting_plane.Said.the-variants.{Feasi
 -- ---- the tests of a space
 
 -- what they ask for: n in its range, the lengths that n and the rows say, legal bands and cursors
-pub record Fitting (n rows : ℕ) (table : List Float) (s : Space) : Type 0 where
+pub record Fitting (n rows : ℕ) (table : List Float) (s : State) : Type 0 where
   pub ndim-is : s .ell .ndim ≡ n
-  pub dimension : isDimension n ≡ true
+  pub dimension : is-dimension n ≡ true
   pub table-long : length table ≡ rows * n
   pub long : EllLong n (s .buffers)
   pub grad-long : length (s .grad) ≡ n
   pub bands : bands-fit (s .oracle) rows ≡ true
   pub cursors : cursors-fit (s .oracle) ≡ true
 
-module _ (rows : ℕ) (table : List Float) (s : Space) where
+module _ (rows : ℕ) (table : List Float) (s : State) where
   -- the test of the lengths
   abbrev space-fits : ℕ → Bool
   space-fits n = run-fits n rows (length table) (length (s .buffers .mq)) (length (s .buffers .xc)) (length (s .grad)) (length (s .buffers .grad-t))
 
   -- a space that is right has it, and one that has it is right
   pub right-fits : check-space rows table s ≡ Sound → Fitting (s .ell .ndim) rows table s
-  unfolding checkOf
+  unfolding check-of
   right-fits e =
       let n = s .ell .ndim in
       let F = oracle-fits (s .oracle) n rows (space-fits n) e in
@@ -68,7 +68,7 @@ module _ (rows : ℕ) (table : List Float) (s : Space) where
 
   module _ (n : ℕ) (h : Fitting n rows table s) where
     pub fits-right : check-space rows table s ≡ Sound
-    unfolding checkOf
+    unfolding check-of
     fits-right =
         rw (h .ndim-is) (sym (fits-oracle (s .oracle) n rows (space-fits n) (record { dimension = h .dimension; long = fit; bands = h .bands; cursors = h .cursors })))
       where
@@ -99,7 +99,7 @@ module _ (rows : ℕ) (table : List Float) (s : Space) where
 -- ---- a step
 
 -- what a step asks: whether the centre is feasible
-abbrev pub centre-asked : ℕ → List Float → Space → Question
+abbrev pub centre-asked : ℕ → List Float → State → Question
 centre-asked rows table s = asked (s .oracle) (s .oracle .«sp_sq») (s .ell .ndim) rows table (s .buffers .xc)
 
 abbrev pub says-feasible : Said → Bool
@@ -113,7 +113,7 @@ says-refused (Cut group beta status) = false
 says-refused (Refused why) = true
 
 -- a step from a space that is right: it is not refused, it says whether the centre is feasible, it leaves a feasible centre unchanged, and the space that it leaves is right again
-pub record Stepped (rows : ℕ) (table : List Float) (s : Space) (r : Said × Space) : Type 0 where
+pub record Stepped (rows : ℕ) (table : List Float) (s : State) (r : Said × State) : Type 0 where
   pub not-refused : says-refused (r .0) ≡ false
   pub verdict-is : says-feasible (r .0) ≡ is-feasible (judge (centre-asked rows table s))
   pub centre-stays : says-feasible (r .0) ≡ true → r .1 .buffers ≡ s .buffers
@@ -127,7 +127,7 @@ cut-infeasible (Stop row over) beta = refl
 cut-infeasible (Middle row) beta = refl
 cut-infeasible Sign beta = refl
 
-pub step-right : (rows : ℕ) (table : List Float) (s : Space) → check-space rows table s ≡ Sound → Stepped rows table s (feas-step rows table s)
+pub step-right : (rows : ℕ) (table : List Float) (s : State) → check-space rows table s ≡ Sound → Stepped rows table s (feas-step rows table s)
 unfolding feas-step
 step-right rows table s right =
     let a = assess-feas-answer (s .oracle) n rows table (s .buffers .xc) (s .grad) in

@@ -12,7 +12,7 @@ use Rattle.numbers.specs.Over.{over}
 use Rattle.numbers.specs.laws.Over.{over-none, length-over, over-on}
 use Rattle.numbers.specs.laws.Bits.{shift}
 use Rattle.numbers.specs.laws.Pick.{hit, skip, by-test}
-use Rattle.drivers.specs.Text.{joined, digitChar, digitsOf, digit-count-to, digit-count, decimal, hex}
+use Rattle.drivers.specs.Text.{joined, digit-char, digits-of, digit-count-to, digit-count, decimal, hex}
 
 -- ---- what the inner functions write: a piece where it fits, and pieces one after the other
 
@@ -116,15 +116,15 @@ most-none = omega arith
 
 module _ (base : ℕ) where
   -- the next digit stands before the lower ones
-  pub digits-more : (j w : ℕ) → digitsOf base (suc j) w ≡ digitChar (shift base j w % base) ∷ digitsOf base j w
-  unfolding digitsOf shift
+  pub digits-more : (j w : ℕ) → digits-of base (suc j) w ≡ digit-char (shift base j w % base) ∷ digits-of base j w
+  unfolding digits-of shift
   digits-more zero w = refl
-  digits-more (suc j) w = ap (λ (l : List ℕ). l ++ (digitChar (w % base) ∷ [])) (digits-more j (w / base))
+  digits-more (suc j) w = ap (λ (l : List ℕ). l ++ (digit-char (w % base) ∷ [])) (digits-more j (w / base))
 
-  pub length-digits : (count w : ℕ) → length (digitsOf base count w) ≡ count
-  unfolding digitsOf
+  pub length-digits : (count w : ℕ) → length (digits-of base count w) ≡ count
+  unfolding digits-of
   length-digits zero w = refl
-  length-digits (suc count) w = length-append (digitsOf base count (w / base)) (digitChar (w % base) ∷ []) ∙ omega (arith, length-digits count (w / base))
+  length-digits (suc count) w = length-append (digits-of base count (w / base)) (digit-char (w % base) ∷ []) ∙ omega (arith, length-digits count (w / base))
 
 -- ---- how long
 

@@ -9,8 +9,8 @@ use lib.Dec.{ltb}
 use lib.ListN.{length, take}
 use lib.Ieee.{Float}
 use Rattle.numbers.specs.Pick.{pick}
-use Rattle.numbers.specs.Refusal.{refusalNumber}
-use Rattle.numbers.specs.Bits.{bitsOf}
+use Rattle.numbers.specs.Refusal.{refusal-number}
+use Rattle.numbers.specs.Bits.{bits-of}
 use Rattle.numbers.specs.declared.refusal.Refusal.{Refusal}
 use Rattle.numbers.specs.declared.refusal.Refusal.the-variants.{Room}
 use Rattle.numbers.specs.declared.cut.CutChoice.{CutChoice}
@@ -20,14 +20,14 @@ use Rattle.numbers.specs.declared.cut.CutStatus.the-variants.{Success, NoSoln, 
 use Rattle.numbers.specs.laws.Pick.{skip, is-hit, pick-cong, by-test, pick-map}
 use Rattle.numbers.specs.Over.{over}
 use Rattle.numbers.specs.laws.Over.{length-over, front-over}
-use Rattle.oracles.specs.LowpassOracle.{groupSide}
+use Rattle.oracles.specs.LowpassOracle.{group-side}
 use Rattle.oracles.specs.Ell.{EllBuffers}
 use Rattle.oracles.specs.declared.lowpass_oracle.Group.{Group}
 use Rattle.oracles.specs.declared.lowpass_oracle.Group.the-variants.{Pass, Stop, Middle, Sign}
 use Rattle.drivers.specs.Text.{joined, hex}
 use Rattle.drivers.specs.laws.Text.{length-decimal, length-hex, most-more, most-on, most-none, put-front, joined-append, joined-none, put-all}
 use Rattle.drivers.specs.Trace.{group-word, row-text, side-word, beta-pieces, status-word, said-pieces, outcome-word, last-pieces, ended-pieces, refused-pieces, text-room, printed, step-text, space-of, run-at, step-printed, limit-printed, next-tests, next-answer, run-text}
-use Rattle.drivers.specs.CuttingPlane.{Space, check-space, feas-step, goes-on, feas-ended, feas-run}
+use Rattle.drivers.specs.CuttingPlane.{State, check-space, feas-step, goes-on, feas-ended, feas-run}
 use Rattle.drivers.specs.laws.StepRight.{step-right}
 use Rattle.drivers.specs.declared.answer.Answer.{Answer}
 use Rattle.drivers.specs.declared.cutting_plane.Said.{Said}
@@ -43,7 +43,7 @@ use Rattle.drivers.specs.declared.trace.Text.{Text}
 
 -- ---- what calls of `Run::next` print
 
-unfoldable pub cut-lines : ℕ → List Float → Float → ℕ → ℕ → Space → List ℕ
+unfoldable pub cut-lines : ℕ → List Float → Float → ℕ → ℕ → State → List ℕ
 cut-lines rows table tolerance zero k s = []
 cut-lines rows table tolerance (suc left) k s =
     let r = feas-step rows table s in
@@ -87,9 +87,9 @@ hex-most : (w : ℕ) → length (hex w) ≤ 16
 hex-most w = omega (arith, length-hex w)
 
 betas-most : (beta : CutChoice) → length (joined (beta-pieces beta)) ≤ 33
-betas-most (Single beta0) = most-more 16 17 _ _ (hex-most (bitsOf beta0)) (most-more 2 15 _ _ (omega arith) (omega (arith, most-none)))
+betas-most (Single beta0) = most-more 16 17 _ _ (hex-most (bits-of beta0)) (most-more 2 15 _ _ (omega arith) (omega (arith, most-none)))
 betas-most (Parallel beta0 beta1) =
-    most-more 16 17 _ _ (hex-most (bitsOf beta0)) (most-more 1 16 _ _ (omega arith) (most-more 16 0 _ _ (hex-most (bitsOf beta1)) most-none))
+    most-more 16 17 _ _ (hex-most (bits-of beta0)) (most-more 1 16 _ _ (omega arith) (most-more 16 0 _ _ (hex-most (bits-of beta1)) most-none))
 
 status-most : (s : CutStatus) → length (status-word s) ≤ 10
 status-most Success = omega arith
@@ -102,7 +102,7 @@ said-most k (Cut group beta status) =
     most-more 20 78 _ _ (length-decimal k)
     (most-more 8 70 _ _ (group-most group)
     (most-more 20 50 _ _ (row-most group)
-    (most-more 7 43 _ _ (side-most (groupSide group))
+    (most-more 7 43 _ _ (side-most (group-side group))
     (most-on 33 10 _ _ (betas-most beta) (most-more 10 0 _ _ (status-most status) most-none)))))
 said-most k (NotStepped why) = omega (arith, most-none)
 
@@ -120,7 +120,7 @@ ended-most (NotRun why) = omega (arith, most-none)
 pub refused-most : (why : Refusal) (place : ℕ) → length (joined (refused-pieces why place)) ≤ 50
 refused-most why place =
     most-more 8 42 _ _ (omega arith)
-    (most-more 20 22 _ _ (length-decimal (refusalNumber why))
+    (most-more 20 22 _ _ (length-decimal (refusal-number why))
     (most-more 1 21 _ _ (omega arith) (most-more 20 1 _ _ (length-decimal place) (most-more 1 0 _ _ (omega arith) most-none))))
 
 pub step-most : (k : ℕ) (more : Bool) (said : Said) → length (step-text k more said) ≤ 125
@@ -166,7 +166,7 @@ one-step k false said text lines answer e =
 
 module _ (rows : ℕ) (table : List Float) (tolerance : Float) where
   -- a run prints the lines of its cuts, and last the answer of `feas-run`, which `cutting_plane_feas` gives where it is not refused
-  pub run-prints : (left k : ℕ) (s : Space)
+  pub run-prints : (left k : ℕ) (s : State)
       → run-text rows table tolerance left k s ≡ cut-lines rows table tolerance left k s ++ joined (ended-pieces (feas-run rows table tolerance left k s .0))
   unfolding run-text cut-lines feas-run
   run-prints zero k s = refl
@@ -175,7 +175,7 @@ module _ (rows : ℕ) (table : List Float) (tolerance : Float) where
       let more = goes-on (r .0) (r .1 .ell .tsq) tolerance in
       one-step k more (r .0) _ _ _ (run-prints left (suc k) (r .1))
       ∙ ap (λ (a : FeasAnswer). (joined (said-pieces k (r .0)) ++ pick more (cut-lines rows table tolerance left (suc k) (r .1)) []) ++ joined (ended-pieces a))
-      (sym (pick-map (λ (p : FeasAnswer × Space). p .0) more (feas-run rows table tolerance left (suc k) (r .1)) (feas-ended (r .0) k, r .1)))
+      (sym (pick-map (λ (p : FeasAnswer × State). p .0) more (feas-run rows table tolerance left (suc k) (r .1)) (feas-ended (r .0) k, r .1)))
 
 -- ---- its calls
 

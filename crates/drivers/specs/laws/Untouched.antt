@@ -6,7 +6,7 @@ use mathlib.Core.List.{List}
 use lib.IntN.{pos}
 use lib.Signed.{ltZ}
 use lib.Ieee.{Float}
-use Rattle.oracles.specs.LowpassOracle.{offered, improvedOf, optim-of, assess-tests, assess-feas-answer, assess-optim-answer}
+use Rattle.oracles.specs.LowpassOracle.{offered, improved-of, optim-of, assess-tests, assess-feas-answer, assess-optim-answer}
 use Rattle.oracles.specs.laws.Assess.{assess-cases}
 use Rattle.oracles.specs.laws.OracleAfter.{is-refusal}
 use Rattle.oracles.specs.declared.lowpass_oracle.LowpassOracle.{LowpassOracle}
@@ -45,7 +45,7 @@ pub record Untouched (gamma : Float) (grad : List Float) (r : AssessedOptim × L
   pub grad-stays : is-refusal (r .0 .verdict) ≡ true → r .1 ≡ grad
 
 pub untouched : (o : LowpassOracle) (gamma : Float) (n rows : ℕ) (table x grad : List Float) → Untouched gamma grad (assess-optim-answer o gamma n rows table x grad)
-unfolding improvedOf
+unfolding improved-of
 untouched o gamma n rows table x grad =
     let a = assess-feas-answer (offered o gamma) n rows table x grad in
     go (a .0 .oracle) (a .0 .verdict) (a .1) (uncut-gradient (offered o gamma) n rows table x grad)

@@ -6,22 +6,22 @@ use borrow.Author.Tests.{lt-leb}
 use lib.ListN.{length}
 use lib.Ieee.{add, lt, sub, mul, le, ofBits, toBits}
 use Rattle.numbers.specs.Pick.{pick, some}
-use Rattle.numbers.specs.Bits.{leNumber, wordAt}
-use Rattle.numbers.specs.Arr.{tab, dotFrom, dotOf, mvOf}
+use Rattle.numbers.specs.Bits.{le-number, word-at}
+use Rattle.numbers.specs.Arr.{tab, dot-from, dot-of, mv-of}
 use Rattle.numbers.specs.EllCalc.{made, calc-bias-cut, calc-parallel-impl, calc-parallel-bias-cut, calc-single-or-parallel-bias-cut}
 use Rattle.numbers.specs.Refusal.{_⨾_}
 use Rattle.numbers.specs.laws.Refusal.{failed, at-first, refuses}
 use Rattle.oracles.specs.RoundRobin.{advanced, new-range-answer}
-use Rattle.oracles.specs.Scan.{valueOf, scanFrom, scanOf, band-gradient}
-use Rattle.oracles.specs.LowpassOracle.{start-oracle, assessOf, assess-feas-answer}
-use Rattle.oracles.specs.Ell.{ell-updateOf}
-use Rattle.drivers.specs.Record.{after, numberAt, fields-from, fields-of, field-fault, walk-of, missing-fault, record-fault, lengths-fault, row-count, rows-of}
+use Rattle.oracles.specs.Scan.{value-of, scan-from, scan-of, band-gradient}
+use Rattle.oracles.specs.LowpassOracle.{start-oracle, assess-of, assess-feas-answer}
+use Rattle.oracles.specs.Ell.{ell-update-of}
+use Rattle.drivers.specs.Record.{after, number-at, fields-from, fields-of, field-fault, walk-of, missing-fault, record-fault, lengths-fault, row-count, rows-of}
 use Rattle.drivers.specs.CuttingPlane.{feas-step}
-use Rattle.drivers.specs.Text.{joined, digitChar, digitsOf, digit-count-to, digit-count, decimal, hex}
-use Rattle.drivers.specs.Job.{signed, optionsOf, job-at, full-job-at, size-fault, job-fault}
+use Rattle.drivers.specs.Text.{joined, digit-char, digits-of, digit-count-to, digit-count, decimal, hex}
+use Rattle.drivers.specs.Job.{signed, options-of, job-at, full-job-at, size-fault, job-fault}
 use Rattle.drivers.specs.Trace.{input-tests, step-text, run-text}
 use Rattle.drivers.specs.Program.{first-space, job-text, program-text}
-use Rattle.drivers.specs.Rules.{rules, ruleAt, indexIn, indexOf, ruleLength}
+use Rattle.drivers.specs.Rules.{rules, rule-at, index-in, index-of, rule-length}
 
 -- n 2; bands 1, 1; limits 1, 2, 1; row (1, 0); point (0, 0); cursors −1, 0, 0; kappa 0.25; identity; 10 steps, tolerance 0
 abbrev pub worked-job : List ℕ
@@ -43,20 +43,20 @@ worked-text =
     ∷ 110 ∷ 111 ∷ 110 ∷ 101 ∷ 32 ∷ 48 ∷ 10 ∷ []  -- none 0
 
 pub worked : program-text worked-job ≡ worked-text
-unfolding add lt sub mul le ofBits toBits pick leNumber wordAt tab dotFrom dotOf mvOf made calc-bias-cut calc-parallel-impl calc-parallel-bias-cut calc-single-or-parallel-bias-cut advanced valueOf scanFrom scanOf band-gradient assessOf assess-feas-answer some ell-updateOf rules ruleAt indexIn indexOf ruleLength after numberAt fields-from fields-of field-fault walk-of missing-fault record-fault lengths-fault row-count rows-of feas-step joined digitChar digitsOf digit-count-to digit-count decimal hex new-range-answer start-oracle signed optionsOf job-at full-job-at size-fault job-fault step-text run-text first-space job-text program-text
+unfolding add lt sub mul le ofBits toBits pick le-number word-at tab dot-from dot-of mv-of made calc-bias-cut calc-parallel-impl calc-parallel-bias-cut calc-single-or-parallel-bias-cut advanced value-of scan-from scan-of band-gradient assess-of assess-feas-answer some ell-update-of rules rule-at index-in index-of rule-length after number-at fields-from fields-of field-fault walk-of missing-fault record-fault lengths-fault row-count rows-of feas-step joined digit-char digits-of digit-count-to digit-count decimal hex new-range-answer start-oracle signed options-of job-at full-job-at size-fault job-fault step-text run-text first-space job-text program-text
 worked = refl
 
 -- the empty record: refused 10 0
 pub empty-refused : program-text [] ≡ 114 ∷ 101 ∷ 102 ∷ 117 ∷ 115 ∷ 101 ∷ 100 ∷ 32 ∷ 49 ∷ 48 ∷ 32 ∷ 48 ∷ 10 ∷ []
-unfolding pick rules ruleAt fields-from fields-of walk-of missing-fault record-fault some joined digitChar digitsOf digit-count-to digit-count decimal job-fault program-text
+unfolding pick rules rule-at fields-from fields-of walk-of missing-fault record-fault some joined digit-char digits-of digit-count-to digit-count decimal job-fault program-text
 empty-refused = refl
 
 -- 01 02: refused 7 0
 pub short-refused : program-text (0x01 ∷ 0x02 ∷ []) ≡ 114 ∷ 101 ∷ 102 ∷ 117 ∷ 115 ∷ 101 ∷ 100 ∷ 32 ∷ 55 ∷ 32 ∷ 48 ∷ 10 ∷ []
-unfolding pick leNumber wordAt rules ruleAt indexIn indexOf after fields-from fields-of field-fault walk-of record-fault joined digitChar digitsOf digit-count-to digit-count decimal job-fault program-text
+unfolding pick le-number word-at rules rule-at index-in index-of after fields-from fields-of field-fault walk-of record-fault joined digit-char digits-of digit-count-to digit-count decimal job-fault program-text
 short-refused = refl
 
 -- any input of more than 65,536 bytes: refused 11 65536
 pub long-refused : (bytes : List ℕ) → 65536 < length bytes → program-text bytes ≡ 114 ∷ 101 ∷ 102 ∷ 117 ∷ 115 ∷ 101 ∷ 100 ∷ 32 ∷ 49 ∷ 49 ∷ 32 ∷ 54 ∷ 53 ∷ 53 ∷ 51 ∷ 54 ∷ 10 ∷ []
-unfolding pick joined digitChar digitsOf digit-count-to digit-count decimal program-text
+unfolding pick joined digit-char digits-of digit-count-to digit-count decimal program-text
 long-refused bytes h = sym (refuses _ _ (input-tests bytes ⨾ _) (at-first _ (failed (lt-leb (length bytes) 65536 h))) refl)

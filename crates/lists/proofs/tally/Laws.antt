@@ -3,8 +3,8 @@ use mathlib.Core.Path.{_≡_, refl, sym, ap, _∙_}
 use mathlib.Core.List.{List}
 use Prim.Native.Nat.{ℕ, _≤_, _<_, min}
 use borrow.Author.Tests.{le-leb, lt-leb, lt-ltb, le-ltb, eq-eqb, ne-eqb}
-use Rattle.lists.specs.Words.{firstDiff}
-use Rattle.lists.specs.Tally.{wordsVerdict, verdictOf, bumped, counted, tallied}
+use Rattle.lists.specs.Words.{first-diff}
+use Rattle.lists.specs.Tally.{words-verdict, verdict-of, bumped, counted, tallied}
 use Rattle.lists.specs.declared.tally.Replayed.{Replayed}
 use Rattle.lists.specs.declared.tally.Replayed.the-variants.{Words, Refused, Unfit, Unknown}
 use Rattle.lists.specs.declared.tally.Verdict.{Verdict}
@@ -21,31 +21,31 @@ unfolding tallied
 tally-under t r op v v′ h p e = skip _ _ _ _ (lt-leb 256 op h) (e ∙ ap (counted t op) (sym p))
 
 -- words that came: a different one, a missing one, none
-module _ (outs : ℕ) (expected got : List ℕ) (replayed : Replayed) (n both k : ℕ) (p : replayed ≡ Words n) (m : both ≡ min n outs) (f : k ≡ firstDiff expected got 0 both) where
-  at-first : k ≡ firstDiff expected got 0 (min n outs)
-  at-first = f ∙ ap (firstDiff expected got 0) m
+module _ (outs : ℕ) (expected got : List ℕ) (replayed : Replayed) (n both k : ℕ) (p : replayed ≡ Words n) (m : both ≡ min n outs) (f : k ≡ first-diff expected got 0 both) where
+  at-first : k ≡ first-diff expected got 0 (min n outs)
+  at-first = f ∙ ap (first-diff expected got 0) m
 
-  pub word-differs : k < both → Differs k ≡ verdictOf outs expected replayed got
-  unfolding verdictOf wordsVerdict
+  pub word-differs : k < both → Differs k ≡ verdict-of outs expected replayed got
+  unfolding verdict-of words-verdict
   word-differs h = rw (p, ← at-first, ← m) (hit _ _ _ _ (lt-ltb k both h) refl)
 
-  pub count-differs : both ≤ k → (n ≡ outs → ⊥) → Differs k ≡ verdictOf outs expected replayed got
-  unfolding verdictOf wordsVerdict
+  pub count-differs : both ≤ k → (n ≡ outs → ⊥) → Differs k ≡ verdict-of outs expected replayed got
+  unfolding verdict-of words-verdict
   count-differs h d = rw (p, ← at-first, ← m) (skip _ _ _ _ (le-ltb k both h) (skip _ _ _ _ (ne-eqb n outs d) refl))
 
-  pub all-agree : both ≤ k → n ≡ outs → Agrees ≡ verdictOf outs expected replayed got
-  unfolding verdictOf wordsVerdict
+  pub all-agree : both ≤ k → n ≡ outs → Agrees ≡ verdict-of outs expected replayed got
+  unfolding verdict-of words-verdict
   all-agree h d = rw (p, ← at-first, ← m) (skip _ _ _ _ (le-ltb k both h) (hit _ _ _ _ (eq-eqb n outs d) refl))
 
 -- what came was no words
-pub refused-differs : (outs : ℕ) (expected got : List ℕ) (replayed : Replayed) (r : ℕ) → replayed ≡ Refused r → Differs 0 ≡ verdictOf outs expected replayed got
-unfolding verdictOf
+pub refused-differs : (outs : ℕ) (expected got : List ℕ) (replayed : Replayed) (r : ℕ) → replayed ≡ Refused r → Differs 0 ≡ verdict-of outs expected replayed got
+unfolding verdict-of
 refused-differs outs expected got replayed r p = rw p
 
-pub unfit-differs : (outs : ℕ) (expected got : List ℕ) (replayed : Replayed) → replayed ≡ Unfit → Differs 0 ≡ verdictOf outs expected replayed got
-unfolding verdictOf
+pub unfit-differs : (outs : ℕ) (expected got : List ℕ) (replayed : Replayed) → replayed ≡ Unfit → Differs 0 ≡ verdict-of outs expected replayed got
+unfolding verdict-of
 unfit-differs outs expected got replayed p = rw p
 
-pub unknown-known : (outs : ℕ) (expected got : List ℕ) (replayed : Replayed) → replayed ≡ Unknown → NotKnown ≡ verdictOf outs expected replayed got
-unfolding verdictOf
+pub unknown-known : (outs : ℕ) (expected got : List ℕ) (replayed : Replayed) → replayed ≡ Unknown → NotKnown ≡ verdict-of outs expected replayed got
+unfolding verdict-of
 unknown-known outs expected got replayed p = rw p

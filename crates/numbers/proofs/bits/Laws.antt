@@ -12,7 +12,7 @@ use lib.Seq.{drop-cons, drop-length, take-all}
 use lib.Ieee.{Float, nan, inf, fin, binary64, isNan, ne, ofBits, toBits, nanBits}
 use lib.Ieee.Compare.{differs-from-itself, nan-differs}
 use lib.Ieee.Bits.{nanBits-is, nanBits-above}
-use Rattle.numbers.specs.Bits.{leNumber, leBytes, wordAt, putBytes}
+use Rattle.numbers.specs.Bits.{le-number, le-bytes, word-at, put-bytes}
 use Rattle.numbers.specs.laws.Bits.{length-bytes, shift, shift-more, bytes-more, put-fits}
 use Rattle.numbers.specs.Over.{over}
 use Rattle.numbers.specs.laws.Over.{over-none, store-on}
@@ -56,38 +56,38 @@ byte-more (suc (suc (suc (suc (suc (suc (suc (suc n)))))))) w b h lw lb = absurd
     no h = omega arith
 
 -- the number of the bytes from i on, from that of the bytes after i
-pub number-down : (bytes : List ℕ) (i w : ℕ) → i < length bytes → w ≡ leNumber (drop (suc i) bytes) → w * 256 + getD bytes i 0 ≡ leNumber (drop i bytes)
-unfolding leNumber
+pub number-down : (bytes : List ℕ) (i w : ℕ) → i < length bytes → w ≡ le-number (drop (suc i) bytes) → w * 256 + getD bytes i 0 ≡ le-number (drop i bytes)
+unfolding le-number
 number-down bytes i w h e = rw (drop-cons bytes i 0 h, ← e) (omega arith)
 
 -- the number of the first four bytes, and that of all from it and the rest's
 number-four : (bytes : List ℕ)
-    → (getD bytes 0 0 + 0x100 * getD bytes 1 0 + 0x1_0000 * getD bytes 2 0 + 0x100_0000 * getD bytes 3 0 ≡ leNumber (take 4 bytes))
-    × (leNumber (take 4 bytes) + 0x1_0000_0000 * leNumber (drop 4 bytes) ≡ leNumber bytes)
-unfolding leNumber
+    → (getD bytes 0 0 + 0x100 * getD bytes 1 0 + 0x1_0000 * getD bytes 2 0 + 0x100_0000 * getD bytes 3 0 ≡ le-number (take 4 bytes))
+    × (le-number (take 4 bytes) + 0x1_0000_0000 * le-number (drop 4 bytes) ≡ le-number bytes)
+unfolding le-number
 number-four [] = (refl, refl)
 number-four (a ∷ []) = (omega arith, omega arith)
 number-four (a ∷ b ∷ []) = (omega arith, omega arith)
 number-four (a ∷ b ∷ c ∷ []) = (omega arith, omega arith)
 number-four (a ∷ b ∷ c ∷ d ∷ rest) = (omega arith, omega arith)
 
-pub half-is : (bytes : List ℕ) (w : ℕ) → length bytes ≡ 4 → w ≡ getD bytes 0 0 + 0x100 * getD bytes 1 0 + 0x1_0000 * getD bytes 2 0 + 0x100_0000 * getD bytes 3 0 → w ≡ leNumber bytes
-half-is bytes w h e = e ∙ number-four bytes .0 ∙ ap leNumber (take-all 4 bytes (omega arith))
+pub half-is : (bytes : List ℕ) (w : ℕ) → length bytes ≡ 4 → w ≡ getD bytes 0 0 + 0x100 * getD bytes 1 0 + 0x1_0000 * getD bytes 2 0 + 0x100_0000 * getD bytes 3 0 → w ≡ le-number bytes
+half-is bytes w h e = e ∙ number-four bytes .0 ∙ ap le-number (take-all 4 bytes (omega arith))
 
-pub halves-are : (bytes : List ℕ) (low high : ℕ) → low ≡ leNumber (take 4 bytes) → high ≡ leNumber (take (length bytes - 4) (drop 4 bytes)) → low + 0x1_0000_0000 * high ≡ leNumber bytes
+pub halves-are : (bytes : List ℕ) (low high : ℕ) → low ≡ le-number (take 4 bytes) → high ≡ le-number (take (length bytes - 4) (drop 4 bytes)) → low + 0x1_0000_0000 * high ≡ le-number bytes
 halves-are bytes low high a b =
-    let e = ap leNumber (take-all (length bytes - 4) (drop 4 bytes) (omega (arith, length-drop 4 bytes))) in
+    let e = ap le-number (take-all (length bytes - 4) (drop 4 bytes) (omega (arith, length-drop 4 bytes))) in
     omega (arith, number-four bytes .1)
 
 -- w is the number of the bytes from i on
 pub record Read (bytes : List ℕ) (w i : ℕ) : Type 0 where
   pub within : i ≤ length bytes
-  pub number : w ≡ leNumber (drop i bytes)
+  pub number : w ≡ le-number (drop i bytes)
   pub small : w < 256 ^ (length bytes - i)
 
 pub read-none : (bytes : List ℕ) → Read bytes 0 (length bytes)
-unfolding leNumber
-read-none bytes = record { within = omega arith; number = sym (ap leNumber (drop-length bytes)); small = subst (λ (n : ℕ). 0 < 256 ^ n) (none (length bytes)) (omega arith) }
+unfolding le-number
+read-none bytes = record { within = omega arith; number = sym (ap le-number (drop-length bytes)); small = subst (λ (n : ℕ). 0 < 256 ^ n) (none (length bytes)) (omega arith) }
   where
     none : (n : ℕ) → 0 ≡ n - n
     none n = omega arith
@@ -104,20 +104,20 @@ read-turn bytes w i b l p r e h =
     let s : i ≡ suc (i - 1) = omega arith in
     rw e (read-suc bytes w (i - 1) l (subst (λ (n : ℕ). Read bytes w n) s r) h)
 
-pub read-all : (bytes : List ℕ) (w i : ℕ) → i ≤ 0 → Read bytes w i → w ≡ leNumber bytes
+pub read-all : (bytes : List ℕ) (w i : ℕ) → i ≤ 0 → Read bytes w i → w ≡ le-number bytes
 read-all bytes w i h r =
     let z : i ≡ 0 = omega arith in
-    r .number ∙ ap (λ (n : ℕ). leNumber (drop n bytes)) z
+    r .number ∙ ap (λ (n : ℕ). le-number (drop n bytes)) z
 
 -- a word that the end cuts off, or that stands whole
-pub word-short : (bytes : List ℕ) (at n : ℕ) → length bytes - at ≤ 8 → n ≡ length bytes - at → leNumber (take n (drop at bytes)) ≡ wordAt bytes at
-unfolding wordAt
+pub word-short : (bytes : List ℕ) (at n : ℕ) → length bytes - at ≤ 8 → n ≡ length bytes - at → le-number (take n (drop at bytes)) ≡ word-at bytes at
+unfolding word-at
 word-short bytes at n h e =
-    ap leNumber (take-all n (drop at bytes) (omega (arith, length-drop at bytes)) ∙ sym (take-all 8 (drop at bytes) (omega (arith, length-drop at bytes))))
+    ap le-number (take-all n (drop at bytes) (omega (arith, length-drop at bytes)) ∙ sym (take-all 8 (drop at bytes) (omega (arith, length-drop at bytes))))
 
-pub word-whole : (bytes : List ℕ) (at n : ℕ) → n ≡ 8 → leNumber (take n (drop at bytes)) ≡ wordAt bytes at
-unfolding wordAt
-word-whole bytes at n e = ap (λ (k : ℕ). leNumber (take k (drop at bytes))) e
+pub word-whole : (bytes : List ℕ) (at n : ℕ) → n ≡ 8 → le-number (take n (drop at bytes)) ≡ word-at bytes at
+unfolding word-at
+word-whole bytes at n e = ap (λ (k : ℕ). le-number (take k (drop at bytes))) e
 
 -- ---- the i lowest bytes of w stand from `at` on, of k that fit, and rest is what is left of w
 
@@ -126,16 +126,16 @@ pub record Low (k w : ℕ) (out₀ out : List ℕ) (at i rest : ℕ) : Type 0 wh
   pub room : at + k ≤ length out₀
   pub long : length out ≡ length out₀
   pub left : rest ≡ shift 256 i w
-  pub is : out ≡ over out₀ at (leBytes i w)
+  pub is : out ≡ over out₀ at (le-bytes i w)
 
 module _ (k w : ℕ) (out₀ : List ℕ) (at : ℕ) where
   pub low-start : at + k ≤ length out₀ → Low k w out₀ out₀ at 0 w
-  unfolding shift leBytes
+  unfolding shift le-bytes
   low-start h = record { within = omega arith; room = h; long = refl; left = refl; is = sym (over-none out₀ at) }
 
   pub low-turn : (out : List ℕ) (i rest : ℕ) → Low k w out₀ out at i rest → i < k → Low k w out₀ (set out (at + i) (rest % 256)) at (i + 1) (rest / 256)
   low-turn out i rest h l =
-      let n : at + i ≡ at + length (leBytes i w) = omega (arith, length-bytes i w) in
+      let n : at + i ≡ at + length (le-bytes i w) = omega (arith, length-bytes i w) in
       record {
         within = omega arith;
         room = h .room;
@@ -143,11 +143,11 @@ module _ (k w : ℕ) (out₀ : List ℕ) (at : ℕ) where
         left = rw add-one (ap (λ (m : ℕ). m / 256) (h .left) ∙ shift-more 256 i w);
         is =
             rw (h .is, h .left, add-one, n)
-            (store-on out₀ at (leBytes i w) (shift 256 i w % 256) (omega (arith, h .room, length-bytes i w))
+            (store-on out₀ at (le-bytes i w) (shift 256 i w % 256) (omega (arith, h .room, length-bytes i w))
             ∙ ap (over out₀ at) (sym (bytes-more i w)));
       }
 
-  pub low-done : (out : List ℕ) (i rest : ℕ) → Low k w out₀ out at i rest → k ≤ i → out ≡ putBytes out₀ at k w
+  pub low-done : (out : List ℕ) (i rest : ℕ) → Low k w out₀ out at i rest → k ≤ i → out ≡ put-bytes out₀ at k w
   low-done out i rest h l =
       let e : i ≡ k = omega (arith, h .within) in
-      h .is ∙ ap (λ (n : ℕ). over out₀ at (leBytes n w)) e ∙ put-fits out₀ at k w (h .room)
+      h .is ∙ ap (λ (n : ℕ). over out₀ at (le-bytes n w)) e ∙ put-fits out₀ at k w (h .room)

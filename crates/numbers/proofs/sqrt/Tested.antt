@@ -7,7 +7,7 @@ use native.Mathlib.Omega.{arith}
 use lib.Dec.{T, leb, ltb, leb→le, ltb→lt, nleb→lt}
 use mir.Facts.{and-yes}
 use lib.Ieee.{binary64, ofBits}
-use Rattle.numbers.specs.Sqrt.{sqrtOf}
+use Rattle.numbers.specs.Sqrt.{sqrt-of}
 use Rattle.numbers.specs.laws.Isqrt.{IsRoot}
 use Rattle.numbers.specs.laws.Rounded.{SquareOfBits}
 use Rattle.numbers.proofs.sqrt.Patterns.{root-bits}
@@ -82,7 +82,7 @@ half-of m q p h = go (leb (q * q) (m * 2 ^ 52)) (leb→le (q * q) (m * 2 ^ 52)) 
 -- ---- `guessed_root`: w is the pattern with this q
 
 pub tested-bits : (bits m g w : ℕ) → SquareOfBits bits m g → w / 2 ^ 52 ≡ g + 2 → let q = 2 ^ 52 + w % 2 ^ 52 in (q * q < m * 2 ^ 52 + q) × (m * 2 ^ 52 ≤ q * q + q)
-    → ofBits binary64 w ≡ sqrtOf (ofBits binary64 bits)
+    → ofBits binary64 w ≡ sqrt-of (ofBits binary64 bits)
 tested-bits bits m g w s e h =
     let t = half-of m (2 ^ 52 + w % 2 ^ 52) (omega arith) h in
     ap (ofBits binary64) (pattern (t .half)) ∙ root-bits bits m g (t .a) s (t .root)

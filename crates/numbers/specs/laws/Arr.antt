@@ -14,7 +14,7 @@ use lib.Ieee.Fits.{mul-fits}
 use lib.ListN.{length, take, drop, getD, set, replicate, length-append, length-set, length-replicate, drop-of-length-le, getD-replicate, replicate-append-replicate, List·getD-append}
 use lib.Seq.{drop-cons, take-suc, set-at, append-snoc, getD-at, getD-set-same, getD-set-other, ext-getD}
 use Rattle.numbers.specs.F64.{−0ᶠ, _⊕_, _⊗_, 0ᶠ, 1ᶠ}
-use Rattle.numbers.specs.Arr.{dotOf, rowOf, isDimension, dotFrom, tab, setDiag, diagOf}
+use Rattle.numbers.specs.Arr.{dot-of, row-of, is-dimension, dot-from, tab, set-diag, diag-of}
 use Rattle.numbers.specs.Pick.{pick}
 use Rattle.numbers.specs.declared.arr.Four.{Four}
 use Rattle.numbers.specs.laws.Values.{minus-zero-adds}
@@ -22,23 +22,23 @@ use Rattle.numbers.specs.laws.Pick.{hit, skip}
 
 -- ---- sums of products
 
-dot-nil : (s : Float) (a : List Float) → dotFrom s a [] ≡ s
-unfolding dotFrom
+dot-nil : (s : Float) (a : List Float) → dot-from s a [] ≡ s
+unfolding dot-from
 dot-nil s [] = refl
 dot-nil s (x ∷ a) = refl
 
 -- one product more
 pub dot-step : (s : Float) (a b : List Float) (i : ℕ) → i < length a → i < length b
-    → dotFrom (s ⊕ getD a i nan ⊗ getD b i nan) (drop (i + 1) a) (drop (i + 1) b) ≡ dotFrom s (drop i a) (drop i b)
-unfolding dotFrom
+    → dot-from (s ⊕ getD a i nan ⊗ getD b i nan) (drop (i + 1) a) (drop (i + 1) b) ≡ dot-from s (drop i a) (drop i b)
+unfolding dot-from
 dot-step s a b i h k = rw (add-one, drop-cons a i nan, drop-cons b i nan)
 
 -- none left
-pub dot-end : (s : Float) (a b : List Float) (i : ℕ) → min (length a) (length b) ≤ i → dotFrom s (drop i a) (drop i b) ≡ s
-unfolding dotFrom
+pub dot-end : (s : Float) (a b : List Float) (i : ℕ) → min (length a) (length b) ≤ i → dot-from s (drop i a) (drop i b) ≡ s
+unfolding dot-from
 dot-end s a b i h = go (leb (length a) i) refl
   where
-    go : (t : Bool) → leb (length a) i ≡ t → dotFrom s (drop i a) (drop i b) ≡ s
+    go : (t : Bool) → leb (length a) i ≡ t → dot-from s (drop i a) (drop i b) ≡ s
     go true e = rw (drop-of-length-le a (leb-true (length a) i e))
     go false e =
         let l : length b ≤ i = omega (arith, leb-false (length a) i e) in
@@ -84,23 +84,23 @@ tab-replicate v (suc n) = rw (tab-replicate v n, replicate-append-replicate n 1 
 -- ---- four rows at a time
 
 -- four rows' sums, each from its own start: the products with x from column j on
-abbrev pub fourFrom : Four → List Float → List Float → List Float → List Float → List Float → ℕ → Four
-fourFrom s a b c d x j =
+abbrev pub four-from : Four → List Float → List Float → List Float → List Float → List Float → ℕ → Four
+four-from s a b c d x j =
     record {
-      a = dotFrom (s .a) (drop j a) (drop j x);
-      b = dotFrom (s .b) (drop j b) (drop j x);
-      c = dotFrom (s .c) (drop j c) (drop j x);
-      d = dotFrom (s .d) (drop j d) (drop j x);
+      a = dot-from (s .a) (drop j a) (drop j x);
+      b = dot-from (s .b) (drop j b) (drop j x);
+      c = dot-from (s .c) (drop j c) (drop j x);
+      d = dot-from (s .d) (drop j d) (drop j x);
     }
 
 -- the four rows from row i on, times x
-abbrev pub fourRows : ℕ → List Float → List Float → ℕ → Four
-fourRows n mat x i =
+abbrev pub four-row-dots : ℕ → List Float → List Float → ℕ → Four
+four-row-dots n mat x i =
     record {
-      a = dotFrom 0ᶠ (rowOf n mat i) x;
-      b = dotFrom 0ᶠ (rowOf n mat (i + 1)) x;
-      c = dotFrom 0ᶠ (rowOf n mat (i + 2)) x;
-      d = dotFrom 0ᶠ (rowOf n mat (i + 3)) x;
+      a = dot-from 0ᶠ (row-of n mat i) x;
+      b = dot-from 0ᶠ (row-of n mat (i + 1)) x;
+      c = dot-from 0ᶠ (row-of n mat (i + 2)) x;
+      d = dot-from 0ᶠ (row-of n mat (i + 3)) x;
     }
 
 -- ---- a loop that fills a list from the front with f 0, f 1, ..: `xs₀` before the loop, `xs` when i elements are filled
@@ -150,7 +150,7 @@ pub row-in : (n i m : ℕ) → i < m → i * n + n ≤ m * n
 row-in n i m h = omega (arith, suc-mul i n, mul-le-mul-right n h)
 
 -- the part of a table that begins at i × n and has n numbers is row i
-pub row-part : (n i at end : ℕ) (l : List Float) → at ≡ i * n → end ≡ at + n → take (end - at) (drop at l) ≡ rowOf n l i
+pub row-part : (n i at end : ℕ) (l : List Float) → at ≡ i * n → end ≡ at + n → take (end - at) (drop at l) ≡ row-of n l i
 row-part n i at end l p q = let m : end - at ≡ n = omega arith in rw (m, p)
 
 -- equal places with columns below n are in one row
@@ -167,29 +167,29 @@ row-unique n i j k l h g e = omega (arith, row-le n i j k l g e, row-le n k l i 
 -- ---- the diagonal
 
 module _ (n : ℕ) (v : List Float) where
-  pub length-setDiag : (k : ℕ) (mat : List Float) → length (setDiag n v k mat) ≡ length mat
-  unfolding setDiag
-  length-setDiag zero mat = refl
-  length-setDiag (suc k) mat = simp length-set (length-setDiag k mat)
+  pub length-set-diag : (k : ℕ) (mat : List Float) → length (set-diag n v k mat) ≡ length mat
+  unfolding set-diag
+  length-set-diag zero mat = refl
+  length-set-diag (suc k) mat = simp length-set (length-set-diag k mat)
 
-  on : (k : ℕ) (mat : List Float) (i : ℕ) → k ≤ n → n * n ≤ length mat → i < k → getD (setDiag n v k mat) (i * n + i) nan ≡ getD v i nan
-  unfolding setDiag
+  on : (k : ℕ) (mat : List Float) (i : ℕ) → k ≤ n → n * n ≤ length mat → i < k → getD (set-diag n v k mat) (i * n + i) nan ≡ getD v i nan
+  unfolding set-diag
   on zero mat i l g h = absurd (omega (arith, h))
   on (suc k) mat i l g h =
       ⊎-elim
       (λ (e : i ≡ k). rw e
-      (getD-set-same (setDiag n v k mat) (k * n + k) (getD v k nan) nan (rw (length-setDiag k mat) (omega (arith, row-in n k n (omega arith))))))
+      (getD-set-same (set-diag n v k mat) (k * n + k) (getD v k nan) nan (rw (length-set-diag k mat) (omega (arith, row-in n k n (omega arith))))))
       (λ (lt : i < k).
-      getD-set-other (setDiag n v k mat) (k * n + k) (i * n + i) (getD v k nan) nan
+      getD-set-other (set-diag n v k mat) (k * n + k) (i * n + i) (getD v k nan) nan
       (λ q. absurd (omega (arith, row-unique n i i k k (omega arith) (omega arith) q)))
       ∙ on k mat i (omega arith) g lt)
       (eq-or-lt-of-le (le-of-suc-le-suc h))
 
-  off : (k : ℕ) (mat : List Float) (i j : ℕ) → k ≤ n → j < n → (i ≡ j → ⊥) → getD (setDiag n v k mat) (i * n + j) nan ≡ getD mat (i * n + j) nan
-  unfolding setDiag
+  off : (k : ℕ) (mat : List Float) (i j : ℕ) → k ≤ n → j < n → (i ≡ j → ⊥) → getD (set-diag n v k mat) (i * n + j) nan ≡ getD mat (i * n + j) nan
+  unfolding set-diag
   off zero mat i j l h g = refl
   off (suc k) mat i j l h g =
-      getD-set-other (setDiag n v k mat) (k * n + k) (i * n + j) (getD v k nan) nan
+      getD-set-other (set-diag n v k mat) (k * n + k) (i * n + j) (getD v k nan) nan
       (λ q.
       let e : i ≡ k = row-unique n i j k k h (omega arith) q in
       let p : i * n ≡ k * n = ap (λ (z : ℕ). z * n) e in
@@ -197,11 +197,11 @@ module _ (n : ℕ) (v : List Float) where
       ∙ off k mat i j (omega arith) h g
 
   -- what from_diag writes, by row and column
-  pub diag-at : (i j : ℕ) → i < n → j < n → getD (diagOf n v) (i * n + j) nan ≡ pick (eqb i j) (getD v i nan) 0ᶠ
-  unfolding diagOf
+  pub diag-at : (i j : ℕ) → i < n → j < n → getD (diag-of n v) (i * n + j) nan ≡ pick (eqb i j) (getD v i nan) 0ᶠ
+  unfolding diag-of
   diag-at i j h g = go (eqb i j) refl
     where
-      go : (t : Bool) → eqb i j ≡ t → getD (setDiag n v n (replicate (n * n) 0ᶠ)) (i * n + j) nan ≡ pick (eqb i j) (getD v i nan) 0ᶠ
+      go : (t : Bool) → eqb i j ≡ t → getD (set-diag n v n (replicate (n * n) 0ᶠ)) (i * n + j) nan ≡ pick (eqb i j) (getD v i nan) 0ᶠ
       go true e =
           hit (eqb i j) (getD v i nan) 0ᶠ _ e
           (rw (← eqb-true i j e) (on n (replicate (n * n) 0ᶠ) i (omega arith) (rw (length-replicate (n * n) 0ᶠ) (omega arith)) h))
@@ -211,21 +211,21 @@ module _ (n : ℕ) (v : List Float) where
           ∙ getD-replicate (n * n) (i * n + j) 0ᶠ nan (omega (arith, row-in n i n h)))
 
 -- what eye writes
-pub eye-at : (n i j : ℕ) → i < n → j < n → getD (diagOf n (replicate n 1ᶠ)) (i * n + j) nan ≡ pick (eqb i j) 1ᶠ 0ᶠ
+pub eye-at : (n i j : ℕ) → i < n → j < n → getD (diag-of n (replicate n 1ᶠ)) (i * n + j) nan ≡ pick (eqb i j) 1ᶠ 0ᶠ
 eye-at n i j h g = diag-at n (replicate n 1ᶠ) i j h g ∙ rw (getD-replicate n i 1ᶠ nan h)
 
 -- ---- what the test of a dimension says
 
-pub dimension-least : (n : ℕ) → isDimension n ≡ true → 2 ≤ n
+pub dimension-least : (n : ℕ) → is-dimension n ≡ true → 2 ≤ n
 dimension-least n h = leb-true 2 n (and-eq-true-iff (leb 2 n) (leb n 32) .0 h .0)
 
-pub dimension-most : (n : ℕ) → isDimension n ≡ true → n ≤ 32
+pub dimension-most : (n : ℕ) → is-dimension n ≡ true → n ≤ 32
 dimension-most n h = leb-true n 32 (and-eq-true-iff (leb 2 n) (leb n 32) .0 h .1)
 
 -- ---- a sum from the first product on is one begun at minus zero
 
-pub dot-minus-zero : (a b : List Float) → dotOf a b ≡ dotFrom −0ᶠ a b
-unfolding dotOf dotFrom
+pub dot-minus-zero : (a b : List Float) → dot-of a b ≡ dot-from −0ᶠ a b
+unfolding dot-of dot-from
 dot-minus-zero [] b = refl
 dot-minus-zero (x ∷ a) [] = refl
-dot-minus-zero (x ∷ a) (y ∷ b) = ap (λ (s : Float). dotFrom s a b) (sym (minus-zero-adds (x ⊗ y) (mul-fits binary64 x y)))
+dot-minus-zero (x ∷ a) (y ∷ b) = ap (λ (s : Float). dot-from s a b) (sym (minus-zero-adds (x ⊗ y) (mul-fits binary64 x y)))

@@ -9,7 +9,7 @@ use lib.Dec.{T, leb, leb→le, nleb→lt}
 use lib.Pow.{pow-pos}
 use lib.Ieee.{size}
 use lib.Ieee.Digits.{size-lt}
-use Rattle.numbers.specs.Sqrt.{isqrtTo, isqrt}
+use Rattle.numbers.specs.Sqrt.{isqrt-to, isqrt}
 
 -- a is the whole part of √N
 pub record IsRoot (N a : ℕ) : Type 0 where
@@ -45,12 +45,12 @@ less-than-one N h = record { below = omega arith; above = omega arith }
 fewer : (k N : ℕ) → N < 4 ^ suc k → N / 4 < 4 ^ k
 fewer k N h = let p = pow-suc 4 k in omega arith
 
-isqrtTo-is : (k N : ℕ) → N < 4 ^ k → IsRoot N (isqrtTo k N)
-unfolding isqrtTo
-isqrtTo-is zero N h = less-than-one N h
-isqrtTo-is (suc k) N h =
-    let i = isqrtTo-is k (N / 4) (fewer k N h) in
-    next-digit N (2 * isqrtTo k (N / 4)) (quarter N (isqrtTo k (N / 4)) (2 * isqrtTo k (N / 4)) (i .below) (i .above) refl)
+isqrt-to-is : (k N : ℕ) → N < 4 ^ k → IsRoot N (isqrt-to k N)
+unfolding isqrt-to
+isqrt-to-is zero N h = less-than-one N h
+isqrt-to-is (suc k) N h =
+    let i = isqrt-to-is k (N / 4) (fewer k N h) in
+    next-digit N (2 * isqrt-to k (N / 4)) (quarter N (isqrt-to k (N / 4)) (2 * isqrt-to k (N / 4)) (i .below) (i .above) refl)
 
 -- 4 ^ k as a square
 pub four-pow : (k : ℕ) → 4 ^ k ≡ 2 ^ k * 2 ^ k
@@ -59,7 +59,7 @@ four-pow (suc k) = let p = pow-suc 4 k in let q = pow-suc 2 k in let r = four-po
 
 pub isqrt-is : (N : ℕ) → IsRoot N (isqrt N)
 unfolding isqrt
-isqrt-is N = isqrtTo-is (size N) N (lt-of-lt-of-le (size-lt N) (grow (size N)))
+isqrt-is N = isqrt-to-is (size N) N (lt-of-lt-of-le (size-lt N) (grow (size N)))
   where
     grow : (k : ℕ) → 2 ^ k ≤ 4 ^ k
     grow k = rw four-pow (let p : 1 ≤ 2 ^ k = pow-pos k in le-trans (le-of-eq (omega arith)) (mul-le-mul-right (2 ^ k) p))

@@ -1,4 +1,4 @@
--- `sqrtOf` is IEEE 754's squareRoot with rounding to nearest: no tie occurs, and every other value of binary64 lies farther from the true root. Assumes nothing.
+-- `sqrt-of` is IEEE 754's squareRoot with rounding to nearest: no tie occurs, and every other value of binary64 lies farther from the true root. Assumes nothing.
 use mathlib.Core.Path.{_≡_, refl, sym, ap, _∙_, subst}
 use mathlib.Core.Logic.{inl, inr}
 use mathlib.Core.Bool.{Bool, true, false, not}
@@ -17,7 +17,7 @@ use lib.Ieee.Positive.{positive}
 use lib.Ieee.Scale.{finite}
 use lib.Ieee.Fits.{nan-fits, inf-fits}
 use lib.Ieee.Bits.{ofBits-fits}
-use Rattle.numbers.specs.Sqrt.{unitsOf, squareOf, rounded, sqrtOf, negative, Nearer, NearestRoot}
+use Rattle.numbers.specs.Sqrt.{units-of, square-of, rounded, sqrt-of, negative, Nearer, NearestRoot}
 use Rattle.numbers.specs.laws.Rounded.{Form, form, rounded-scaled, root-least, half-least, half-most, even-square, from-kept, below-next, below-middle, above-middle}
 use Rattle.numbers.specs.laws.Values.{pow-join, value-unique}
 use Rattle.numbers.specs.laws.Units.{placed, value-units, units-bits, in-range, at-positive}
@@ -81,18 +81,18 @@ module _ (N q P u : ℕ) (gap : q * P < u → (q + 1) * P ≤ u) where
 
 -- x has N = m * 2 ^ 54 * 4 ^ g, its root a, and the rounded root ((a + 1) / 2) * 2 ^ (g + 1) units
 record Rooted (x : Float) : Type 0 where
-  pub parts : Form (squareOf (unitsOf x))
-  pub is : sqrtOf x ≡ units binary64 false ((parts .a + 1) / 2) (parts .g + 1)
+  pub parts : Form (square-of (units-of x))
+  pub is : sqrt-of x ≡ units binary64 false ((parts .a + 1) / 2) (parts .g + 1)
 
 rooted : (m : ℕ) (e : ℤ) → T (fits binary64 (fin false (suc m) e)) → Rooted (fin false (suc m) e)
 rooted m e f =
     let x = fin false (suc m) e in
     let p = placed false (suc m) e f in
     let j = p .place in
-    let N-is : squareOf (unitsOf x) ≡ suc m * 2 ^ (j + 1074) =
+    let N-is : square-of (units-of x) ≡ suc m * 2 ^ (j + 1074) =
     ap (λ (n : ℕ). n * 2 ^ 1074) (value-units x false (suc m * 2 ^ j) (p .value)) ∙ pow-join (suc m) j 1074 in
     let d = form (suc m) (j + 1074) (zero-lt-suc m) (p .small) (far-up j) (near j (p .reach)) in
-    let F : Form (squareOf (unitsOf x)) = subst Form (sym N-is) d in
+    let F : Form (square-of (units-of x)) = subst Form (sym N-is) d in
     record { parts = F; is = at-positive (suc m) e (zero-lt-suc m) ∙ ap rounded (F .square) ∙ rounded-scaled (F .m) (F .a) (F .g) (F .scaled) }
   where
     far-up : (j : ℕ) → 107 ≤ j + 1074
@@ -111,19 +111,19 @@ module _ (x : Float) (r : Rooted x) where
   place-reach : place ≤ 2045
   place-reach = let l = r .parts .reach in omega arith
 
-  rooted-value : HasValue (sqrtOf x) false (root * 2 ^ place) (2 ^ 1074)
+  rooted-value : HasValue (sqrt-of x) false (root * 2 ^ place) (2 ^ 1074)
   rooted-value =
       subst (λ (y : Float). HasValue y false (root * 2 ^ place) (2 ^ 1074)) (sym (r .is))
       (units-val binary64 false root place (in-range root place (half-most (r .parts .m) (r .parts .a) (r .parts .scaled)) place-reach))
 
-  rooted-fits : T (fits binary64 (sqrtOf x))
+  rooted-fits : T (fits binary64 (sqrt-of x))
   rooted-fits =
       subst (λ (y : Float). T (fits binary64 y))
       (units-bits root place (half-least (r .parts .m) (r .parts .a) (r .parts .scaled)) (half-most (r .parts .m) (r .parts .a) (r .parts .scaled)) place-reach ∙ sym (r .is))
       (ofBits-fits binary64 (place * 2 ^ 52 + root))
 
   -- against a number of u units that is not the root's
-  rooted-nearer : (u : ℕ) → (r .parts .a / 2 * 2 ^ place < u → (r .parts .a / 2 + 1) * 2 ^ place ≤ u) → (u ≡ root * 2 ^ place → ⊥) → Nearer (squareOf (unitsOf x)) (root * 2 ^ place) false u
+  rooted-nearer : (u : ℕ) → (r .parts .a / 2 * 2 ^ place < u → (r .parts .a / 2 + 1) * 2 ^ place ≤ u) → (u ≡ root * 2 ^ place → ⊥) → Nearer (square-of (units-of x)) (root * 2 ^ place) false u
   rooted-nearer u G ne =
       let F = r .parts in
       let q = F .a / 2 in
@@ -156,8 +156,8 @@ zero-farther N r (inl h) = absurd (not-suc-le-zero (h .0))
 zero-farther N r (inr h) = lt-of-le-of-lt (le-of-eq (omega arith)) (h .1)
 
 -- For every other f64 the root lies strictly nearer: x positive and finite, y finite.
-strictly-nearer : (x y : Float) → T (fits binary64 x) → T (positive x) → T (fits binary64 y) → T (finite y) → (y ≡ sqrtOf x → ⊥)
-    → Nearer (squareOf (unitsOf x)) (unitsOf (sqrtOf x)) (negative y) (unitsOf y)
+strictly-nearer : (x y : Float) → T (fits binary64 x) → T (positive x) → T (fits binary64 y) → T (finite y) → (y ≡ sqrt-of x → ⊥)
+    → Nearer (square-of (units-of x)) (units-of (sqrt-of x)) (negative y) (units-of y)
 strictly-nearer nan y f p g h ne = absurd p
 strictly-nearer (inf s) y f p g h ne = absurd p
 strictly-nearer (fin true m e) y f p g h ne = absurd p
@@ -172,8 +172,8 @@ strictly-nearer (fin false (suc m) e) (fin t n d) f p g h ne = go t g ne
     r : Rooted x
     r = rooted m e f
 
-    root-units : unitsOf (sqrtOf x) ≡ root x r * 2 ^ place x r
-    root-units = value-units (sqrtOf x) false (root x r * 2 ^ place x r) (rooted-value x r)
+    root-units : units-of (sqrt-of x) ≡ root x r * 2 ^ place x r
+    root-units = value-units (sqrt-of x) false (root x r * 2 ^ place x r) (rooted-value x r)
 
     half-pos : 0 < root x r
     half-pos = let l = half-least (r .parts .m) (r .parts .a) (r .parts .scaled) in omega arith
@@ -181,22 +181,22 @@ strictly-nearer (fin false (suc m) e) (fin t n d) f p g h ne = go t g ne
     not-zero : 0 ≡ root x r * 2 ^ place x r → ⊥
     not-zero q = let l = mul-pos half-pos (pow-pos (place x r)) in omega arith
 
-    go : (t : Bool) → T (fits binary64 (fin t n d)) → (fin t n d ≡ sqrtOf x → ⊥) → Nearer (squareOf (unitsOf x)) (unitsOf (sqrtOf x)) t (unitsOf (fin t n d))
+    go : (t : Bool) → T (fits binary64 (fin t n d)) → (fin t n d ≡ sqrt-of x → ⊥) → Nearer (square-of (units-of x)) (units-of (sqrt-of x)) t (units-of (fin t n d))
     go false g ne =
         let P = placed false n d g in
-        let u : unitsOf (fin false n d) ≡ n * 2 ^ P .place = value-units (fin false n d) false (n * 2 ^ P .place) (P .value) in
+        let u : units-of (fin false n d) ≡ n * 2 ^ P .place = value-units (fin false n d) false (n * 2 ^ P .place) (P .value) in
         rw (root-units, u)
         (rooted-nearer x r (n * 2 ^ P .place)
         (grid (r .parts .a / 2) (place x r) n (P .place) (let l = root-least (r .parts .m) (r .parts .a) (r .parts .scaled) in omega arith) (P .small))
-        (λ q. ne (value-unique binary64 (fin false n d) (sqrtOf x) false (n * 2 ^ P .place) (2 ^ 1074) (pow-pos 1074) g (rooted-fits x r) (P .value) (subst (λ (z : ℕ). HasValue (sqrtOf x) false z (2 ^ 1074)) (sym q) (rooted-value x r)))))
+        (λ q. ne (value-unique binary64 (fin false n d) (sqrt-of x) false (n * 2 ^ P .place) (2 ^ 1074) (pow-pos 1074) g (rooted-fits x r) (P .value) (subst (λ (z : ℕ). HasValue (sqrt-of x) false z (2 ^ 1074)) (sym q) (rooted-value x r)))))
     go true g ne =
         rw root-units
-        (lt-of-le-of-lt (sq-mono (sub-le (root x r * 2 ^ place x r) (unitsOf (fin true n d))))
-        (zero-farther (squareOf (unitsOf x)) (root x r * 2 ^ place x r) (rooted-nearer x r 0 (λ l. absurd (not-suc-le-zero l)) not-zero)))
+        (lt-of-le-of-lt (sq-mono (sub-le (root x r * 2 ^ place x r) (units-of (fin true n d))))
+        (zero-farther (square-of (units-of x)) (root x r * 2 ^ place x r) (rooted-nearer x r 0 (λ l. absurd (not-suc-le-zero l)) not-zero)))
 
 -- the root of a value of the format is one
-pub sqrt-fits : (x : Float) → T (fits binary64 x) → T (fits binary64 (sqrtOf x))
-unfolding sqrtOf
+pub sqrt-fits : (x : Float) → T (fits binary64 x) → T (fits binary64 (sqrt-of x))
+unfolding sqrt-of
 sqrt-fits nan f = nan-fits binary64
 sqrt-fits (inf false) f = inf-fits binary64 false
 sqrt-fits (inf true) f = nan-fits binary64
@@ -209,13 +209,13 @@ value-finite nan s a c v = absurd v
 value-finite (inf t) s a c v = absurd v
 value-finite (fin t m e) s a c v = (tt, v .0)
 
--- `sqrtOf` gives IEEE 754's root.
-pub sqrt-nearest : (x : Float) → T (fits binary64 x) → T (positive x) → NearestRoot x (sqrtOf x)
+-- `sqrt-of` gives IEEE 754's root.
+pub sqrt-nearest : (x : Float) → T (fits binary64 x) → T (positive x) → NearestRoot x (sqrt-of x)
 sqrt-nearest nan f p = absurd p
 sqrt-nearest (inf s) f p = absurd p
 sqrt-nearest (fin true m e) f p = absurd p
 sqrt-nearest (fin false zero e) f p = absurd p
 sqrt-nearest (fin false (suc m) e) f p =
     let x = fin false (suc m) e in
-    let v = value-finite (sqrtOf x) false _ _ (rooted-value x (rooted m e f)) in
+    let v = value-finite (sqrt-of x) false _ _ (rooted-value x (rooted m e f)) in
     record { is-f64 = sqrt-fits x f; is-finite = v .0; not-below-zero = v .1; nearer = λ y. strictly-nearer x y f p }

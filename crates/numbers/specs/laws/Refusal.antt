@@ -5,7 +5,7 @@ use Prim.Native.Nat.{ℕ}
 use borrow.Author.Tests.{not-true}
 use Rattle.numbers.specs.declared.refusal.Refusal.{Refusal}
 use Rattle.numbers.specs.laws.Pick.{hit, skip, is-hit, is-skip, by-test}
-use Rattle.numbers.specs.Refusal.{refusalNumber, is-fault, _⨾_, unless, fault-number, ask-at}
+use Rattle.numbers.specs.Refusal.{refusal-number, is-fault, _⨾_, unless, fault-number, ask-at}
 use Rattle.numbers.specs.declared.refusal.Fault.{Fault}
 use Rattle.numbers.specs.declared.refusal.Fault.the-variants.{Sound, At}
 
@@ -80,7 +80,7 @@ unless-map made Sound refused done = refl
 unless-map made (At why place) refused done = refl
 
 -- So a call's number, where it is 0 for all that its work answers, is that of its tests: refused exactly where one fails, by the first that does.
-pub number-is {ℓ} : {X : Type ℓ} (number : X → ℕ) (f : Fault) (refused : Refusal → ℕ → X) (done : X) → ((why : Refusal) (place : ℕ) → number (refused why place) ≡ refusalNumber why)
+pub number-is {ℓ} : {X : Type ℓ} (number : X → ℕ) (f : Fault) (refused : Refusal → ℕ → X) (done : X) → ((why : Refusal) (place : ℕ) → number (refused why place) ≡ refusal-number why)
     → (f ≡ Sound → number done ≡ 0) → number (unless f refused done) ≡ fault-number f
 number-is number Sound refused done h k = k refl
 number-is number (At why place) refused done h k = h why place

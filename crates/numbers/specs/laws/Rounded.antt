@@ -8,7 +8,7 @@ use lib.Dec.{T, isLe, isEq, leb→le, nleb→lt, eqb→eq}
 use lib.Pow.{pow-add, pow-pos, pow-mono, shl-lt}
 use lib.Ieee.{ofBits, binary64, size, nearest, units}
 use lib.Ieee.Digits.{size-lt, size-le, size-reaches}
-use Rattle.numbers.specs.Sqrt.{isqrt, dropped, kept, middle, rounded, sqrtOf}
+use Rattle.numbers.specs.Sqrt.{isqrt, dropped, kept, middle, rounded, sqrt-of}
 use Rattle.numbers.specs.laws.Values.{pow-join}
 use Rattle.numbers.specs.laws.Isqrt.{IsRoot, sq-lt-back, root-unique, four-pow, isqrt-is, shifted-root}
 
@@ -146,12 +146,12 @@ module _ (M a g : ℕ) (even : M % 2 ≡ 0) (r : IsRoot M a) where
       strict x y p q h = omega arith
 
 -- as `compare` says it
-abbrev sideOf : ℕ → Ordering
-sideOf zero = Ordering·lt
-sideOf (suc d) = Ordering·gt
+abbrev side-of : ℕ → Ordering
+side-of zero = Ordering·lt
+side-of (suc d) = Ordering·gt
 
 side : (M a g : ℕ) → M % 2 ≡ 0 → IsRoot M a
-    → compare (4 * (M * 4 ^ g)) ((2 * (a / 2) + 1) * 2 ^ (g + 1) * ((2 * (a / 2) + 1) * 2 ^ (g + 1))) ≡ sideOf (a % 2)
+    → compare (4 * (M * 4 ^ g)) ((2 * (a / 2) + 1) * 2 ^ (g + 1) * ((2 * (a / 2) + 1) * 2 ^ (g + 1))) ≡ side-of (a % 2)
 side M a g even r = go (a % 2) refl
   where
     N : ℕ
@@ -160,14 +160,14 @@ side M a g even r = go (a % 2) refl
     b : ℕ
     b = (2 * (a / 2) + 1) * 2 ^ (g + 1)
 
-    go : (t : ℕ) → a % 2 ≡ t → compare N (b * b) ≡ sideOf t
+    go : (t : ℕ) → a % 2 ≡ t → compare N (b * b) ≡ side-of t
     go zero e = compare-lt N (b * b) (below-middle M a g even r e)
     go (suc t) e = let o : a % 2 ≡ 1 = omega arith in compare-gt N (b * b) (above-middle M a g even r o)
 
-half-up : (a : ℕ) → nearest (a / 2) (sideOf (a % 2)) ≡ (a + 1) / 2
+half-up : (a : ℕ) → nearest (a / 2) (side-of (a % 2)) ≡ (a + 1) / 2
 half-up a = go (a % 2) refl
   where
-    go : (t : ℕ) → a % 2 ≡ t → nearest (a / 2) (sideOf t) ≡ (a + 1) / 2
+    go : (t : ℕ) → a % 2 ≡ t → nearest (a / 2) (side-of t) ≡ (a + 1) / 2
     go zero e = omega arith
     go (suc t) e = omega arith
 
@@ -193,7 +193,7 @@ module _ (m a g : ℕ) (s : Scaled m a) where
   middle-is : middle N ≡ (2 * (a / 2) + 1) * 2 ^ (g + 1)
   middle-is = ap (λ (k : ℕ). (2 * kept N + 1) * 2 ^ k) dropped-is ∙ ap (λ (q : ℕ). (2 * q + 1) * 2 ^ (g + 1)) kept-is
 
-  side-is : compare (4 * N) (middle N * middle N) ≡ sideOf (a % 2)
+  side-is : compare (4 * N) (middle N * middle N) ≡ side-of (a % 2)
   side-is = ap (λ (x : ℕ). compare (4 * N) (x * x)) middle-is ∙ side (m * 2 ^ 54) a g (even-square m) (s .root)
 
   -- the 53 leading digits of a, rounded at the 54th
@@ -201,8 +201,8 @@ module _ (m a g : ℕ) (s : Scaled m a) where
   unfolding rounded
   rounded-scaled =
       ap (λ (o : Ordering). units binary64 false (nearest (kept N) o) (dropped N)) side-is
-      ∙ ap (λ (q : ℕ). units binary64 false (nearest q (sideOf (a % 2))) (dropped N)) kept-is
-      ∙ ap (λ (k : ℕ). units binary64 false (nearest (a / 2) (sideOf (a % 2))) k) dropped-is
+      ∙ ap (λ (q : ℕ). units binary64 false (nearest q (side-of (a % 2))) (dropped N)) kept-is
+      ∙ ap (λ (k : ℕ). units binary64 false (nearest (a / 2) (side-of (a % 2))) k) dropped-is
       ∙ ap (λ (x : ℕ). units binary64 false x (g + 1)) (half-up a)
 
 -- ---- every positive number has such a form
@@ -283,7 +283,7 @@ form n e p u k b = subst Form moved (form-normal (n * 2 ^ z) (e - z) lower upper
 
 -- what the code works out first: the root of the number with these bits is that of m * 2 ^ 54 * 4 ^ g
 pub record SquareOfBits (bits m g : ℕ) : Type 0 where
-  pub root : sqrtOf (ofBits binary64 bits) ≡ rounded (m * 2 ^ 54 * 4 ^ g)
+  pub root : sqrt-of (ofBits binary64 bits) ≡ rounded (m * 2 ^ 54 * 4 ^ g)
   pub least : 2 ^ 52 ≤ m
   pub most : m ≤ 2 ^ 54 - 2
   pub reach : g ≤ 1532

@@ -14,7 +14,7 @@ use lib.Ieee.Exact.{HasValue}
 use borrow.Author.Tests.{lt-leb, ne-eqb, lt-ltb}
 use lib.Ieee.Positive.{first-pos}
 use lib.Ieee.Scale.{finite}
-use Rattle.numbers.specs.Sqrt.{unitsOf, squareOf, rounded, sqrtOf, negative}
+use Rattle.numbers.specs.Sqrt.{units-of, square-of, rounded, sqrt-of, negative}
 use Rattle.numbers.specs.laws.Values.{place-lt, Parts, fits-parts, whole}
 
 -- ---- q * 2 ^ k units as bits: the field is k + 1, and the leading digit of q adds one to it
@@ -69,7 +69,7 @@ units-bits q k l u r =
 
 -- ---- a value of the format is a whole number of units
 
-pub value-units : (x : Float) (s : Bool) (u : ℕ) → HasValue x s u (2 ^ 1074) → unitsOf x ≡ u
+pub value-units : (x : Float) (s : Bool) (u : ℕ) → HasValue x s u (2 ^ 1074) → units-of x ≡ u
 value-units nan s u v = absurd v
 value-units (inf t) s u v = absurd v
 value-units (fin t m e) s u v = ap (λ (n : ℕ). n / down e) (v .1) ∙ mul-div-cancel u (down-pos e)
@@ -95,8 +95,8 @@ placed s zero e f = record {
 }
 placed s (suc m) e f = placed-at s (suc m) e (zero-lt-suc m) (fits-parts binary64 s m e f)
 
--- so `unitsOf` drops nothing of a finite value of the format
-pub units-exact : (x : Float) → T (fits binary64 x) → T (finite x) → HasValue x (negative x) (unitsOf x) (2 ^ 1074)
+-- so `units-of` drops nothing of a finite value of the format
+pub units-exact : (x : Float) → T (fits binary64 x) → T (finite x) → HasValue x (negative x) (units-of x) (2 ^ 1074)
 units-exact nan f h = absurd h
 units-exact (inf s) f h = absurd h
 units-exact (fin s m e) f h =
@@ -108,23 +108,23 @@ units-exact (fin s m e) f h =
 value-pos : (m : ℕ) (e : ℤ) (u : ℕ) → 0 < u → m * up e * 2 ^ 1074 ≡ u * down e → 0 < m
 value-pos m e u p v = first-pos m (up e) (first-pos (m * up e) (2 ^ 1074) (subst (λ (x : ℕ). 0 < x) (sym v) (mul-pos p (down-pos e))))
 
-pub at-positive : (m : ℕ) (e : ℤ) → 0 < m → sqrtOf (fin false m e) ≡ rounded (squareOf (unitsOf (fin false m e)))
-unfolding sqrtOf
+pub at-positive : (m : ℕ) (e : ℤ) → 0 < m → sqrt-of (fin false m e) ≡ rounded (square-of (units-of (fin false m e)))
+unfolding sqrt-of
 at-positive zero e h = absurd (not-suc-le-zero h)
 at-positive (suc m) e h = refl
 
-at-negative : (m : ℕ) (e : ℤ) → 0 < m → sqrtOf (fin true m e) ≡ nan
-unfolding sqrtOf
+at-negative : (m : ℕ) (e : ℤ) → 0 < m → sqrt-of (fin true m e) ≡ nan
+unfolding sqrt-of
 at-negative zero e h = absurd (not-suc-le-zero h)
 at-negative (suc m) e h = refl
 
-pub root-of-value : (x : Float) (u : ℕ) → 0 < u → HasValue x false u (2 ^ 1074) → sqrtOf x ≡ rounded (u * 2 ^ 1074)
+pub root-of-value : (x : Float) (u : ℕ) → 0 < u → HasValue x false u (2 ^ 1074) → sqrt-of x ≡ rounded (u * 2 ^ 1074)
 root-of-value nan u p v = absurd v
 root-of-value (inf t) u p v = absurd v
 root-of-value (fin s m e) u p v =
-    ap (λ (t : Bool). sqrtOf (fin t m e)) (v .0) ∙ at-positive m e (value-pos m e u p (v .1)) ∙ ap (λ (n : ℕ). rounded (n * 2 ^ 1074)) (value-units (fin s m e) false u v)
+    ap (λ (t : Bool). sqrt-of (fin t m e)) (v .0) ∙ at-positive m e (value-pos m e u p (v .1)) ∙ ap (λ (n : ℕ). rounded (n * 2 ^ 1074)) (value-units (fin s m e) false u v)
 
-pub no-root-of-value : (x : Float) (u : ℕ) → 0 < u → HasValue x true u (2 ^ 1074) → sqrtOf x ≡ nan
+pub no-root-of-value : (x : Float) (u : ℕ) → 0 < u → HasValue x true u (2 ^ 1074) → sqrt-of x ≡ nan
 no-root-of-value nan u p v = absurd v
 no-root-of-value (inf t) u p v = absurd v
-no-root-of-value (fin s m e) u p v = ap (λ (t : Bool). sqrtOf (fin t m e)) (v .0) ∙ at-negative m e (value-pos m e u p (v .1))
+no-root-of-value (fin s m e) u p v = ap (λ (t : Bool). sqrt-of (fin t m e)) (v .0) ∙ at-negative m e (value-pos m e u p (v .1))

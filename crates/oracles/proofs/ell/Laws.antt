@@ -12,8 +12,8 @@ use lib.ListN.{length, set, take, drop}
 use lib.Ieee.{Float}
 use Rattle.numbers.specs.F64.{_⊖_, _⊗_, _⊘_, 0ᶠ}
 use Rattle.numbers.specs.Pick.{pick}
-use Rattle.numbers.specs.Arr.{tab, mvOf, dotOf}
-use Rattle.numbers.specs.declared.cut.Answer.{Answer}
+use Rattle.numbers.specs.Arr.{tab, mv-of, dot-of}
+use Rattle.numbers.specs.declared.cut.CutAnswer.{CutAnswer}
 use Rattle.numbers.specs.declared.cut.CutChoice.{CutChoice}
 use Rattle.numbers.specs.declared.cut.CutStatus.the-variants.{NoEffect}
 use Rattle.numbers.specs.EllCalc.{made, new-answer, new-tests}
@@ -22,16 +22,16 @@ use Rattle.numbers.specs.declared.ell_calc.NewEllCalc.the-variants.{Made as Mad
 use Rattle.numbers.specs.laws.Arr.{length-tab, tab-entry}
 use Rattle.numbers.specs.laws.Pick.{hit, skip, is-hit, is-skip, both-ways, pick-cong, pick-grow}
 use Rattle.numbers.specs.laws.Refusal.{unless-map}
-use Rattle.oracles.specs.Matrix.{entry, at, grid}
+use Rattle.oracles.specs.Matrix.{nth, at, grid}
 use Rattle.oracles.specs.laws.Matrix.{length-grid, grid-at, grid-cong}
 use Rattle.oracles.specs.laws.Loop.{MatrixOf, matrix-set, matrix-grid, swept-by, by-zero, by-left, by-past, by-turn, by-done, part-long, part-entry, part-turn}
-use Rattle.oracles.specs.EllCommon.{calcOf, is-tiny, is-success, centreOf}
+use Rattle.oracles.specs.EllCommon.{calc-of, is-tiny, is-success, centre-of}
 use Rattle.oracles.specs.declared.ell_common.CutStrategy.{CutStrategy}
 use Rattle.oracles.specs.declared.ell.Ell.{Ell}
 use Rattle.oracles.specs.declared.ell.EllUpdate.{EllUpdate}
 use Rattle.oracles.specs.declared.ell.NewEll.{NewEll}
 use Rattle.oracles.specs.declared.ell.NewEll.the-variants.{Made, Refused as NotMade}
-use Rattle.oracles.specs.Ell.{EllBuffers, rank-one, new-ell-answer, with-tsq, ell-said, ell-updateOf}
+use Rattle.oracles.specs.Ell.{EllBuffers, rank-one, new-ell-answer, with-tsq, ell-said, ell-update-of}
 use Rattle.oracles.specs.laws.Ell.{row-lowered, all-lowered, mirrored-to, row-mirrored, mirrored}
 
 -- ---- column i from row i
@@ -81,7 +81,7 @@ columns-done n i mq₀ mq h l = by-done n _ _ _ i mq h (λ r c a b k. absurd (om
 -- ---- every row
 
 abbrev pub lowered-to : ℕ → Float → List Float → List Float → ℕ → ℕ → ℕ → Float
-lowered-to n ratio gt mq = swept-by (λ r c. r) (λ r c. pick (leb c r) (at n mq r c ⊖ ratio ⊗ entry gt r ⊗ entry gt c) (at n mq r c)) (λ r c. at n mq r c)
+lowered-to n ratio gt mq = swept-by (λ r c. r) (λ r c. pick (leb c r) (at n mq r c ⊖ ratio ⊗ nth gt r ⊗ nth gt c) (at n mq r c)) (λ r c. at n mq r c)
 
 pub rows-start : (n : ℕ) (ratio : Float) (gt mq : List Float) → length mq ≡ n * n → MatrixOf n (lowered-to n ratio gt mq 0) mq
 rows-start n ratio gt mq l = by-zero n (λ r c. r) _ mq l
@@ -92,7 +92,7 @@ row-long n ratio gt mq₀ mq i h l = part-long n _ _ i mq h 0 (i * n) (i * n + n
 
 pub rows-turn : (n : ℕ) (ratio : Float) (gt mq₀ mq : List Float) (i : ℕ) → MatrixOf n (lowered-to n ratio gt mq₀ i) mq → i < n
     → MatrixOf n (lowered-to n ratio gt mq₀ (i + 1))
-    (putMid (i * n) (i * n + n - i * n) mq (row-lowered (take (i * n + n - i * n) (drop (i * n) mq)) (ratio ⊗ entry gt i) gt i))
+    (putMid (i * n) (i * n + n - i * n) mq (row-lowered (take (i * n + n - i * n) (drop (i * n) mq)) (ratio ⊗ nth gt i) gt i))
 unfolding row-lowered
 rows-turn n ratio gt mq₀ mq i h l =
     part-turn n _ _ i mq h 0 (i * n) (i * n + n - i * n) l (omega arith) (omega arith) (tab new (length row)) (length-tab new (length row) ∙ long)
@@ -103,12 +103,12 @@ rows-turn n ratio gt mq₀ mq i h l =
     row = take (i * n + n - i * n) (drop (i * n) mq)
 
     new : ℕ → Float
-    new j = pick (leb j i) (entry row j ⊖ ratio ⊗ entry gt i ⊗ entry gt j) (entry row j)
+    new j = pick (leb j i) (nth row j ⊖ ratio ⊗ nth gt i ⊗ nth gt j) (nth row j)
 
     long : length row ≡ i * n + n - i * n
     long = part-long n _ _ i mq h 0 (i * n) (i * n + n - i * n) l (omega arith) (omega arith)
 
-    each : (c : ℕ) → c < i * n + n - i * n → entry row c ≡ at n mq₀ i (0 + c)
+    each : (c : ℕ) → c < i * n + n - i * n → nth row c ≡ at n mq₀ i (0 + c)
     each c m = part-entry n _ _ i mq h 0 (i * n) (i * n + n - i * n) l (omega arith) (omega arith) c m
 
 pub rows-done : (n : ℕ) (ratio : Float) (gt mq₀ mq : List Float) (i : ℕ) → MatrixOf n (lowered-to n ratio gt mq₀ i) mq → n ≤ i → mq ≡ all-lowered n ratio gt mq₀
@@ -128,7 +128,7 @@ shrunk n ratio gt mq =
     is-hit (ltb r c) _ _ (lt-ltb r c l) ∙ grid-at low n n c r b a ∙ is-hit (leb r c) _ _ (le-leb r c (omega arith))))
   where
     low : ℕ → ℕ → Float
-    low r c = pick (leb c r) (at n mq r c ⊖ ratio ⊗ entry gt r ⊗ entry gt c) (at n mq r c)
+    low r c = pick (leb c r) (at n mq r c ⊖ ratio ⊗ nth gt r ⊗ nth gt c) (at n mq r c)
 
 -- ---- what is made of the calculator's answer
 
@@ -143,22 +143,22 @@ made-from n kappa = unless-map (from-calc n kappa) (new-tests n) (λ why place. 
 -- ---- the ways through an update, from what its calls answered
 
 module _ (e : Ell) (s : CutStrategy) (grad : List Float) (beta : CutChoice) (b : EllBuffers) (gt : List Float) (omega : Float) (tiny : Bool)
-    (g : gt ≡ mvOf (e .ndim) (b .mq) grad) (o : omega ≡ dotOf grad gt) (t : tiny ≡ is-tiny omega) where
-  tiny-is : is-tiny (dotOf grad (mvOf (e .ndim) (b .mq) grad)) ≡ tiny
-  tiny-is = sym (t ∙ ap is-tiny (o ∙ ap (dotOf grad) g))
+    (g : gt ≡ mv-of (e .ndim) (b .mq) grad) (o : omega ≡ dot-of grad gt) (t : tiny ≡ is-tiny omega) where
+  tiny-is : is-tiny (dot-of grad (mv-of (e .ndim) (b .mq) grad)) ≡ tiny
+  tiny-is = sym (t ∙ ap is-tiny (o ∙ ap (dot-of grad) g))
 
-  pub no-effect : (r : EllUpdate) → tiny ≡ true → r ≡ ell-said e NoEffect → (r, record { mq = b .mq; xc = b .xc; grad-t = gt }) ≡ ell-updateOf e s grad beta b
-  unfolding ell-updateOf
+  pub no-effect : (r : EllUpdate) → tiny ≡ true → r ≡ ell-said e NoEffect → (r, record { mq = b .mq; xc = b .xc; grad-t = gt }) ≡ ell-update-of e s grad beta b
+  unfolding ell-update-of
   no-effect r h q = hit _ _ _ _ (tiny-is ∙ h) (rw (q, g))
 
-  module _ (a : Answer) (ok : Bool) (k : a ≡ calcOf s (e .helper) beta (e .kappa ⊗ omega)) (u : ok ≡ is-success (a .status)) (h : tiny ≡ false) where
+  module _ (a : CutAnswer) (ok : Bool) (k : a ≡ calc-of s (e .helper) beta (e .kappa ⊗ omega)) (u : ok ≡ is-success (a .status)) (h : tiny ≡ false) where
     pub fails : (r : EllUpdate) → not ok ≡ true → r ≡ ell-said (with-tsq e (e .kappa) (e .kappa ⊗ omega)) (a .status)
-        → (r, record { mq = b .mq; xc = b .xc; grad-t = gt }) ≡ ell-updateOf e s grad beta b
-    unfolding ell-updateOf
+        → (r, record { mq = b .mq; xc = b .xc; grad-t = gt }) ≡ ell-update-of e s grad beta b
+    unfolding ell-update-of
     fails r f q = skip _ _ _ _ (tiny-is ∙ h) (hit _ _ _ _ (rw (← g, ← o, ← k, ← u) f) (rw (q, k, o, g)))
 
     pub succeeds : (r : EllUpdate) (mq xc : List Float) → not ok ≡ false → mq ≡ rank-one (e .ndim) (a .params .sigma ⊘ omega) gt (b .mq)
-        → xc ≡ centreOf (b .xc) (a .params .rho ⊘ omega) gt → r ≡ ell-said (with-tsq e (e .kappa ⊗ a .params .delta) (e .kappa ⊗ omega)) (a .status)
-        → (r, record { mq = mq; xc = xc; grad-t = gt }) ≡ ell-updateOf e s grad beta b
-    unfolding ell-updateOf
+        → xc ≡ centre-of (b .xc) (a .params .rho ⊘ omega) gt → r ≡ ell-said (with-tsq e (e .kappa ⊗ a .params .delta) (e .kappa ⊗ omega)) (a .status)
+        → (r, record { mq = mq; xc = xc; grad-t = gt }) ≡ ell-update-of e s grad beta b
+    unfolding ell-update-of
     succeeds r mq xc f x y q = skip _ _ _ _ (tiny-is ∙ h) (skip _ _ _ _ (rw (← g, ← o, ← k, ← u) f) (rw (q, x, y, k, o, g)))

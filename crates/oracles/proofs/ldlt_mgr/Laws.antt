@@ -15,7 +15,7 @@ use Rattle.numbers.specs.F64.{_⊕_, _⊖_, _⊗_, _⊘_, 0ᶠ}
 use Rattle.numbers.specs.Pick.{pick}
 use Rattle.numbers.specs.laws.Pick.{hit, skip}
 use Rattle.oracles.specs.Matrix.{at, total}
-use Rattle.oracles.specs.LdltMgr.{taken, reduced, stored, stops, stop-from, stopOf, filled, posOf, rowsOf, factorOf}
+use Rattle.oracles.specs.LdltMgr.{taken, reduced, stored, stops, stop-from, stop-of, filled, position-of, factor-rows, factor-of}
 use Rattle.oracles.specs.declared.ldlt_mgr.Factored.{Factored}
 use Rattle.oracles.specs.declared.ldlt_mgr.Factored.the-variants.{Definite, Stopped}
 use Rattle.oracles.specs.laws.Matrix.{place-in, at-set-same, at-set-other, total-cong}
@@ -173,15 +173,15 @@ module _ (A : ℕ → ℕ → Float) (m : ℕ) (storage₀ : List Float) (i : �
 pub record RowsTo (A : ℕ → ℕ → Float) (m : ℕ) (storage₀ storage : List Float) (i : ℕ) : Type 0 where
   pub within : i ≤ m
   pub is : storage ≡ filled A m storage₀ i
-  pub left : stop-from A (m - i) i ≡ stopOf A m
+  pub left : stop-from A (m - i) i ≡ stop-of A m
 
 module _ (A : ℕ → ℕ → Float) (m : ℕ) (storage₀ : List Float) where
   pub rows-start : length storage₀ ≡ m * m → RowsTo A m storage₀ storage₀ 0
-  unfolding stopOf
+  unfolding stop-of
   rows-start l = record { within = omega arith; is = filled-zero A m storage₀ l; left = rw sub-zero }
 
-  answered : (e : ℕ) (storage : List Float) → stopOf A m ≡ e → storage ≡ filled A m storage₀ (pick (eqb e 0) m e) → (e, storage) ≡ rowsOf A m storage₀
-  unfolding rowsOf
+  answered : (e : ℕ) (storage : List Float) → stop-of A m ≡ e → storage ≡ filled A m storage₀ (pick (eqb e 0) m e) → (e, storage) ≡ factor-rows A m storage₀
+  unfolding factor-rows
   answered e storage h f = rw (h, f)
 
   module _ (storage : List Float) (i : ℕ) (h : RowsTo A m storage₀ storage i) where
@@ -207,12 +207,12 @@ module _ (A : ℕ → ℕ → Float) (m : ℕ) (storage₀ : List Float) where
             left = rw add-one (sym (stop-later A (m - suc i) i (rw (← f) t)) ∙ rw (← one-less) (h .left));
           }
 
-      pub rows-stop : stops diag ≡ true → (i + 1, next) ≡ rowsOf A m storage₀
+      pub rows-stop : stops diag ≡ true → (i + 1, next) ≡ factor-rows A m storage₀
       rows-stop t =
           answered (i + 1) next (sym (h .left) ∙ rw (one-less, add-one) (stop-here A (m - suc i) i (rw (← f) t)))
           (rw add-one (written ∙ ap (filled A m storage₀) (skip _ _ _ _ (ne-eqb (suc i) 0 (λ q. omega (arith, q))) refl)))
 
-    pub rows-done : m ≤ i → (0, storage) ≡ rowsOf A m storage₀
+    pub rows-done : m ≤ i → (0, storage) ≡ factor-rows A m storage₀
     unfolding stop-from
     rows-done l =
         let q : i ≡ m = omega (arith, h .within) in
@@ -220,11 +220,11 @@ module _ (A : ℕ → ℕ → Float) (m : ℕ) (storage₀ : List Float) where
         answered 0 storage (sym (h .left) ∙ rw z) (h .is ∙ ap (filled A m storage₀) (q ∙ hit _ _ _ _ (eq-eqb 0 0 refl) refl))
 
 -- the answer by the stop
-module _ (A : ℕ → ℕ → Float) (m : ℕ) (storage : List Float) (e : ℕ) (out : List Float) (h : (e, out) ≡ rowsOf A m storage) where
-  pub definite : e ≡ 0 → (Definite, out) ≡ factorOf A m storage
-  unfolding factorOf
+module _ (A : ℕ → ℕ → Float) (m : ℕ) (storage : List Float) (e : ℕ) (out : List Float) (h : (e, out) ≡ factor-rows A m storage) where
+  pub definite : e ≡ 0 → (Definite, out) ≡ factor-of A m storage
+  unfolding factor-of
   definite z = rw (← h) (ap (λ (x : Factored). (x, out)) (hit _ _ _ _ (eq-eqb e 0 z) refl))
 
-  pub stopped-at : (e ≡ 0 → ⊥) → (Stopped (posOf e), out) ≡ factorOf A m storage
-  unfolding factorOf
+  pub stopped-at : (e ≡ 0 → ⊥) → (Stopped (position-of e), out) ≡ factor-of A m storage
+  unfolding factor-of
   stopped-at z = rw (← h) (ap (λ (x : Factored). (x, out)) (skip _ _ _ _ (ne-eqb e 0 z) refl))

@@ -8,8 +8,8 @@ use lib.ListN.{length, take, drop, set, length-set}
 use lib.Seq.{append-snoc, split-at, getD-set-same, take-set-le, drop-set-lt, length-take-le}
 use lib.Ieee.{Float, nan, neg}
 use Rattle.numbers.specs.F64.{_⊕_, _⊗_, 0ᶠ, 1ᶠ}
-use Rattle.oracles.specs.Matrix.{entry, at, total}
-use Rattle.oracles.specs.LdltMgr.{witness-tail, witnessOf}
+use Rattle.oracles.specs.Matrix.{nth, at, total}
+use Rattle.oracles.specs.LdltMgr.{witness-tail, witness-of}
 use Rattle.oracles.specs.laws.Matrix.{total-cong, entry-mid, set-last}
 
 module _ (m : ℕ) (storage : List Float) (end : ℕ) where
@@ -22,13 +22,13 @@ module _ (m : ℕ) (storage : List Float) (end : ℕ) where
   -- the entry p of a witness, from those after it
   tail-step : (p k : ℕ) → end ≡ suc (suc k) + p
       → witness-tail m storage end (end - p)
-      ≡ neg (total _⊕_ 0ᶠ (λ j. at m storage (p + 1 + j) p ⊗ entry (witness-tail m storage end (suc k)) j) (suc k)) ∷ witness-tail m storage end (suc k)
+      ≡ neg (total _⊕_ 0ᶠ (λ j. at m storage (p + 1 + j) p ⊗ nth (witness-tail m storage end (suc k)) j) (suc k)) ∷ witness-tail m storage end (suc k)
   unfolding witness-tail
   tail-step p k e =
       let a : end - p ≡ suc (suc k) = omega arith in
       let b : end - suc (suc k) ≡ p = omega arith in
       let after = witness-tail m storage end (suc k) in
-      rw a (ap (λ (i : ℕ). neg (total _⊕_ 0ᶠ (λ j. at m storage (i + 1 + j) i ⊗ entry after j) (suc k)) ∷ after) b)
+      rw a (ap (λ (i : ℕ). neg (total _⊕_ 0ᶠ (λ j. at m storage (i + 1 + j) i ⊗ nth after j) (suc k)) ∷ after) b)
 
   -- the loop that writes it from the last entry back: `wit₀` before, `wit` when the entries from i on are written
   pub record WitnessTo (wit₀ wit : List Float) (i : ℕ) : Type 0 where
@@ -45,7 +45,7 @@ module _ (m : ℕ) (storage : List Float) (end : ℕ) where
       let b : suc (end - 1) ≡ end = omega arith in
       let w = set wit (end - 1) 1ᶠ in
       let long = length-set wit (end - 1) 1ᶠ in
-      let last : entry w (end - 1) ≡ 1ᶠ = getD-set-same wit (end - 1) 1ᶠ nan (omega arith) in
+      let last : nth w (end - 1) ≡ 1ᶠ = getD-set-same wit (end - 1) 1ᶠ nan (omega arith) in
       let parts : w ≡ take (end - 1) w ++ (1ᶠ ∷ drop end w) =
       split-at w (end - 1) nan (omega arith) ∙ rw (b, last)
       in
@@ -57,7 +57,7 @@ module _ (m : ℕ) (storage : List Float) (end : ℕ) where
       }
 
   pub witness-turn : (wit₀ wit : List Float) (p : ℕ) (s : Float) → WitnessTo wit₀ wit (suc p)
-      → s ≡ total _⊕_ 0ᶠ (λ j. at m storage (p + 1 + j) p ⊗ entry wit (p + 1 + j)) (end - (p + 1)) → WitnessTo wit₀ (set wit p (neg s)) p
+      → s ≡ total _⊕_ 0ᶠ (λ j. at m storage (p + 1 + j) p ⊗ nth wit (p + 1 + j)) (end - (p + 1)) → WitnessTo wit₀ (set wit p (neg s)) p
   witness-turn wit₀ wit p s h e =
       let b = h .below in
       let l = h .within in
@@ -67,13 +67,13 @@ module _ (m : ℕ) (storage : List Float) (end : ℕ) where
       let long-after = length-tail (suc k) in
       let q : end - suc p ≡ suc k = omega arith in
       let is : wit ≡ take (suc p) wit₀ ++ after ++ rest = h .is ∙ ap (λ (n : ℕ). take (suc p) wit₀ ++ witness-tail m storage end n ++ rest) q in
-      let reads : (j : ℕ) → j < suc k → entry wit (p + 1 + j) ≡ entry after j =
-      λ j a. ap (λ (w : List Float). entry w (p + 1 + j)) is ∙ entry-mid (take (suc p) wit₀) after rest (p + 1) j (rw add-one (length-take-le (suc p) wit₀ (omega arith))) (omega arith)
+      let reads : (j : ℕ) → j < suc k → nth wit (p + 1 + j) ≡ nth after j =
+      λ j a. ap (λ (w : List Float). nth w (p + 1 + j)) is ∙ entry-mid (take (suc p) wit₀) after rest (p + 1) j (rw add-one (length-take-le (suc p) wit₀ (omega arith))) (omega arith)
       in
       let q2 : end - (p + 1) ≡ suc k = omega arith in
-      let sum : s ≡ total _⊕_ 0ᶠ (λ j. at m storage (p + 1 + j) p ⊗ entry after j) (suc k) =
-      e ∙ ap (total _⊕_ 0ᶠ (λ j. at m storage (p + 1 + j) p ⊗ entry wit (p + 1 + j))) q2
-      ∙ total-cong _⊕_ 0ᶠ (λ j. at m storage (p + 1 + j) p ⊗ entry wit (p + 1 + j)) (λ j. at m storage (p + 1 + j) p ⊗ entry after j) (suc k) (λ j a. rw (reads j a))
+      let sum : s ≡ total _⊕_ 0ᶠ (λ j. at m storage (p + 1 + j) p ⊗ nth after j) (suc k) =
+      e ∙ ap (total _⊕_ 0ᶠ (λ j. at m storage (p + 1 + j) p ⊗ nth wit (p + 1 + j))) q2
+      ∙ total-cong _⊕_ 0ᶠ (λ j. at m storage (p + 1 + j) p ⊗ nth wit (p + 1 + j)) (λ j. at m storage (p + 1 + j) p ⊗ nth after j) (suc k) (λ j a. rw (reads j a))
       in
       record {
         below = omega arith;
@@ -85,8 +85,8 @@ module _ (m : ℕ) (storage : List Float) (end : ℕ) where
       }
 
   pub witness-done : (wit₀ wit : List Float) (start i : ℕ) → start ≤ i → i ≤ start → WitnessTo (set wit₀ (end - 1) 1ᶠ) wit i
-      → wit ≡ witnessOf m (record { start = start; end = end }) storage wit₀
-  unfolding witnessOf
+      → wit ≡ witness-of m (record { start = start; end = end }) storage wit₀
+  unfolding witness-of
   witness-done wit₀ wit start i j k h =
       let b = h .below in
       let q : i ≡ start = omega arith in

@@ -12,15 +12,15 @@ use lib.Seq.{length-take-le}
 use lib.Ieee.{Float, neg}
 use Rattle.numbers.specs.declared.cut.CutChoice.the-variants.{Single}
 use Rattle.numbers.specs.F64.{_⊗_, 1ᶠ}
-use Rattle.numbers.specs.Arr.{isDimension, tab}
+use Rattle.numbers.specs.Arr.{is-dimension, tab}
 use Rattle.numbers.specs.declared.refusal.Refusal.the-variants.{Length}
 use Rattle.numbers.specs.laws.Arr.{row-in, dimension-most}
 use Rattle.numbers.specs.laws.Pick.{hit, skip, says-no, says-yes}
 use Rattle.numbers.specs.laws.Refusal.{failed, held, at-next, refuses, accepts}
 use Rattle.oracles.specs.Matrix.{at}
-use Rattle.oracles.specs.LdltMgr.{isOrder, get-elem, posOf, rowsOf, witnessOf, quadOf}
+use Rattle.oracles.specs.LdltMgr.{is-order, get-elem, position-of, factor-rows, witness-of, quad-of}
 use Rattle.oracles.specs.laws.Ldlt.{LmiReads}
-use Rattle.oracles.specs.LmiOracle.{LmiBuffers, matOf, lmi-gradient, lmi-assessOf, lmi-fits, lmi-answer}
+use Rattle.oracles.specs.LmiOracle.{LmiBuffers, mat-of, lmi-gradient, lmi-assess-of, lmi-fits, lmi-answer}
 use Rattle.oracles.specs.declared.lmi_oracle.LmiVerdict.{LmiVerdict}
 use Rattle.oracles.specs.declared.lmi_oracle.LmiVerdict.the-variants.{Feasible, Cut, Refused}
 use Rattle.oracles.specs.declared.ldlt_mgr.Pos.{Pos}
@@ -29,8 +29,8 @@ use Rattle.oracles.specs.declared.ldlt_mgr.Pos.{Pos}
 pub all-small : (m n : ℕ) → m ≤ 32 → n ≤ 32 → n * (m * m) ≤ 32768
 all-small m n h k = mul-le-mul k (mul-le-mul h h)
 
-pub dimension-small : (n : ℕ) (s : Bool) → s ≡ isDimension n → not s ≡ false → n ≤ 32
-dimension-small n s f t = dimension-most n (says-yes s (isDimension n) f t)
+pub dimension-small : (n : ℕ) (s : Bool) → s ≡ is-dimension n → not s ≡ false → n ≤ 32
+dimension-small n s f t = dimension-most n (says-yes s (is-dimension n) f t)
 
 -- ---- the gradient's loop
 
@@ -46,11 +46,11 @@ pub part-long : (m n k : ℕ) (mat-f : List Float) → length mat-f ≡ n * (m *
 part-long m n k mat-f l g =
     rw (part m k) (length-take-le (m * m) (drop (k * (m * m)) mat-f) (rw (length-drop (k * (m * m)) mat-f, l) (omega (arith, row-in (m * m) k n g))))
 
-pub quad-is : (m k : ℕ) (pos : Pos) (wit mat-f : List Float) {q : Float} → q ≡ quadOf m pos wit (take (k * (m * m) + m * m - k * (m * m)) (drop (k * (m * m)) mat-f))
-    → 1ᶠ ⊗ q ≡ 1ᶠ ⊗ quadOf m pos wit (matOf m mat-f k)
+pub quad-is : (m k : ℕ) (pos : Pos) (wit mat-f : List Float) {q : Float} → q ≡ quad-of m pos wit (take (k * (m * m) + m * m - k * (m * m)) (drop (k * (m * m)) mat-f))
+    → 1ᶠ ⊗ q ≡ 1ᶠ ⊗ quad-of m pos wit (mat-of m mat-f k)
 quad-is m k pos wit mat-f e = rw (e, part m k)
 
-pub gradient-is : (m n : ℕ) (pos : Pos) (wit mat-f grad : List Float) → length grad ≡ n → tab (λ k. 1ᶠ ⊗ quadOf m pos wit (matOf m mat-f k)) (length grad) ≡ lmi-gradient m n pos wit mat-f
+pub gradient-is : (m n : ℕ) (pos : Pos) (wit mat-f grad : List Float) → length grad ≡ n → tab (λ k. 1ᶠ ⊗ quad-of m pos wit (mat-of m mat-f k)) (length grad) ≡ lmi-gradient m n pos wit mat-f
 unfolding lmi-gradient
 gradient-is m n pos wit mat-f grad e = rw e
 
@@ -60,25 +60,25 @@ pub reads : (m n : ℕ) (mat-b mat-f xc : List Float) → m ≤ 32 → n ≤ 32 
 reads m n mat-b mat-f xc h k l f x = record { order = h; long-b = l; long-f = rw x f; few = omega arith }
 
 -- `e` and `out` are what factor_rows leaves of the storage
-module _ (m n : ℕ) (mat-b mat-f xc : List Float) (b : LmiBuffers) (e : ℕ) (out : List Float) (h : (e, out) ≡ rowsOf (get-elem m mat-b mat-f xc) m (b .storage)) where
-  pub feasible : e ≡ 0 → (Feasible, record { storage = out; wit = b .wit; grad = b .grad }) ≡ lmi-assessOf m n mat-b mat-f xc b
-  unfolding lmi-assessOf
+module _ (m n : ℕ) (mat-b mat-f xc : List Float) (b : LmiBuffers) (e : ℕ) (out : List Float) (h : (e, out) ≡ factor-rows (get-elem m mat-b mat-f xc) m (b .storage)) where
+  pub feasible : e ≡ 0 → (Feasible, record { storage = out; wit = b .wit; grad = b .grad }) ≡ lmi-assess-of m n mat-b mat-f xc b
+  unfolding lmi-assess-of
   feasible z = rw (← h) (hit _ _ _ _ (eq-eqb e 0 z) refl)
 
-  pub cut : (wit grad : List Float) (d : Float) → (e ≡ 0 → ⊥) → wit ≡ witnessOf m (posOf e) out (b .wit) → grad ≡ lmi-gradient m n (posOf e) wit mat-f
-      → d ≡ at m out (e - 1) (e - 1) → (Cut (posOf e) (Single (neg d)), record { storage = out; wit = wit; grad = grad }) ≡ lmi-assessOf m n mat-b mat-f xc b
-  unfolding lmi-assessOf
+  pub cut : (wit grad : List Float) (d : Float) → (e ≡ 0 → ⊥) → wit ≡ witness-of m (position-of e) out (b .wit) → grad ≡ lmi-gradient m n (position-of e) wit mat-f
+      → d ≡ at m out (e - 1) (e - 1) → (Cut (position-of e) (Single (neg d)), record { storage = out; wit = wit; grad = grad }) ≡ lmi-assess-of m n mat-b mat-f xc b
+  unfolding lmi-assess-of
   cut wit grad d z w g f = rw (← h) (skip _ _ _ _ (ne-eqb e 0 z) (rw (g, w, f)))
 
 -- ---- the answers by what the tests say: `r` is what is_order answered, `s` what is_dimension did, `u` what lengths_fit did
 
-module _ (m n : ℕ) (mat-b mat-f xc : List Float) (b : LmiBuffers) {r s u : Bool} (e : r ≡ isOrder m) (f : s ≡ isDimension n) (g : u ≡ lmi-fits m n mat-b mat-f xc b)
+module _ (m n : ℕ) (mat-b mat-f xc : List Float) (b : LmiBuffers) {r s u : Bool} (e : r ≡ is-order m) (f : s ≡ is-dimension n) (g : u ≡ lmi-fits m n mat-b mat-f xc b)
     (h : not r ≡ false) (k : not s ≡ false) where
   pub wrong-length : not u ≡ true → (Refused Length, b) ≡ lmi-answer m n mat-b mat-f xc b
   unfolding lmi-answer
   wrong-length l = refuses _ _ _ (at-next (held _ _ (says-yes r _ e h)) (at-next (held _ _ (says-yes s _ f k)) (failed (says-no u _ g l)))) refl
 
-  pub accepted : (v : LmiVerdict) (w : LmiBuffers) → not u ≡ false → (v, w) ≡ lmi-assessOf m n mat-b mat-f xc b → (v, w) ≡ lmi-answer m n mat-b mat-f xc b
+  pub accepted : (v : LmiVerdict) (w : LmiBuffers) → not u ≡ false → (v, w) ≡ lmi-assess-of m n mat-b mat-f xc b → (v, w) ≡ lmi-answer m n mat-b mat-f xc b
   unfolding lmi-answer
   accepted v w l x = accepts _ _ _ (at-next (held _ _ (says-yes r _ e h)) (at-next (held _ _ (says-yes s _ f k)) (held _ _ (says-yes u _ g l)))) x
 

@@ -14,14 +14,14 @@ use lib.IntN.{pos, natAbs}
 use lib.Signed.{leZ, ltZ}
 use lib.ListN.{length}
 use lib.Ieee.{Float}
-use Rattle.numbers.specs.Arr.{isDimension}
+use Rattle.numbers.specs.Arr.{is-dimension}
 use Rattle.numbers.specs.laws.Arr.{dimension-least, dimension-most}
 use Rattle.numbers.specs.declared.refusal.Refusal.the-variants.{Dimension, Length, Band, Cursor}
 use Rattle.numbers.specs.laws.Pick.{and-parts}
 use Rattle.numbers.specs.laws.Refusal.{failed, held, at-first, at-next, refuses, accepts}
 use Rattle.oracles.specs.laws.RoundRobin.{legal-band, legal-at}
-use Rattle.oracles.specs.Scan.{isRows, table-fits}
-use Rattle.oracles.specs.LowpassOracle.{bands-fit, cursors-fit, refusedOf, assessOf, assess-feas-answer, optim-of, assess-optim-answer, offered}
+use Rattle.oracles.specs.Scan.{is-rows, table-fits}
+use Rattle.oracles.specs.LowpassOracle.{bands-fit, cursors-fit, refused-of, assess-of, assess-feas-answer, optim-of, assess-optim-answer, offered}
 use Rattle.oracles.specs.Verdict.{feasible, refused, asked, is-accepted, is-feasible, judgement, Peak, FeasRule, OptimRule}
 use Rattle.oracles.specs.laws.Assess.{Spans, fit-of, Accepted, accepted-of, fits-oracle}
 use Rattle.oracles.specs.laws.CursorRule.{feas-rule, optim-rule, refused-unless}
@@ -53,33 +53,33 @@ module _ (o : LowpassOracle) (n rows : ℕ) (table x grad : List Float) where
       → (_≡_ {A = Answer} (r, grad) (assess-feas-answer o n rows table x grad)) × (is-accepted o n rows table x grad ≡ true → FeasRule (asked o (o .«sp_sq») n rows table x) r)
   refused-as r why e q = with-rule r grad (ap (λ (z : Assessed). (z, grad)) e ∙ q)
 
-  pub no-dimension : isDimension n ≡ false → _≡_ {A = Answer} (refusedOf o Dimension, grad) (assess-feas-answer o n rows table x grad)
+  pub no-dimension : is-dimension n ≡ false → _≡_ {A = Answer} (refused-of o Dimension, grad) (assess-feas-answer o n rows table x grad)
   unfolding assess-feas-answer
   no-dimension h = refuses _ _ _ (at-first _ (at-first _ (failed h))) refl
 
-  pub no-length : isDimension n ≡ true → fits ≡ false → _≡_ {A = Answer} (refusedOf o Length, grad) (assess-feas-answer o n rows table x grad)
+  pub no-length : is-dimension n ≡ true → fits ≡ false → _≡_ {A = Answer} (refused-of o Length, grad) (assess-feas-answer o n rows table x grad)
   unfolding assess-feas-answer
   no-length d h = refuses _ _ _ (at-first _ (at-next (held _ _ d) (failed h))) refl
 
-  module _ (d : isDimension n ≡ true) (f : fits ≡ true) where
-    pub no-bands : bands-fit o rows ≡ false → _≡_ {A = Answer} (refusedOf o Band, grad) (assess-feas-answer o n rows table x grad)
+  module _ (d : is-dimension n ≡ true) (f : fits ≡ true) where
+    pub no-bands : bands-fit o rows ≡ false → _≡_ {A = Answer} (refused-of o Band, grad) (assess-feas-answer o n rows table x grad)
     unfolding assess-feas-answer
     no-bands h = refuses _ _ _ (at-next (at-next (held _ _ d) (held _ _ f)) (at-first _ (failed h))) refl
 
-    pub no-cursors : bands-fit o rows ≡ true → cursors-fit o ≡ false → _≡_ {A = Answer} (refusedOf o Cursor, grad) (assess-feas-answer o n rows table x grad)
+    pub no-cursors : bands-fit o rows ≡ true → cursors-fit o ≡ false → _≡_ {A = Answer} (refused-of o Cursor, grad) (assess-feas-answer o n rows table x grad)
     unfolding assess-feas-answer
     no-cursors b h = refuses _ _ _ (at-next (at-next (held _ _ d) (held _ _ f)) (at-next (held _ _ b) (failed h))) refl
 
-    pub all-passed : bands-fit o rows ≡ true → cursors-fit o ≡ true → (p : Answer) → p ≡ assessOf o n table x grad → p ≡ assess-feas-answer o n rows table x grad
+    pub all-passed : bands-fit o rows ≡ true → cursors-fit o ≡ true → (p : Answer) → p ≡ assess-of o n table x grad → p ≡ assess-feas-answer o n rows table x grad
     unfolding assess-feas-answer
     all-passed b c p e = accepts _ _ _ (fits-oracle o n rows fits (record { dimension = d; long = f; bands = b; cursors = c })) e
 
     -- each band can be scanned
     module _ (b : bands-fit o rows ≡ true) (c : cursors-fit o ≡ true) where
-      has-rows : isRows rows ≡ true
-      has-rows = go (isRows rows) refl
+      has-rows : is-rows rows ≡ true
+      has-rows = go (is-rows rows) refl
         where
-          go : (t : Bool) → isRows rows ≡ t → isRows rows ≡ true
+          go : (t : Bool) → is-rows rows ≡ t → is-rows rows ≡ true
           go true e = e
           go false e = absurd (true≢false (sym b ∙ rw e))
 

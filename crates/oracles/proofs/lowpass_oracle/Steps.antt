@@ -20,12 +20,12 @@ use Rattle.numbers.specs.declared.cut.CutChoice.{CutChoice}
 use Rattle.numbers.specs.laws.Arr.{dimension-least, dimension-most}
 use Rattle.numbers.specs.laws.Pick.{and-parts}
 use Rattle.oracles.specs.RoundRobin.{moved}
-use Rattle.oracles.specs.Scan.{−∞, none, scanOf, violated, band-beta, band-gradient}
-use Rattle.oracles.specs.LowpassOracle.{after-pass, after-stop, after-middle, assess-sign, assess-middle, assess-stop, assessOf}
+use Rattle.oracles.specs.Scan.{−∞, none, scan-of, violated, band-beta, band-gradient}
+use Rattle.oracles.specs.LowpassOracle.{after-pass, after-stop, after-middle, assess-sign, assess-middle, assess-stop, assess-of}
 use Rattle.oracles.specs.laws.Scan.{broken-in, Scannable}
 use Rattle.oracles.specs.declared.round_robin.RoundRobin.{RoundRobin}
 use Rattle.oracles.specs.declared.scan.Upper.{Upper}
-use Rattle.oracles.specs.declared.scan.Upper.the-variants.{Absent, At}
+use Rattle.oracles.specs.declared.scan.Upper.the-variants.{Absent, Limit}
 use Rattle.oracles.specs.declared.lowpass_oracle.LowpassOracle.{LowpassOracle}
 use Rattle.oracles.specs.declared.lowpass_oracle.Group.the-variants.{Pass, Stop, Middle}
 use Rattle.oracles.specs.declared.lowpass_oracle.Verdict.the-variants.{Cut}
@@ -63,7 +63,7 @@ module _ {n rows : ℕ} {table x : List Float} {c : RoundRobin} (S : Scannable n
   x-long = eqb-true (length x) n (and-parts (eqb (length table) (rows * n)) (eqb (length x) n) (S .long) .1)
 
   -- the row of a violation can be read
-  pub row-fits : (lower : Float) (upper : Upper) (s : Scan) → s ≡ scanOf n table x c lower upper → (row : ℕ) (v : Float) (over : Bool) → s .viol ≡ Broken row v over → row * n + n ≤ length table
+  pub row-fits : (lower : Float) (upper : Upper) (s : Scan) → s ≡ scan-of n table x c lower upper → (row : ℕ) (v : Float) (over : Bool) → s .viol ≡ Broken row v over → row * n + n ≤ length table
   row-fits lower upper s es row v over e =
       let R = ready-of n rows table x c S in
       let i = broken-in n table x c lower upper (R .legal) row v over (ap (λ (z : Scan). z .viol) (sym es) ∙ e) in
@@ -72,12 +72,12 @@ module _ {n rows : ℕ} {table x : List Float} {c : RoundRobin} (S : Scannable n
 -- ---- a scan that was made, from the cursor c, and the cursor that it left
 
 module _ (n : ℕ) (table x : List Float) (c : RoundRobin) (lower : Float) (upper : Upper) (s : Scan) (rr : RoundRobin)
-    (es : s ≡ scanOf n table x c lower upper) (er : rr ≡ moved c (s .last)) (fl : SFits w32 (s .last)) where
+    (es : s ≡ scan-of n table x c lower upper) (er : rr ≡ moved c (s .last)) (fl : SFits w32 (s .last)) where
   -- an oracle made of the scan's last row, as it is read, and of the cursor
-  placed : (f : ℤ → RoundRobin → LowpassOracle) → f (read (s .last)) rr ≡ f (scanOf n table x c lower upper .last) (moved c (scanOf n table x c lower upper .last))
+  placed : (f : ℤ → RoundRobin → LowpassOracle) → f (read (s .last)) rr ≡ f (scan-of n table x c lower upper .last) (moved c (scan-of n table x c lower upper .last))
   placed f = (λ i. f (toZ-ofZ fl i) (er i)) ∙ ap (λ (z : Scan). f (z .last) (moved c (z .last))) es
 
-  found : {v : Violation} → s .viol ≡ v → scanOf n table x c lower upper .viol ≡ v
+  found : {v : Violation} → s .viol ≡ v → scan-of n table x c lower upper .viol ≡ v
   found e = ap (λ (z : Scan). z .viol) (sym es) ∙ e
 
 module _ (o : LowpassOracle) (n : ℕ) (table x grad : List Float) (s : Scan) (rr : RoundRobin) (fl : SFits w32 (s .last)) (o′ : LowpassOracle) where
@@ -88,7 +88,7 @@ module _ (o : LowpassOracle) (n : ℕ) (table x grad : List Float) (s : Scan) (r
   abbrev Cuts : ℕ → Float → Bool → Float → Upper → CutChoice → List Float → Type 0
   Cuts row v over lower upper beta grad′ = (beta ≡ band-beta v over lower upper) × (grad′ ≡ band-gradient n table row over)
 
-  module _ (es : s ≡ scanOf n table x (o .rr2) 0ᶠ Absent) (er : rr ≡ moved (o .rr2) (s .last)) where
+  module _ (es : s ≡ scan-of n table x (o .rr2) 0ᶠ Absent) (er : rr ≡ moved (o .rr2) (s .last)) where
     pub middle-passes : s .viol ≡ Nothing → o′ ≡ after-middle o (read (s .last)) rr false → (p : Answer) → p ≡ assess-sign o′ x grad → p ≡ assess-middle o n table x grad
     unfolding assess-middle
     middle-passes e eo p q =
@@ -103,7 +103,7 @@ module _ (o : LowpassOracle) (n : ℕ) (table x grad : List Float) (s : Scan) (r
         breaks _ _ _ _ row v over (found n table x (o .rr2) 0ᶠ Absent s rr es er fl e)
         (rw (eo ∙ placed n table x (o .rr2) 0ᶠ Absent s rr es er fl (λ last r. after-middle o last r (o .«more_alt»)), k .0, k .1))
 
-  module _ (es : s ≡ scanOf n table x (o .rr3) 0ᶠ (At (o .«sp_sq»))) (er : rr ≡ moved (o .rr3) (s .last)) where
+  module _ (es : s ≡ scan-of n table x (o .rr3) 0ᶠ (Limit (o .«sp_sq»))) (er : rr ≡ moved (o .rr3) (s .last)) where
     pub stop-passes : SFits w32 (s .kmax) → s .viol ≡ Nothing → o′ ≡ after-stop o (read (s .last)) rr (s .fmax) (read (s .kmax)) → (p : Answer) → p ≡ assess-middle o′ n table x grad
         → p ≡ assess-stop o n table x grad
     unfolding assess-stop
@@ -112,28 +112,28 @@ module _ (o : LowpassOracle) (n : ℕ) (table x grad : List Float) (s : Scan) (r
         let w : after-stop o (s .last) (moved (o .rr3) (s .last)) (s .fmax) (s .kmax) ≡ after-stop o (read (s .last)) rr (s .fmax) (read (s .kmax)) =
         rw (er, toZ-ofZ fl, toZ-ofZ fk)
         in
-        goes-on _ _ _ p (found n table x (o .rr3) 0ᶠ (At (o .«sp_sq»)) s rr es er fl e)
+        goes-on _ _ _ p (found n table x (o .rr3) 0ᶠ (Limit (o .«sp_sq»)) s rr es er fl e)
         (q ∙ ap (λ (z : LowpassOracle). assess-middle z n table x grad) (eo ∙ sym w ∙ u))
 
     pub stop-breaks : (row : ℕ) (v : Float) (over : Bool) → s .viol ≡ Broken row v over → o′ ≡ after-stop o (read (s .last)) rr −∞ none
-        → (beta : CutChoice) (grad′ : List Float) → Cuts row v over 0ᶠ (At (o .«sp_sq»)) beta grad′
+        → (beta : CutChoice) (grad′ : List Float) → Cuts row v over 0ᶠ (Limit (o .«sp_sq»)) beta grad′
         → _≡_ {A = Answer} (record { oracle = o′; verdict = Cut (Stop row over) beta }, grad′) (assess-stop o n table x grad)
     unfolding assess-stop
     stop-breaks row v over e eo beta grad′ k =
-        breaks _ _ _ _ row v over (found n table x (o .rr3) 0ᶠ (At (o .«sp_sq»)) s rr es er fl e)
-        (rw (eo ∙ placed n table x (o .rr3) 0ᶠ (At (o .«sp_sq»)) s rr es er fl (λ last r. after-stop o last r −∞ none), k .0, k .1))
+        breaks _ _ _ _ row v over (found n table x (o .rr3) 0ᶠ (Limit (o .«sp_sq»)) s rr es er fl e)
+        (rw (eo ∙ placed n table x (o .rr3) 0ᶠ (Limit (o .«sp_sq»)) s rr es er fl (λ last r. after-stop o last r −∞ none), k .0, k .1))
 
-  module _ (es : s ≡ scanOf n table x (o .rr1) (o .«lp_sq») (At (o .«up_sq»))) (er : rr ≡ moved (o .rr1) (s .last)) (eo : o′ ≡ after-pass o (read (s .last)) rr) where
-    pub pass-passes : s .viol ≡ Nothing → (p : Answer) → p ≡ assess-stop o′ n table x grad → p ≡ assessOf o n table x grad
-    unfolding assessOf
+  module _ (es : s ≡ scan-of n table x (o .rr1) (o .«lp_sq») (Limit (o .«up_sq»))) (er : rr ≡ moved (o .rr1) (s .last)) (eo : o′ ≡ after-pass o (read (s .last)) rr) where
+    pub pass-passes : s .viol ≡ Nothing → (p : Answer) → p ≡ assess-stop o′ n table x grad → p ≡ assess-of o n table x grad
+    unfolding assess-of
     pass-passes e p q =
-        goes-on _ _ _ p (found n table x (o .rr1) (o .«lp_sq») (At (o .«up_sq»)) s rr es er fl e)
-        (q ∙ ap (λ (z : LowpassOracle). assess-stop z n table x grad) (eo ∙ placed n table x (o .rr1) (o .«lp_sq») (At (o .«up_sq»)) s rr es er fl (λ last r. after-pass o last r)))
+        goes-on _ _ _ p (found n table x (o .rr1) (o .«lp_sq») (Limit (o .«up_sq»)) s rr es er fl e)
+        (q ∙ ap (λ (z : LowpassOracle). assess-stop z n table x grad) (eo ∙ placed n table x (o .rr1) (o .«lp_sq») (Limit (o .«up_sq»)) s rr es er fl (λ last r. after-pass o last r)))
 
     pub pass-breaks : (row : ℕ) (v : Float) (over : Bool) → s .viol ≡ Broken row v over
-        → (beta : CutChoice) (grad′ : List Float) → Cuts row v over (o .«lp_sq») (At (o .«up_sq»)) beta grad′
-        → _≡_ {A = Answer} (record { oracle = o′; verdict = Cut (Pass row over) beta }, grad′) (assessOf o n table x grad)
-    unfolding assessOf
+        → (beta : CutChoice) (grad′ : List Float) → Cuts row v over (o .«lp_sq») (Limit (o .«up_sq»)) beta grad′
+        → _≡_ {A = Answer} (record { oracle = o′; verdict = Cut (Pass row over) beta }, grad′) (assess-of o n table x grad)
+    unfolding assess-of
     pass-breaks row v over e beta grad′ k =
-        breaks _ _ _ _ row v over (found n table x (o .rr1) (o .«lp_sq») (At (o .«up_sq»)) s rr es er fl e)
-        (rw (eo ∙ placed n table x (o .rr1) (o .«lp_sq») (At (o .«up_sq»)) s rr es er fl (λ last r. after-pass o last r), k .0, k .1))
+        breaks _ _ _ _ row v over (found n table x (o .rr1) (o .«lp_sq») (Limit (o .«up_sq»)) s rr es er fl e)
+        (rw (eo ∙ placed n table x (o .rr1) (o .«lp_sq») (Limit (o .«up_sq»)) s rr es er fl (λ last r. after-pass o last r), k .0, k .1))

@@ -13,11 +13,11 @@ use lib.Ieee.{Float}
 use Rattle.oracles.specs.RoundRobin.{moved, advanced}
 use Rattle.oracles.specs.laws.RoundRobin.{canon, legal-canon, adv-next, Legal}
 use Rattle.oracles.specs.laws.Scan.{NextRow, next-row, band-count, Ready}
-use Rattle.oracles.specs.Scan.{−∞, none, valueOf, scanFrom, scanOf}
-use Rattle.oracles.specs.laws.ScanRun.{limitOf, isBroken, judgedOf, runOf, Going}
+use Rattle.oracles.specs.Scan.{−∞, none, value-of, scan-from, scan-of}
+use Rattle.oracles.specs.laws.ScanRun.{limit-of, is-broken, judged-of, scan-run, Going}
 use Rattle.oracles.specs.declared.round_robin.RoundRobin.{RoundRobin}
 use Rattle.oracles.specs.declared.scan.Upper.{Upper}
-use Rattle.oracles.specs.declared.scan.Upper.the-variants.{At}
+use Rattle.oracles.specs.declared.scan.Upper.the-variants.{Limit}
 use Rattle.oracles.specs.declared.scan.Violation.the-variants.{Nothing}
 use Rattle.oracles.specs.declared.scan.Scan.{Scan}
 use Rattle.oracles.proofs.scan.Run.{after, after-broken, after-whole, run-one, run-last, by-limit, by-run}
@@ -29,17 +29,17 @@ going n table from past next left a b s r h =
 
 -- a scan goes by where its cursor goes
 same-way : (n : ℕ) (table x : List Float) (lower : Float) (upper : Upper) (left : ℕ) (c e : RoundRobin) (f : Float) (k : ℤ) → 0 < left → advanced c ≡ advanced e
-    → scanFrom n table x lower upper left c f k ≡ scanFrom n table x lower upper left e f k
-unfolding scanFrom
+    → scan-from n table x lower upper left c f k ≡ scan-from n table x lower upper left e f k
+unfolding scan-from
 same-way n table x lower upper zero c e f k h q = absurd (omega arith)
 same-way n table x lower upper (suc left) c e f k h q = rw q refl
 
 -- ---- a turn
 
 module _ {n : ℕ} {table : List Float} (x : List Float) (lower limit : Float) {c : RoundRobin} {left : ℕ} (f : Float) (k : ℤ) {whole : Scan} (G : Going n table c left)
-    (inv : scanFrom n table x lower (At limit) left c f k ≡ whole) where
+    (inv : scan-from n table x lower (Limit limit) left c f k ≡ whole) where
   pub clear : left ≤ 0 → record { viol = Nothing; fmax = f; kmax = k; last = c .cur } ≡ whole
-  unfolding scanFrom
+  unfolding scan-from
   clear h = let e : left ≡ 0 = omega arith in rw e at inv
 
   module _ (some : 0 < left) {d : RoundRobin} (ed : d ≡ advanced c) where
@@ -83,10 +83,10 @@ module _ {n : ℕ} {table : List Float} (x : List Float) (lower limit : Float) {
       row-small = omega (arith, high, G .legal .small)
 
       -- the scan from the cursor just before that row
-      at-row : scanFrom n table x lower (At limit) left (canon lo hi row) f k ≡ whole
+      at-row : scan-from n table x lower (Limit limit) left (canon lo hi row) f k ≡ whole
       at-row =
           let q : advanced (canon lo hi row) ≡ advanced c = adv-next lo hi row (λ z. omega (arith, high)) ∙ ap (λ (z : ℕ). canon lo hi (suc z)) row-is ∙ sym goes-to ∙ ed in
-          same-way n table x lower (At limit) left (canon lo hi row) c f k some q ∙ inv
+          same-way n table x lower (Limit limit) left (canon lo hi row) c f k some q ∙ inv
 
       module _ {past : ℕ} (ep : d .hi ≡ pos past) where
         past-is : past ≡ hi
@@ -108,18 +108,18 @@ module _ {n : ℕ} {table : List Float} (x : List Float) (lower limit : Float) {
               let h : (row + many) * n ≤ hi * n = mul-le-mul-right n fits in
               omega (arith, e, h, G .high)
 
-          module _ {s : Scan} (es : s ≡ runOf n table x lower limit many row f k) where
-            opened : after s (scanFrom n table x lower (At limit) (left - many) (canon lo hi (row + many)) (s .fmax) (s .kmax)) ≡ whole
+          module _ {s : Scan} (es : s ≡ scan-run n table x lower limit many row f k) where
+            opened : after s (scan-from n table x lower (Limit limit) (left - many) (canon lo hi (row + many)) (s .fmax) (s .kmax)) ≡ whole
             opened =
                 let l : many + (left - many) ≡ left = omega arith in
                 rw es (sym (by-run n table x lower limit lo hi many (left - many) row f k fits) ∙ rw l at-row)
 
-            pub ends : isBroken (s .viol) ≡ true → s ≡ whole
+            pub ends : is-broken (s .viol) ≡ true → s ≡ whole
             ends b = after-broken s _ b ∙ opened
 
-            module _ (b : isBroken (s .viol) ≡ false) where
+            module _ (b : is-broken (s .viol) ≡ false) where
               last-is : s .last ≡ predℤ (pos (row + many))
-              last-is = ap (λ (z : Scan). z .last) es ∙ run-last n table x lower limit many row f k (ap (λ (z : Scan). isBroken (z .viol)) (sym es) ∙ b)
+              last-is = ap (λ (z : Scan). z .last) es ∙ run-last n table x lower limit many row f k (ap (λ (z : Scan). is-broken (z .viol)) (sym es) ∙ b)
 
               -- the cursor after the last of the rows
               on : moved d (s .last) ≡ canon lo hi (row + many)
@@ -134,8 +134,8 @@ module _ {n : ℕ} {table : List Float} (x : List Float) (lower limit : Float) {
                   subst (λ (z : RoundRobin). Going n table z (left - many)) (sym (q ∙ on))
                   (going n table lo hi (row + many) (left - many) (omega (arith, low)) fits (G .legal .small) (omega (arith, G .room)) (G .high))
 
-              pub goes-on : {e : RoundRobin} → e ≡ moved d (s .last) → scanFrom n table x lower (At limit) (left - many) e (s .fmax) (s .kmax) ≡ whole
-              goes-on {e} q = ap (λ (z : RoundRobin). scanFrom n table x lower (At limit) (left - many) z (s .fmax) (s .kmax)) (q ∙ on) ∙ after-whole s _ b ∙ opened
+              pub goes-on : {e : RoundRobin} → e ≡ moved d (s .last) → scan-from n table x lower (Limit limit) (left - many) e (s .fmax) (s .kmax) ≡ whole
+              goes-on {e} q = ap (λ (z : RoundRobin). scan-from n table x lower (Limit limit) (left - many) z (s .fmax) (s .kmax)) (q ∙ on) ∙ after-whole s _ b ∙ opened
 
 -- ---- the start
 
@@ -156,13 +156,13 @@ module _ {n : ℕ} {table x : List Float} {c : RoundRobin} (R : Ready n table x 
   starts = record { legal = R .legal; room = omega (arith, from-is, hi-is); high = R .high }
 
   -- of a band with no rows
-  pub empty : (lower : Float) (upper : Upper) → hi - lo ≡ 0 → record { viol = Nothing; fmax = −∞; kmax = none; last = c .cur } ≡ scanOf n table x c lower upper
-  unfolding scanOf scanFrom
+  pub empty : (lower : Float) (upper : Upper) → hi - lo ≡ 0 → record { viol = Nothing; fmax = −∞; kmax = none; last = c .cur } ≡ scan-of n table x c lower upper
+  unfolding scan-of scan-from
   empty lower upper h = rw (counted, h) refl
 
-  module _ (lower : Float) (upper : Upper) {limit : Float} (em : limit ≡ limitOf upper) where
-    pub start-is : scanFrom n table x lower (At limit) (hi - lo) c −∞ none ≡ scanOf n table x c lower upper
-    unfolding scanOf
+  module _ (lower : Float) (upper : Upper) {limit : Float} (em : limit ≡ limit-of upper) where
+    pub start-is : scan-from n table x lower (Limit limit) (hi - lo) c −∞ none ≡ scan-of n table x c lower upper
+    unfolding scan-of
     start-is = rw (em, counted) (by-limit n table x lower upper (hi - lo) c −∞ none)
 
     -- ---- the first row
@@ -180,12 +180,12 @@ module _ {n : ℕ} {table x : List Float} {c : RoundRobin} (R : Ready n table x 
       pub first-in : row * n + n ≤ length table
       first-in = omega (arith, rows-in x lower limit −∞ none starts start-is rows ed er past-there rows ahead)
 
-      module _ {s : Scan} (es : s ≡ judgedOf lower limit row (valueOf n table x row) −∞ none) where
-        one : s ≡ runOf n table x lower limit 1 row −∞ none
+      module _ {s : Scan} (es : s ≡ judged-of lower limit row (value-of n table x row) −∞ none) where
+        one : s ≡ scan-run n table x lower limit 1 row −∞ none
         one = run-one n table x lower limit row −∞ none es
 
-        pub first-ends : isBroken (s .viol) ≡ true → s ≡ scanOf n table x c lower upper
+        pub first-ends : is-broken (s .viol) ≡ true → s ≡ scan-of n table x c lower upper
         first-ends = ends x lower limit −∞ none starts start-is rows ed er past-there rows ahead one
 
-        pub first-goes-on : isBroken (s .viol) ≡ false → scanFrom n table x lower (At limit) (hi - lo - 1) d (s .fmax) (s .kmax) ≡ scanOf n table x c lower upper
+        pub first-goes-on : is-broken (s .viol) ≡ false → scan-from n table x lower (Limit limit) (hi - lo - 1) d (s .fmax) (s .kmax) ≡ scan-of n table x c lower upper
         first-goes-on b = goes-on x lower limit −∞ none starts start-is rows ed er past-there rows ahead one b (one-row x lower limit −∞ none starts start-is rows ed er past-there rows ahead one b refl)

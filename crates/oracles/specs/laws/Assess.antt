@@ -12,20 +12,20 @@ use lib.Signed.{leZ}
 use lib.Ieee.{Float, nan, lt, neg}
 use Rattle.numbers.specs.F64.{0ᶠ}
 use Rattle.numbers.specs.Refusal.{is-fault, ask}
-use Rattle.numbers.specs.Arr.{isDimension, sized}
+use Rattle.numbers.specs.Arr.{is-dimension, sized}
 use Rattle.numbers.specs.declared.refusal.Refusal.the-variants.{Dimension, Band}
 use Rattle.numbers.specs.declared.refusal.Fault.{Fault}
 use Rattle.numbers.specs.declared.refusal.Fault.the-variants.{Sound}
 use Rattle.numbers.specs.laws.Refusal.{both-sound, ask-sound, sound-is, held, at-next, accepts}
 use Rattle.numbers.specs.declared.cut.CutChoice.the-variants.{Single}
 use Rattle.numbers.specs.laws.Pick.{and-parts, by-test}
-use Rattle.oracles.specs.RoundRobin.{isAt, moved}
+use Rattle.oracles.specs.RoundRobin.{is-at, moved}
 use Rattle.oracles.specs.laws.RoundRobin.{eqZ-true, legal-of, Legal}
-use Rattle.oracles.specs.Scan.{−∞, none, isRows, table-fits, scanOf, violated, band-beta, band-gradient}
-use Rattle.oracles.specs.LowpassOracle.{−1ᶠ, isOf, bands-fit, cursors-fit, after-pass, after-stop, after-middle, assess-sign, assess-middle, assess-stop, assessOf, oracle-tests, assess-tests, assess-feas-answer}
+use Rattle.oracles.specs.Scan.{−∞, none, is-rows, table-fits, scan-of, violated, band-beta, band-gradient}
+use Rattle.oracles.specs.LowpassOracle.{−1ᶠ, has-band, bands-fit, cursors-fit, after-pass, after-stop, after-middle, assess-sign, assess-middle, assess-stop, assess-of, oracle-tests, assess-tests, assess-feas-answer}
 use Rattle.oracles.specs.Verdict.{is-accepted}
 use Rattle.oracles.specs.declared.round_robin.RoundRobin.{RoundRobin}
-use Rattle.oracles.specs.declared.scan.Upper.the-variants.{Absent, At}
+use Rattle.oracles.specs.declared.scan.Upper.the-variants.{Absent, Limit}
 use Rattle.oracles.specs.declared.scan.Violation.{Violation}
 use Rattle.oracles.specs.declared.scan.Violation.the-variants.{Nothing, Broken}
 use Rattle.oracles.specs.declared.scan.Scan.{Scan}
@@ -43,7 +43,7 @@ pub record Spans (c : RoundRobin) (from past : ℕ) : Type 0 where
   pub past-is : legal .past ≡ past
 
 -- from its tests
-spans : (c : RoundRobin) (from past : ℕ) → isOf c (pos from) (pos past) ≡ true → isAt c ≡ true → from ≤ past → past ≤ 1024 → Spans c from past
+spans : (c : RoundRobin) (from past : ℕ) → has-band c (pos from) (pos past) ≡ true → is-at c ≡ true → from ≤ past → past ≤ 1024 → Spans c from past
 spans c from past h a le small =
     let p = and-parts _ _ h in
     let lo : c .lo ≡ pos from = eqZ-true (c .lo) (pos from) (p .0) in
@@ -63,20 +63,20 @@ pub record Fit (o : LowpassOracle) (rows : ℕ) : Type 0 where
 
 pub fit-of : (o : LowpassOracle) (rows : ℕ) → bands-fit o rows ≡ true → cursors-fit o ≡ true → Fit o rows
 fit-of o rows b a =
-    let b₃ = and-parts _ (isOf (o .rr3) (o .nwstop) (pos rows)) b in
-    let b₂ = and-parts _ (isOf (o .rr2) (o .nwpass) (o .nwstop)) (b₃ .0) in
-    let b₁ = and-parts _ (isOf (o .rr1) (pos 0) (o .nwpass)) (b₂ .0) in
+    let b₃ = and-parts _ (has-band (o .rr3) (o .nwstop) (pos rows)) b in
+    let b₂ = and-parts _ (has-band (o .rr2) (o .nwpass) (o .nwstop)) (b₃ .0) in
+    let b₁ = and-parts _ (has-band (o .rr1) (pos 0) (o .nwpass)) (b₂ .0) in
     let h₃ = and-parts _ (leZ (o .nwstop) (pos rows)) (b₁ .0) in
     let h₂ = and-parts _ (leZ (o .nwpass) (o .nwstop)) (h₃ .0) in
-    let h₁ = and-parts (isRows rows) (leZ (pos 0) (o .nwpass)) (h₂ .0) in
+    let h₁ = and-parts (is-rows rows) (leZ (pos 0) (o .nwpass)) (h₂ .0) in
     let small = leb-true rows 1024 (and-parts (leb 1 rows) (leb rows 1024) (h₁ .0) .1) in
-    let a₃ = and-parts _ (isAt (o .rr3)) a in
-    let a₂ = and-parts (isAt (o .rr1)) (isAt (o .rr2)) (a₃ .0) in
+    let a₃ = and-parts _ (is-at (o .rr3)) a in
+    let a₂ = and-parts (is-at (o .rr1)) (is-at (o .rr2)) (a₃ .0) in
     let r = go (o .nwpass) (o .nwstop) small (h₁ .1) (h₂ .1) (h₃ .1) (b₁ .1) (b₂ .1) (b₃ .1) (a₂ .0) (a₂ .1) (a₃ .1) in
     record { pass-rows = r .0; stop-rows = r .1; middle-rows = r .2; pass-high = r .3; middle-high = r .4 }
   where
     go : (p s : ℤ) → rows ≤ 1024 → leZ (pos 0) p ≡ true → leZ p s ≡ true → leZ s (pos rows) ≡ true
-        → isOf (o .rr1) (pos 0) p ≡ true → isOf (o .rr2) p s ≡ true → isOf (o .rr3) s (pos rows) ≡ true → isAt (o .rr1) ≡ true → isAt (o .rr2) ≡ true → isAt (o .rr3) ≡ true
+        → has-band (o .rr1) (pos 0) p ≡ true → has-band (o .rr2) p s ≡ true → has-band (o .rr3) s (pos rows) ≡ true → is-at (o .rr1) ≡ true → is-at (o .rr2) ≡ true → is-at (o .rr3) ≡ true
         → Spans (o .rr1) 0 (natAbs p) × Spans (o .rr3) (natAbs s) rows × Spans (o .rr2) (natAbs p) (natAbs s) × (natAbs p ≤ rows) × (natAbs s ≤ rows)
     go (negsuc p) s m h₁ h₂ h₃ b₁ b₂ b₃ a₁ a₂ a₃ = absurd (true≢false (sym h₁))
     go (pos p) (negsuc s) m h₁ h₂ h₃ b₁ b₂ b₃ a₁ a₂ a₃ = absurd (true≢false (sym h₂))
@@ -88,7 +88,7 @@ fit-of o rows b a =
 -- ---- what no fault by refusals 1 to 4 says, and what gives none
 
 pub record OracleFits (o : LowpassOracle) (n rows : ℕ) (fit : Bool) : Type 0 where
-  pub dimension : isDimension n ≡ true
+  pub dimension : is-dimension n ≡ true
   pub long : fit ≡ true
   pub bands : bands-fit o rows ≡ true
   pub cursors : cursors-fit o ≡ true
@@ -97,7 +97,7 @@ module _ (o : LowpassOracle) (n rows : ℕ) (fit : Bool) where
   pub oracle-fits : oracle-tests o n rows fit ≡ Sound → OracleFits o n rows fit
   oracle-fits e =
       let p = both-sound (sized n fit) _ e in
-      let q = both-sound (ask (isDimension n) Dimension) _ (p .0) in
+      let q = both-sound (ask (is-dimension n) Dimension) _ (p .0) in
       let r = both-sound (ask (bands-fit o rows) Band) _ (p .1) in
       record { dimension = ask-sound _ _ _ (q .0); long = ask-sound _ _ _ (q .1); bands = ask-sound _ _ _ (r .0); cursors = ask-sound _ _ _ (r .1) }
 
@@ -108,7 +108,7 @@ module _ (o : LowpassOracle) (n rows : ℕ) (fit : Bool) where
 
 -- its tests, and the lengths that they leave
 pub record Accepted (o : LowpassOracle) (n rows : ℕ) (table x grad : List Float) : Type 0 where
-  pub dimension : isDimension n ≡ true
+  pub dimension : is-dimension n ≡ true
   pub table-long : length table ≡ rows * n
   pub x-long : length x ≡ n
   pub grad-long : length grad ≡ n
@@ -134,7 +134,7 @@ pub accepted-by : (o : LowpassOracle) (n rows : ℕ) (table x grad : List Float)
 accepted-by o n rows table x grad f = ap (λ (g : Fault). not (is-fault g)) (sym (fits-oracle o n rows (table-fits n rows table x && eqb (length grad) n) f))
 
 -- it is assessed
-pub accepted-is : (o : LowpassOracle) (n rows : ℕ) (table x grad : List Float) → is-accepted o n rows table x grad ≡ true → assess-feas-answer o n rows table x grad ≡ assessOf o n table x grad
+pub accepted-is : (o : LowpassOracle) (n rows : ℕ) (table x grad : List Float) → is-accepted o n rows table x grad ≡ true → assess-feas-answer o n rows table x grad ≡ assess-of o n table x grad
 unfolding assess-feas-answer
 accepted-is o n rows table x grad h = sym (accepts _ _ (assess-tests o n rows table x grad) (sym (sound-is h)) refl)
 
@@ -149,13 +149,13 @@ by-violation P (Broken row v over) kept broken f g = g row v over refl
 module _ (o : LowpassOracle) (n : ℕ) (table x : List Float) where
   -- the three scans
   abbrev pub pass-scan : Scan
-  pass-scan = scanOf n table x (o .rr1) (o .«lp_sq») (At (o .«up_sq»))
+  pass-scan = scan-of n table x (o .rr1) (o .«lp_sq») (Limit (o .«up_sq»))
 
   abbrev pub stop-scan : Scan
-  stop-scan = scanOf n table x (o .rr3) 0ᶠ (At (o .«sp_sq»))
+  stop-scan = scan-of n table x (o .rr3) 0ᶠ (Limit (o .«sp_sq»))
 
   abbrev pub middle-scan : Scan
-  middle-scan = scanOf n table x (o .rr2) 0ᶠ Absent
+  middle-scan = scan-of n table x (o .rr2) 0ᶠ Absent
 
   -- the oracle after each scan
   abbrev pub pass-left : LowpassOracle
@@ -170,17 +170,17 @@ module _ (o : LowpassOracle) (n : ℕ) (table x : List Float) where
   -- what holds of each holds of the assessment
   pub assess-cases : (grad : List Float) (P : Assessed × List Float → Type 0)
       → ((row : ℕ) (v : Float) (over : Bool) → pass-scan .viol ≡ Broken row v over
-      → P (record { oracle = pass-left; verdict = Cut (Pass row over) (band-beta v over (o .«lp_sq») (At (o .«up_sq»))) }, band-gradient n table row over))
+      → P (record { oracle = pass-left; verdict = Cut (Pass row over) (band-beta v over (o .«lp_sq») (Limit (o .«up_sq»))) }, band-gradient n table row over))
       → (pass-scan .viol ≡ Nothing → (row : ℕ) (v : Float) (over : Bool) → stop-scan .viol ≡ Broken row v over
-      → P (record { oracle = stop-left −∞ none; verdict = Cut (Stop row over) (band-beta v over 0ᶠ (At (o .«sp_sq»))) }, band-gradient n table row over))
+      → P (record { oracle = stop-left −∞ none; verdict = Cut (Stop row over) (band-beta v over 0ᶠ (Limit (o .«sp_sq»))) }, band-gradient n table row over))
       → (pass-scan .viol ≡ Nothing → stop-scan .viol ≡ Nothing → (row : ℕ) (v : Float) (over : Bool) → middle-scan .viol ≡ Broken row v over
       → P (record { oracle = middle-left true; verdict = Cut (Middle row) (band-beta v over 0ᶠ Absent) }, band-gradient n table row over))
       → (pass-scan .viol ≡ Nothing → stop-scan .viol ≡ Nothing → middle-scan .viol ≡ Nothing → lt (getD x 0 nan) 0ᶠ ≡ true
       → P (record { oracle = middle-left false; verdict = Cut Sign (Single (neg (getD x 0 nan))) }, set (replicate (length grad) 0ᶠ) 0 −1ᶠ))
       → (pass-scan .viol ≡ Nothing → stop-scan .viol ≡ Nothing → middle-scan .viol ≡ Nothing → lt (getD x 0 nan) 0ᶠ ≡ false
       → P (record { oracle = middle-left false; verdict = Feasible }, grad))
-      → P (assessOf o n table x grad)
-  unfolding assessOf assess-stop assess-middle assess-sign
+      → P (assess-of o n table x grad)
+  unfolding assess-of assess-stop assess-middle assess-sign
   assess-cases grad P f₁ f₂ f₃ f₄ f₅ =
       by-violation P (pass-scan .viol) _ _
       (λ e₁. by-violation P (stop-scan .viol) _ _

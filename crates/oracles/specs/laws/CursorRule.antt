@@ -14,7 +14,7 @@ use lib.Signed.{ltZ}
 use lib.Ieee.{Float, nan, lt, neg, isNan}
 use Rattle.numbers.specs.F64.{0ᶠ}
 use Rattle.numbers.specs.Pick.{pick, some}
-use Rattle.numbers.specs.Refusal.{refusalNumber, is-fault, unless}
+use Rattle.numbers.specs.Refusal.{refusal-number, is-fault, unless}
 use Rattle.numbers.specs.declared.refusal.Refusal.{Refusal}
 use Rattle.numbers.specs.declared.refusal.Fault.{Fault}
 use Rattle.numbers.specs.declared.refusal.Fault.the-variants.{Sound}
@@ -23,15 +23,15 @@ use Rattle.numbers.specs.laws.Pick.{none-some, some-holds}
 use Rattle.numbers.specs.laws.Refusal.{of-test, of-chain, by-tests}
 use Rattle.oracles.specs.laws.RoundRobin.{eqZ-yes}
 use Rattle.oracles.specs.laws.FloatOrder.{only-nan}
-use Rattle.oracles.specs.Scan.{−∞, none, valueOf, scanOf, band-beta, table-fits}
+use Rattle.oracles.specs.Scan.{−∞, none, value-of, scan-of, band-beta, table-fits}
 use Rattle.oracles.specs.laws.Scan.{row-breaks, Found, Passed, found-in, top-in, passed-in, nothing-none, broken-some}
-use Rattle.oracles.specs.LowpassOracle.{offered, assessOf, improvedOf, optim-of, oracle-tests, assess-tests, assess-feas-answer, assess-optim-answer}
+use Rattle.oracles.specs.LowpassOracle.{offered, assess-of, improved-of, optim-of, oracle-tests, assess-tests, assess-feas-answer, assess-optim-answer}
 use Rattle.oracles.specs.laws.Assess.{Spans, Fit, fit-of, pass-scan, stop-scan, middle-scan, pass-left, stop-left, middle-left, assess-cases, accepted-of, accepted-is}
-use Rattle.oracles.specs.Verdict.{refused, Question, stop-start, valueIn, sign-breaks, judge, no-stop-value, asked, is-accepted, judgement, side-breaks, cut-breaks, cut-stands, Has, Peak, FeasRule, as-feas, is-six, is-feasible, OptimRule}
+use Rattle.oracles.specs.Verdict.{refused, Question, stop-start, value-in, sign-breaks, judge, no-stop-value, asked, is-accepted, judgement, side-breaks, cut-breaks, cut-stands, Has, Peak, FeasRule, as-feas, is-six, is-feasible, OptimRule}
 use Rattle.oracles.specs.laws.Judge.{pass-broken, stop-broken, middle-broken, judge-pass, judge-stop, judge-middle, judge-sign, judge-answers}
 use Rattle.oracles.specs.declared.round_robin.RoundRobin.{RoundRobin}
 use Rattle.oracles.specs.declared.scan.Upper.{Upper}
-use Rattle.oracles.specs.declared.scan.Upper.the-variants.{Absent, At}
+use Rattle.oracles.specs.declared.scan.Upper.the-variants.{Absent, Limit}
 use Rattle.oracles.specs.declared.scan.Violation.the-variants.{Nothing, Broken}
 use Rattle.oracles.specs.declared.lowpass_oracle.LowpassOracle.{LowpassOracle}
 use Rattle.oracles.specs.declared.lowpass_oracle.Group.{Group}
@@ -46,25 +46,25 @@ use Rattle.oracles.specs.declared.lowpass_oracle.Assessed.{Assessed}
 
 -- the laws of a scan, over a band that is named
 module _ (n : ℕ) (table x : List Float) (c : RoundRobin) (lower : Float) (upper : Upper) (from past : ℕ) (S : Spans c from past) where
-  band-clear : scanOf n table x c lower upper .viol ≡ Nothing → some (row-breaks n table x lower upper) from (past - from) ≡ false
+  band-clear : scan-of n table x c lower upper .viol ≡ Nothing → some (row-breaks n table x lower upper) from (past - from) ≡ false
   band-clear e = rw (S .from-is, S .past-is) at (nothing-none n table x c lower upper (S .legal) e)
 
-  band-broken : (row : ℕ) (v : Float) (over : Bool) → scanOf n table x c lower upper .viol ≡ Broken row v over → some (row-breaks n table x lower upper) from (past - from) ≡ true
+  band-broken : (row : ℕ) (v : Float) (over : Bool) → scan-of n table x c lower upper .viol ≡ Broken row v over → some (row-breaks n table x lower upper) from (past - from) ≡ true
   band-broken row v over e = rw (S .from-is, S .past-is) at (broken-some n table x c lower upper (S .legal) row v over e)
 
-  pub band-found : (row : ℕ) (v : Float) (over : Bool) → scanOf n table x c lower upper .viol ≡ Broken row v over
-      → Found n table x from past lower upper row v over (scanOf n table x c lower upper .last)
+  pub band-found : (row : ℕ) (v : Float) (over : Bool) → scan-of n table x c lower upper .viol ≡ Broken row v over
+      → Found n table x from past lower upper row v over (scan-of n table x c lower upper .last)
   band-found row v over e = rw (S .from-is, S .past-is) at (found-in n table x c lower upper (S .legal) row v over e)
 
 -- the side that a violation breaks
 found-side : (n : ℕ) (table x : List Float) (from past : ℕ) (lower upper : Float) (row : ℕ) (v : Float) (over : Bool) (last : ℤ)
-    → Found n table x from past lower (At upper) row v over last → side-breaks over upper lower (valueOf n table x row) ≡ true
+    → Found n table x from past lower (Limit upper) row v over last → side-breaks over upper lower (value-of n table x row) ≡ true
 unfolding pick
 found-side n table x from past lower upper row v true last f = rw (← f .value-is) (f .above refl)
 found-side n table x from past lower upper row v false last f = rw (← f .value-is) (f .below refl .1)
 
 found-under : (n : ℕ) (table x : List Float) (from past : ℕ) (lower : Float) (row : ℕ) (v : Float) (over : Bool) (last : ℤ)
-    → Found n table x from past lower Absent row v over last → lt (valueOf n table x row) lower ≡ true
+    → Found n table x from past lower Absent row v over last → lt (value-of n table x row) lower ≡ true
 found-under n table x from past lower row v true last f = absurd (true≢false (sym (f .above refl)))
 found-under n table x from past lower row v false last f = rw (← f .value-is) (f .below refl .1)
 
@@ -74,11 +74,11 @@ cut-rule : (q : Question) (r : Assessed) → is-feasible (judgement (r .verdict)
 cut-rule q r h j c a = record { verdict-is = sym j; cut-is = c; cut-at = a; peak = λ e. absurd (true≢false (sym (ap is-feasible e) ∙ ap is-feasible j ∙ h)) }
 
 -- the largest value of a stop scan that finds nothing
-peak-of : (q : Question) (c : RoundRobin) → Spans c (stop-start q) (q .rows) → scanOf (q .n) (q .table) (q .x) c 0ᶠ (At (q .limits .sp-sq)) .viol ≡ Nothing
-    → Peak q (scanOf (q .n) (q .table) (q .x) c 0ᶠ (At (q .limits .sp-sq)) .fmax) (scanOf (q .n) (q .table) (q .x) c 0ᶠ (At (q .limits .sp-sq)) .kmax)
+peak-of : (q : Question) (c : RoundRobin) → Spans c (stop-start q) (q .rows) → scan-of (q .n) (q .table) (q .x) c 0ᶠ (Limit (q .limits .sp-sq)) .viol ≡ Nothing
+    → Peak q (scan-of (q .n) (q .table) (q .x) c 0ᶠ (Limit (q .limits .sp-sq)) .fmax) (scan-of (q .n) (q .table) (q .x) c 0ᶠ (Limit (q .limits .sp-sq)) .kmax)
 unfolding no-stop-value
-peak-of q c S e = elim (top-in (q .n) (q .table) (q .x) c 0ᶠ (At (q .limits .sp-sq)) (S .legal)) [
-  | inl t ↦ inr (record { nothing = rw (none-some (λ i. not (isNan (valueIn q i))) (stop-start q) (q .rows - stop-start q) (all-nan (t .0))); fmax-is = t .0; kmax-is = t .1 })
+peak-of q c S e = elim (top-in (q .n) (q .table) (q .x) c 0ᶠ (Limit (q .limits .sp-sq)) (S .legal)) [
+  | inl t ↦ inr (record { nothing = rw (none-some (λ i. not (isNan (value-in q i))) (stop-start q) (q .rows - stop-start q) (all-nan (t .0))); fmax-is = t .0; kmax-is = t .1 })
   | inr b ↦ inl (record {
     row = b .row;
     row-is = b .row-is;
@@ -90,13 +90,13 @@ peak-of q c S e = elim (top-in (q .n) (q .table) (q .x) c 0ᶠ (At (q .limits .s
   })
 ]
   where
-    row-passed : (i : ℕ) → stop-start q ≤ i → i < q .rows → Passed (q .n) (q .table) (q .x) 0ᶠ (At (q .limits .sp-sq)) (scanOf (q .n) (q .table) (q .x) c 0ᶠ (At (q .limits .sp-sq)) .fmax) i
-    row-passed i l h = passed-in (q .n) (q .table) (q .x) c 0ᶠ (At (q .limits .sp-sq)) (S .legal) e i (rw (S .from-is) l) (rw (S .past-is) h)
+    row-passed : (i : ℕ) → stop-start q ≤ i → i < q .rows → Passed (q .n) (q .table) (q .x) 0ᶠ (Limit (q .limits .sp-sq)) (scan-of (q .n) (q .table) (q .x) c 0ᶠ (Limit (q .limits .sp-sq)) .fmax) i
+    row-passed i l h = passed-in (q .n) (q .table) (q .x) c 0ᶠ (Limit (q .limits .sp-sq)) (S .legal) e i (rw (S .from-is) l) (rw (S .past-is) h)
 
-    all-nan : scanOf (q .n) (q .table) (q .x) c 0ᶠ (At (q .limits .sp-sq)) .fmax ≡ −∞ → (i : ℕ) → stop-start q ≤ i → i < stop-start q + (q .rows - stop-start q) → not (isNan (valueIn q i)) ≡ false
+    all-nan : scan-of (q .n) (q .table) (q .x) c 0ᶠ (Limit (q .limits .sp-sq)) .fmax ≡ −∞ → (i : ℕ) → stop-start q ≤ i → i < stop-start q + (q .rows - stop-start q) → not (isNan (value-in q i)) ≡ false
     all-nan f i l h =
         let p = row-passed i l (omega arith) in
-        rw (only-nan (valueIn q i) (rw f at (p .not-above)) (p .not-under))
+        rw (only-nan (value-in q i) (rw f at (p .not-above)) (p .not-under))
 
 module _ (o : LowpassOracle) (n rows : ℕ) (table x : List Float) (F : Fit o rows) where
   -- what is asked
@@ -105,32 +105,32 @@ module _ (o : LowpassOracle) (n rows : ℕ) (table x : List Float) (F : Fit o ro
 
   -- a scan that finds nothing: no row of its group breaks it
   pass-clear : pass-scan o n table x .viol ≡ Nothing → pass-broken point ≡ false
-  pass-clear e = rw (sub-zero (natAbs (o .nwpass))) at (band-clear n table x (o .rr1) (o .«lp_sq») (At (o .«up_sq»)) 0 (natAbs (o .nwpass)) (F .pass-rows) e)
+  pass-clear e = rw (sub-zero (natAbs (o .nwpass))) at (band-clear n table x (o .rr1) (o .«lp_sq») (Limit (o .«up_sq»)) 0 (natAbs (o .nwpass)) (F .pass-rows) e)
 
   stop-clear : stop-scan o n table x .viol ≡ Nothing → stop-broken point ≡ false
-  stop-clear e = band-clear n table x (o .rr3) 0ᶠ (At (o .«sp_sq»)) (natAbs (o .nwstop)) rows (F .stop-rows) e
+  stop-clear e = band-clear n table x (o .rr3) 0ᶠ (Limit (o .«sp_sq»)) (natAbs (o .nwstop)) rows (F .stop-rows) e
 
   middle-clear : middle-scan o n table x .viol ≡ Nothing → middle-broken point ≡ false
   middle-clear e = band-clear n table x (o .rr2) 0ᶠ Absent (natAbs (o .nwpass)) (natAbs (o .nwstop)) (F .middle-rows) e
 
   -- the rule, way by way
-  assess-rule : (grad : List Float) → FeasRule point (assessOf o n table x grad .0)
+  assess-rule : (grad : List Float) → FeasRule point (assess-of o n table x grad .0)
   unfolding pick
   assess-rule grad = assess-cases o n table x grad (λ r. FeasRule point (r .0)) on-pass on-stop on-middle on-sign on-feasible
     where
       on-pass : (row : ℕ) (v : Float) (over : Bool) → pass-scan o n table x .viol ≡ Broken row v over
-          → FeasRule point (record { oracle = pass-left o n table x; verdict = Cut (Pass row over) (band-beta v over (o .«lp_sq») (At (o .«up_sq»))) })
+          → FeasRule point (record { oracle = pass-left o n table x; verdict = Cut (Pass row over) (band-beta v over (o .«lp_sq») (Limit (o .«up_sq»))) })
       on-pass row v over e =
-          let f = band-found n table x (o .rr1) (o .«lp_sq») (At (o .«up_sq»)) 0 (natAbs (o .nwpass)) (F .pass-rows) row v over e in
-          let b = band-broken n table x (o .rr1) (o .«lp_sq») (At (o .«up_sq»)) 0 (natAbs (o .nwpass)) (F .pass-rows) row v over e in
+          let f = band-found n table x (o .rr1) (o .«lp_sq») (Limit (o .«up_sq»)) 0 (natAbs (o .nwpass)) (F .pass-rows) row v over e in
+          let b = band-broken n table x (o .rr1) (o .«lp_sq») (Limit (o .«up_sq»)) 0 (natAbs (o .nwpass)) (F .pass-rows) row v over e in
           cut-rule point _ refl (judge-pass point (rw (sub-zero (natAbs (o .nwpass))) at b))
           (rw (lt-ltb row (natAbs (o .nwpass)) (f .high)) (found-side n table x _ _ _ _ row v over _ f)) (eqZ-yes _ (pos row) (f .last-is))
 
       on-stop : pass-scan o n table x .viol ≡ Nothing → (row : ℕ) (v : Float) (over : Bool) → stop-scan o n table x .viol ≡ Broken row v over
-          → FeasRule point (record { oracle = stop-left o n table x −∞ none; verdict = Cut (Stop row over) (band-beta v over 0ᶠ (At (o .«sp_sq»))) })
+          → FeasRule point (record { oracle = stop-left o n table x −∞ none; verdict = Cut (Stop row over) (band-beta v over 0ᶠ (Limit (o .«sp_sq»))) })
       on-stop e₁ row v over e =
-          let f = band-found n table x (o .rr3) 0ᶠ (At (o .«sp_sq»)) (natAbs (o .nwstop)) rows (F .stop-rows) row v over e in
-          cut-rule point _ refl (judge-stop point (pass-clear e₁) (band-broken n table x (o .rr3) 0ᶠ (At (o .«sp_sq»)) (natAbs (o .nwstop)) rows (F .stop-rows) row v over e))
+          let f = band-found n table x (o .rr3) 0ᶠ (Limit (o .«sp_sq»)) (natAbs (o .nwstop)) rows (F .stop-rows) row v over e in
+          cut-rule point _ refl (judge-stop point (pass-clear e₁) (band-broken n table x (o .rr3) 0ᶠ (Limit (o .«sp_sq»)) (natAbs (o .nwstop)) rows (F .stop-rows) row v over e))
           (rw (le-leb (natAbs (o .nwstop)) row (f .low), lt-ltb row rows (f .high)) (found-side n table x _ _ _ _ row v over _ f)) (eqZ-yes _ (pos row) (f .last-is))
 
       on-middle : pass-scan o n table x .viol ≡ Nothing → stop-scan o n table x .viol ≡ Nothing → (row : ℕ) (v : Float) (over : Bool) → middle-scan o n table x .viol ≡ Broken row v over
@@ -168,12 +168,12 @@ feas-rule o n rows table x grad h =
 pub has-value : (q : Question) (fmax : Float) (kmax : ℤ) → Has q fmax kmax → no-stop-value q ≡ false
 unfolding no-stop-value
 has-value q fmax kmax h =
-    rw (some-holds (λ i. not (isNan (valueIn q i))) (stop-start q) (q .rows - stop-start q) (h .row) (h .low) (omega arith) (rw (h .value-is, h .compares)))
+    rw (some-holds (λ i. not (isNan (value-in q i))) (stop-start q) (q .rows - stop-start q) (h .row) (h .low) (omega arith) (rw (h .value-is, h .compares)))
 
 -- what an answer of `assess_feas` to an accepted call becomes
 optim-of-rule : (q : Question) (o : LowpassOracle) (gamma : Float) (n : ℕ) (table : List Float) (o′ : LowpassOracle) (v : Verdict) (grad : List Float)
     → FeasRule q (record { oracle = o′; verdict = v }) → OptimRule q (optim-of o gamma n table o′ v grad .0)
-unfolding improvedOf pick
+unfolding improved-of pick
 optim-of-rule q o gamma n table o′ Feasible grad r = elim (r .peak (sym (r .verdict-is))) [
   | inl h ↦
       let t : ltZ (o′ .kmax) (pos 0) ≡ false = rw (h .row-is) (le-ltb (h .row) 0 (omega arith)) in
@@ -209,7 +209,7 @@ optim-rule o gamma n rows table x grad h =
 
 -- a fault, if it is one, is not by refusal 6
 pub record NotSix (f : Fault) : Type 0 where
-  pub no : unless f (λ why place. eqb (refusalNumber why) 6) false ≡ false
+  pub no : unless f (λ why place. eqb (refusal-number why) 6) false ≡ false
 
 pub not-six : (o : LowpassOracle) (n rows : ℕ) (fit : Bool) → NotSix (oracle-tests o n rows fit)
 not-six o n rows fit =
@@ -250,7 +250,7 @@ six-exactly o gamma n rows table x grad = go (is-accepted o n rows table x grad)
     no-six : (v : OptimVerdict) → judgement (as-feas v) ≡ refused → is-six v ≡ false
     no-six (Improved beta) e = refl
     no-six (CutOptim group beta) e = refl
-    no-six (RefusedOptim why) e = tested-six (eqb (refusalNumber why) 6) why e
+    no-six (RefusedOptim why) e = tested-six (eqb (refusal-number why) 6) why e
 
     go : (t : Bool) → is-accepted o n rows table x grad ≡ t
         → is-six (assess-optim-answer o gamma n rows table x grad .0 .verdict)

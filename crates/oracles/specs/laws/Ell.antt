@@ -14,7 +14,7 @@ use Rattle.numbers.specs.F64.{_⊖_, _⊗_}
 use Rattle.numbers.specs.Pick.{pick}
 use Rattle.numbers.specs.Arr.{tab}
 use Rattle.numbers.specs.laws.Pick.{is-hit, is-skip}
-use Rattle.oracles.specs.Matrix.{entry, at, grid}
+use Rattle.oracles.specs.Matrix.{nth, at, grid}
 use Rattle.oracles.specs.laws.Matrix.{length-grid, grid-at}
 use Rattle.oracles.specs.Ell.{rank-one}
 
@@ -22,11 +22,11 @@ use Rattle.oracles.specs.Ell.{rank-one}
 
 -- a row with its entries 0 to i lowered
 unfoldable pub row-lowered : List Float → Float → List Float → ℕ → List Float
-row-lowered row r-qg gt i = tab (λ j. pick (leb j i) (entry row j ⊖ r-qg ⊗ entry gt j) (entry row j)) (length row)
+row-lowered row r-qg gt i = tab (λ j. pick (leb j i) (nth row j ⊖ r-qg ⊗ nth gt j) (nth row j)) (length row)
 
 -- the lower triangle, with the diagonal, lowered
 unfoldable pub all-lowered : ℕ → Float → List Float → List Float → List Float
-all-lowered n ratio gt mq = grid (λ r c. pick (leb c r) (at n mq r c ⊖ ratio ⊗ entry gt r ⊗ entry gt c) (at n mq r c)) n n
+all-lowered n ratio gt mq = grid (λ r c. pick (leb c r) (at n mq r c ⊖ ratio ⊗ nth gt r ⊗ nth gt c) (at n mq r c)) n n
 
 -- the matrix with column i's entries before j from row i; all above the diagonal
 abbrev pub mirrored-to : ℕ → List Float → ℕ → ℕ → ℕ → ℕ → Float
@@ -47,7 +47,7 @@ module _ (n : ℕ) (ratio : Float) (gt mq : List Float) where
   length-rank-one = length-grid _ n n
 
   -- on the diagonal and below it
-  pub rank-one-at : (i j : ℕ) → i < n → j ≤ i → at n (rank-one n ratio gt mq) i j ≡ at n mq i j ⊖ ratio ⊗ entry gt i ⊗ entry gt j
+  pub rank-one-at : (i j : ℕ) → i < n → j ≤ i → at n (rank-one n ratio gt mq) i j ≡ at n mq i j ⊖ ratio ⊗ nth gt i ⊗ nth gt j
   unfolding rank-one
   rank-one-at i j h l = grid-at _ n n i j h (omega arith) ∙ is-hit (leb j i) _ _ (le-leb j i l)
 

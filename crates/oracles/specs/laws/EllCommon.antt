@@ -9,8 +9,8 @@ use Rattle.numbers.specs.F64.{_⊖_, _⊗_}
 use Rattle.numbers.specs.laws.Arr.{length-tab, tab-entry}
 use Rattle.numbers.specs.declared.cut.CutStatus.{CutStatus}
 use Rattle.numbers.specs.declared.cut.CutStatus.the-variants.{Success, NoSoln, NoEffect}
-use Rattle.oracles.specs.Matrix.{entry}
-use Rattle.oracles.specs.EllCommon.{is-success, centreOf}
+use Rattle.oracles.specs.Matrix.{nth}
+use Rattle.oracles.specs.EllCommon.{is-success, centre-of}
 
 -- Success is the one status that is a success
 pub success-is : (c : CutStatus) → is-success c ≡ true → c ≡ Success
@@ -20,10 +20,10 @@ success-is NoEffect e = absurd (true≢false (sym e))
 
 -- the centre after a success
 module _ (xc : List Float) (step : Float) (dir : List Float) where
-  pub length-centre : length (centreOf xc step dir) ≡ length xc
-  unfolding centreOf
+  pub length-centre : length (centre-of xc step dir) ≡ length xc
+  unfolding centre-of
   length-centre = length-tab _ (length xc)
 
-  pub centre-at : (i : ℕ) → i < length xc → entry (centreOf xc step dir) i ≡ entry xc i ⊖ step ⊗ entry dir i
-  unfolding centreOf
+  pub centre-at : (i : ℕ) → i < length xc → nth (centre-of xc step dir) i ≡ nth xc i ⊖ step ⊗ nth dir i
+  unfolding centre-of
   centre-at i h = tab-entry _ (length xc) i h

@@ -10,21 +10,21 @@ use lib.ListN.{length}
 use lib.Ieee.{Float}
 use Rattle.numbers.specs.F64.{_⊕_, _⊖_, _⊗_, _⊘_, 0ᶠ}
 use Rattle.numbers.specs.Pick.{pick}
-use Rattle.numbers.specs.Arr.{isDimension, tab}
+use Rattle.numbers.specs.Arr.{is-dimension, tab}
 use Rattle.numbers.specs.laws.Arr.{length-tab}
 use Rattle.numbers.specs.EllCalc.{made, new-tests}
 use Rattle.numbers.specs.declared.refusal.Refusal.{Refusal}
-use Rattle.numbers.specs.declared.cut.Answer.{Answer}
+use Rattle.numbers.specs.declared.cut.CutAnswer.{CutAnswer}
 use Rattle.numbers.specs.declared.cut.CutChoice.{CutChoice}
 use Rattle.numbers.specs.declared.cut.CutStatus.{CutStatus}
 use Rattle.numbers.specs.declared.cut.CutStatus.the-variants.{Success, NoEffect}
 use Rattle.numbers.specs.laws.Pick.{hit, skip, by-test}
 use Rattle.numbers.specs.laws.Refusal.{held, at-next, accepts, by-tests, ask-sound}
 use Rattle.oracles.specs.declared.ell_stable.NewEllStable.{NewEllStable}
-use Rattle.oracles.specs.Matrix.{entry, at}
-use Rattle.oracles.specs.EllCommon.{calcOf, is-tiny, is-success}
+use Rattle.oracles.specs.Matrix.{nth, at}
+use Rattle.oracles.specs.EllCommon.{calc-of, is-tiny, is-success}
 use Rattle.oracles.specs.laws.EllCommon.{success-is, length-centre, centre-at}
-use Rattle.oracles.specs.EllStable.{StableBuffers, new-ell-stable-answer, forward, inv-ml-gOf, inv-md-inv-ml-gOf, omegaOf, backward, t-start, tOf, with-tsq, stable-said, prepared, succeeded, stable-updateOf, stable-fits, stable-update-answer, stable-tests}
+use Rattle.oracles.specs.EllStable.{StableBuffers, new-ell-stable-answer, forward, inv-ml-g-of, inv-md-inv-ml-g-of, omega-of, backward, t-start, t-of, with-tsq, stable-said, prepared, succeeded, stable-update-of, stable-fits, stable-update-answer, stable-tests}
 use Rattle.oracles.specs.laws.EllStable.{length-lowered, lowered-high, length-updated, updated-low, updated-diagonal, updated-high}
 use Rattle.oracles.specs.declared.ell_common.CutStrategy.{CutStrategy}
 use Rattle.oracles.specs.declared.ell_common.Update.the-variants.{Status, Refused}
@@ -36,7 +36,7 @@ use Rattle.oracles.specs.declared.ell_stable.EllStableUpdate.{EllStableU
 
 -- what `new_with_matrix` makes, and of which n
 pub record NewStableIs (n : ℕ) (kappa : Float) (e : EllStable) : Type 0 where
-  pub dimension : isDimension n ≡ true
+  pub dimension : is-dimension n ≡ true
   pub ndim-is : e .ndim ≡ n
   pub kappa-is : e .kappa ≡ kappa
   pub tsq-is : e .tsq ≡ 0ᶠ
@@ -49,10 +49,10 @@ stable-new n kappa e =
     by-tests (λ (r : NewEllStable). r ≡ Made e → NewStableIs n kappa e) (new-tests n) _ _ (λ why place t h. absurd (let z : _≡_ {A = ℕ} 0 1 = cc in omega arith))
     (λ t h.
     let q : e ≡ record { ndim = n; kappa = kappa; helper = made n; tsq = 0ᶠ } = cc in
-    record { dimension = ask-sound (isDimension n) _ _ t; ndim-is = rw q; kappa-is = rw q; tsq-is = rw q; helper-is = rw q; parallel = rw q })
+    record { dimension = ask-sound (is-dimension n) _ _ t; ndim-is = rw q; kappa-is = rw q; tsq-is = rw q; helper-is = rw q; parallel = rw q })
 
 -- every n in its range has one
-pub stable-makes : (n : ℕ) (kappa : Float) → isDimension n ≡ true → new-ell-stable-answer n kappa ≡ Made (record { ndim = n; kappa = kappa; helper = made n; tsq = 0ᶠ })
+pub stable-makes : (n : ℕ) (kappa : Float) → is-dimension n ≡ true → new-ell-stable-answer n kappa ≡ Made (record { ndim = n; kappa = kappa; helper = made n; tsq = 0ᶠ })
 unfolding new-ell-stable-answer
 stable-makes n kappa d = sym (accepts _ _ (new-tests n) (held _ _ d) refl)
 
@@ -100,14 +100,14 @@ long-fits n grad b h l =
 
 -- omega, and the calculator's answer
 abbrev pub stable-omega : EllStable → List Float → StableBuffers → Float
-stable-omega e grad b = omegaOf (e .ndim) (b .mq) grad
+stable-omega e grad b = omega-of (e .ndim) (b .mq) grad
 
-abbrev pub stable-calc : EllStable → CutStrategy → List Float → CutChoice → StableBuffers → Answer
-stable-calc e s grad beta b = calcOf s (e .helper) beta (e .kappa ⊗ stable-omega e grad b)
+abbrev pub stable-calc : EllStable → CutStrategy → List Float → CutChoice → StableBuffers → CutAnswer
+stable-calc e s grad beta b = calc-of s (e .helper) beta (e .kappa ⊗ stable-omega e grad b)
 
 -- the running number of a success's rank-one update, with the calculator's answer a
-abbrev pub stable-t : EllStable → List Float → StableBuffers → Answer → ℕ → Float
-stable-t e grad b a j = tOf (e .ndim) (b .mq) grad (t-start (stable-omega e grad b) (a .params .sigma)) j
+abbrev pub stable-t : EllStable → List Float → StableBuffers → CutAnswer → ℕ → Float
+stable-t e grad b a j = t-of (e .ndim) (b .mq) grad (t-start (stable-omega e grad b) (a .params .sigma)) j
 
 -- the status: NoEffect where omega is tiny, else the calculator's
 unfoldable pub stable-status : EllStable → CutStrategy → List Float → CutChoice → StableBuffers → CutStatus
@@ -117,7 +117,7 @@ stable-status e s grad beta b = pick (is-tiny (stable-omega e grad b)) NoEffect 
 
 -- no refusal: the definition's status, and tsq as it was where omega is tiny
 pub record StableAnswered (e : EllStable) (s : CutStrategy) (grad : List Float) (beta : CutChoice) (b : StableBuffers) (r : EllStableUpdate × StableBuffers) : Type 0 where
-  pub is : r ≡ stable-updateOf e s grad beta b
+  pub is : r ≡ stable-update-of e s grad beta b
   pub answer-is : r .0 .answer ≡ Status (stable-status e s grad beta b)
   pub tsq-is : r .0 .ell .tsq ≡ pick (is-tiny (stable-omega e grad b)) (e .tsq) (e .kappa ⊗ stable-omega e grad b)
 
@@ -128,15 +128,15 @@ pub record StableKept (e : EllStable) (b : StableBuffers) (r : EllStableUpdate �
   pub mq-at : (i j : ℕ) → i ≤ j → j < e .ndim → at (e .ndim) (r .1 .mq) i j ≡ at (e .ndim) (b .mq) i j
 
 -- a success, with the calculator's answer a: the factors' entries on the diagonal, above it and below it, and the centre's
-pub record StableMoved (e : EllStable) (grad : List Float) (b : StableBuffers) (a : Answer) (r : EllStableUpdate × StableBuffers) : Type 0 where
+pub record StableMoved (e : EllStable) (grad : List Float) (b : StableBuffers) (a : CutAnswer) (r : EllStableUpdate × StableBuffers) : Type 0 where
   pub kappa-is : r .0 .ell .kappa ≡ e .kappa ⊗ a .params .delta
   pub diagonal-at : (j : ℕ) → j < e .ndim
       → at (e .ndim) (r .1 .mq) j j ≡ at (e .ndim) (b .mq) j j ⊗ (stable-t e grad b a j ⊘ stable-t e grad b a (suc j))
   pub above-at : (j l : ℕ) → j < l → l < e .ndim
-      → at (e .ndim) (r .1 .mq) j l ≡ at (e .ndim) (b .mq) j l ⊕ inv-md-inv-ml-gOf (e .ndim) (b .mq) grad j ⊘ stable-t e grad b a (suc j) ⊗ forward (e .ndim) (b .mq) grad l (suc j)
-  pub below-at : (l j : ℕ) → j < l → l < e .ndim → at (e .ndim) (r .1 .mq) l j ≡ at (e .ndim) (b .mq) j l ⊗ inv-ml-gOf (e .ndim) (b .mq) grad j
+      → at (e .ndim) (r .1 .mq) j l ≡ at (e .ndim) (b .mq) j l ⊕ inv-md-inv-ml-g-of (e .ndim) (b .mq) grad j ⊘ stable-t e grad b a (suc j) ⊗ forward (e .ndim) (b .mq) grad l (suc j)
+  pub below-at : (l j : ℕ) → j < l → l < e .ndim → at (e .ndim) (r .1 .mq) l j ≡ at (e .ndim) (b .mq) j l ⊗ inv-ml-g-of (e .ndim) (b .mq) grad j
   pub xc-at : (i : ℕ) → i < length (b .xc)
-      → entry (r .1 .xc) i ≡ entry (b .xc) i ⊖ a .params .rho ⊘ stable-omega e grad b ⊗ entry (backward (e .ndim) (b .mq) (tab (inv-md-inv-ml-gOf (e .ndim) (b .mq) grad) (e .ndim)) (e .ndim)) i
+      → nth (r .1 .xc) i ≡ nth (b .xc) i ⊖ a .params .rho ⊘ stable-omega e grad b ⊗ nth (backward (e .ndim) (b .mq) (tab (inv-md-inv-ml-g-of (e .ndim) (b .mq) grad) (e .ndim)) (e .ndim)) i
 
 module _ (e : EllStable) (s : CutStrategy) (grad : List Float) (beta : CutChoice) (b : StableBuffers) where
   -- what holds of each way through an update holds of it
@@ -149,14 +149,14 @@ module _ (e : EllStable) (s : CutStrategy) (grad : List Float) (beta : CutChoice
         stable-said (with-tsq e (e .kappa ⊗ stable-calc e s grad beta b .params .delta) (e .kappa ⊗ stable-omega e grad b)) (stable-calc e s grad beta b .status),
         succeeded (e .ndim) grad b (stable-omega e grad b) (stable-calc e s grad beta b .params .rho) (stable-calc e s grad beta b .params .sigma),
       ))
-      → P (stable-updateOf e s grad beta b)
-  unfolding stable-updateOf
+      → P (stable-update-of e s grad beta b)
+  unfolding stable-update-of
   by-ways P f g k =
       by-test P (is-tiny (stable-omega e grad b)) _ _ f
       (λ t. by-test P (not (is-success (stable-calc e s grad beta b .status))) _ _ (λ u. g t (not-true _ u)) (λ u. k t (not-false _ u)))
 
   -- and what holds of a refusal too holds of the call
-  by-answers : (P : EllStableUpdate × StableBuffers → Type 0) → ((why : Refusal) → P (record { ell = e; answer = Refused why }, b)) → P (stable-updateOf e s grad beta b)
+  by-answers : (P : EllStableUpdate × StableBuffers → Type 0) → ((why : Refusal) → P (record { ell = e; answer = Refused why }, b)) → P (stable-update-of e s grad beta b)
       → P (stable-update-answer e s grad beta b)
   by-answers P f g = by-tests P (stable-tests (e .ndim) grad b) _ _ (λ why place h. f why) (λ h. g)
 
@@ -198,7 +198,7 @@ module _ (e : EllStable) (s : CutStrategy) (grad : List Float) (beta : CutChoice
       }
 
   -- a call with n in its range and lengths that fit is never refused
-  pub stable-answers : isDimension (e .ndim) ≡ true → stable-fits (e .ndim) grad b ≡ true → StableAnswered e s grad beta b (stable-update-answer e s grad beta b)
+  pub stable-answers : is-dimension (e .ndim) ≡ true → stable-fits (e .ndim) grad b ≡ true → StableAnswered e s grad beta b (stable-update-answer e s grad beta b)
   unfolding stable-status
   stable-answers d f =
       subst (λ r. StableAnswered e s grad beta b r) (accepts _ _ (stable-tests (e .ndim) grad b) (at-next (held _ _ d) (held _ _ f)) refl) (record { is = refl; answer-is = says .0; tsq-is = says .1 })
@@ -208,7 +208,7 @@ module _ (e : EllStable) (s : CutStrategy) (grad : List Float) (beta : CutChoice
           (r .0 .answer ≡ Status (stable-status e s grad beta b))
           × (r .0 .ell .tsq ≡ pick (is-tiny (stable-omega e grad b)) (e .tsq) (e .kappa ⊗ stable-omega e grad b))
 
-      says : P (stable-updateOf e s grad beta b)
+      says : P (stable-update-of e s grad beta b)
       says = by-ways P
           (λ t. (ap Status (hit _ _ _ _ t refl), hit _ _ _ _ t refl))
           (λ t u. (ap Status (skip _ _ _ _ t refl), skip _ _ _ _ t refl))

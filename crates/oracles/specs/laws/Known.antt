@@ -7,17 +7,17 @@ use mathlib.Core.List.{List, [], _∷_, _++_, map}
 use lib.IntN.{ℤ, pos, negsuc}
 use lib.Ieee.{Float, binary64, add, neg, lt, sub, mul, div, le, ofInt, ofBits, toBits}
 use Rattle.numbers.specs.Pick.{pick}
-use Rattle.numbers.specs.Sqrt.{isqrtTo, isqrt, rounded, sqrtOf}
+use Rattle.numbers.specs.Sqrt.{isqrt-to, isqrt, rounded, sqrt-of}
 use Rattle.numbers.specs.F64.{0ᶠ, 1ᶠ, 2ᶠ}
-use Rattle.numbers.specs.Arr.{tab, dotFrom, dotOf, setDiag, diagOf}
-use Rattle.numbers.specs.Cut.{statusNumber, chosen}
+use Rattle.numbers.specs.Arr.{tab, dot-from, dot-of, set-diag, diag-of}
+use Rattle.numbers.specs.Cut.{status-number, chosen}
 use Rattle.numbers.specs.EllCalcCore.{core-new, core-parallel-bias-cut-fast, core-bias-cut-fast, core-bias-cut}
 use Rattle.numbers.specs.EllCalc.{made, calc-bias-cut, calc-bias-cut-q, calc-parallel-impl, calc-parallel-bias-cut}
 use Rattle.oracles.specs.RoundRobin.{fresh, advanced}
-use Rattle.oracles.specs.Scan.{−∞, none, valueOf, scanFrom, scanOf}
-use Rattle.oracles.specs.LowpassOracle.{groupNumber, groupSide, assess-sign, assess-middle, assess-stop, assessOf, assess-feas-answer}
+use Rattle.oracles.specs.Scan.{−∞, none, value-of, scan-from, scan-of}
+use Rattle.oracles.specs.LowpassOracle.{group-number, group-side, assess-sign, assess-middle, assess-stop, assess-of, assess-feas-answer}
 use Rattle.oracles.specs.Matrix.{grid, total}
-use Rattle.oracles.specs.LdltMgr.{get-elem, taken, reduced, stored, stop-from, stopOf, filled, posOf, rowsOf, factorOf, factor-answer, witness-tail, witnessOf, witness-answer, quad-term, quadOf, sym-quad-answer}
+use Rattle.oracles.specs.LdltMgr.{get-elem, taken, reduced, stored, stop-from, stop-of, filled, position-of, factor-rows, factor-of, factor-answer, witness-tail, witness-of, witness-answer, quad-term, quad-of, sym-quad-answer}
 use Rattle.oracles.specs.declared.ldlt_mgr.Factored.{Factored}
 use Rattle.oracles.specs.declared.ldlt_mgr.Factored.the-variants.{Definite, Stopped, Refused}
 use Rattle.oracles.specs.declared.lowpass_oracle.LowpassOracle.{LowpassOracle}
@@ -28,7 +28,7 @@ use Rattle.oracles.specs.declared.lowpass_oracle.Verdict.{Verdict}
 use Rattle.oracles.specs.declared.lowpass_oracle.Verdict.the-variants.{Feasible, Cut, Refused as NotAssessed}
 use Rattle.numbers.specs.declared.arr.Number.{Number}
 use Rattle.numbers.specs.declared.arr.Number.the-variants.{Value, Refused as NoNumber}
-use Rattle.numbers.specs.declared.cut.Answer.{Answer}
+use Rattle.numbers.specs.declared.cut.CutAnswer.{CutAnswer}
 use Rattle.numbers.specs.declared.cut.CutStatus.{CutStatus}
 use Rattle.numbers.specs.declared.cut.CutStatus.the-variants.{Success, NoSoln, NoEffect}
 
@@ -38,24 +38,24 @@ pub record Row : Type 0 where
 
 -- the root of the number with the bits x
 abbrev root : ℕ → ℕ → Row
-root x y = record { got = toBits binary64 (sqrtOf (ofBits binary64 x)) ∷ []; expected = y ∷ [] }
+root x y = record { got = toBits binary64 (sqrt-of (ofBits binary64 x)) ∷ []; expected = y ∷ [] }
 
 -- an answer's status number, and the bits of its three numbers
-abbrev answer : Answer → CutStatus → ℕ → ℕ → ℕ → Row
+abbrev answer : CutAnswer → CutStatus → ℕ → ℕ → ℕ → Row
 answer a status rho sigma delta =
     record {
-      got = statusNumber (a .status) ∷ toBits binary64 (a .params .rho) ∷ toBits binary64 (a .params .sigma) ∷ toBits binary64 (a .params .delta) ∷ [];
-      expected = statusNumber status ∷ rho ∷ sigma ∷ delta ∷ [];
+      got = status-number (a .status) ∷ toBits binary64 (a .params .rho) ∷ toBits binary64 (a .params .sigma) ∷ toBits binary64 (a .params .delta) ∷ [];
+      expected = status-number status ∷ rho ∷ sigma ∷ delta ∷ [];
     }
 
 -- the calculators of dimension 2 at numbers with these bits
-abbrev bias-cut : ℕ → ℕ → Answer
+abbrev bias-cut : ℕ → ℕ → CutAnswer
 bias-cut beta tsq = calc-bias-cut (made 2) (ofBits binary64 beta) (ofBits binary64 tsq)
 
-abbrev bias-cut-q : ℕ → ℕ → Answer
+abbrev bias-cut-q : ℕ → ℕ → CutAnswer
 bias-cut-q beta tsq = calc-bias-cut-q (made 2) (ofBits binary64 beta) (ofBits binary64 tsq)
 
-abbrev parallel-bias-cut : ℕ → ℕ → ℕ → Answer
+abbrev parallel-bias-cut : ℕ → ℕ → ℕ → CutAnswer
 parallel-bias-cut beta0 beta1 tsq = calc-parallel-bias-cut (made 2) (ofBits binary64 beta0) (ofBits binary64 beta1) (ofBits binary64 tsq)
 
 -- ---- the second layer
@@ -78,7 +78,7 @@ abbrev storage : List Float
 storage = factor-answer 2 mat zeros .1
 
 abbrev wit : List Float
-wit = witness-answer 2 (posOf 2) storage (0ᶠ ∷ 0ᶠ ∷ []) .1
+wit = witness-answer 2 (position-of 2) storage (0ᶠ ∷ 0ᶠ ∷ []) .1
 
 abbrev floats : List Float → List ℕ
 floats = map (toBits binary64)
@@ -129,7 +129,7 @@ row Sign = []
 
 abbrev verdict : Verdict → List ℕ
 verdict Feasible = 4 ∷ []
-verdict (Cut g beta) = groupNumber g ∷ row g ++ cond (groupSide g) 1 0 ∷ chosen beta (λ beta0. floats (beta0 ∷ [])) (λ beta0 beta1. floats (beta0 ∷ beta1 ∷ []))
+verdict (Cut g beta) = group-number g ∷ row g ++ cond (group-side g) 1 0 ∷ chosen beta (λ beta0. floats (beta0 ∷ [])) (λ beta0 beta1. floats (beta0 ∷ beta1 ∷ []))
 verdict (NotAssessed why) = []
 
 abbrev assess : Float → Float → Assessed
@@ -162,13 +162,13 @@ rows =
     -- its witness is (−2, 1)
     record { got = floats wit; expected = 0xc000_0000_0000_0000 ∷ 0x3ff0_0000_0000_0000 ∷ [] } ∷
     -- and the value 3
-    record { got = number (witness-answer 2 (posOf 2) storage (0ᶠ ∷ 0ᶠ ∷ []) .0); expected = 0x4008_0000_0000_0000 ∷ [] } ∷
+    record { got = number (witness-answer 2 (position-of 2) storage (0ᶠ ∷ 0ᶠ ∷ []) .0); expected = 0x4008_0000_0000_0000 ∷ [] } ∷
     -- sym_quad of it is −3, of the identity 5
-    record { got = number (sym-quad-answer 2 (posOf 2) wit mat); expected = 0xc008_0000_0000_0000 ∷ [] } ∷
-    record { got = number (sym-quad-answer 2 (posOf 2) wit (diagOf 2 (1ᶠ ∷ 1ᶠ ∷ []))); expected = 0x4014_0000_0000_0000 ∷ [] } ∷
+    record { got = number (sym-quad-answer 2 (position-of 2) wit mat); expected = 0xc008_0000_0000_0000 ∷ [] } ∷
+    record { got = number (sym-quad-answer 2 (position-of 2) wit (diag-of 2 (1ᶠ ∷ 1ᶠ ∷ []))); expected = 0x4014_0000_0000_0000 ∷ [] } ∷
     -- the 1 by 1 zero stops at (0, 1), with the value −0
     record { got = place (factor-answer 1 (0ᶠ ∷ []) (0ᶠ ∷ []) .0); expected = 0 ∷ 1 ∷ [] } ∷
-    record { got = number (witness-answer 1 (posOf 1) (factor-answer 1 (0ᶠ ∷ []) (0ᶠ ∷ []) .1) (0ᶠ ∷ []) .0); expected = 0x8000_0000_0000_0000 ∷ [] } ∷
+    record { got = number (witness-answer 1 (position-of 1) (factor-answer 1 (0ᶠ ∷ []) (0ᶠ ∷ []) .1) (0ᶠ ∷ []) .0); expected = 0x8000_0000_0000_0000 ∷ [] } ∷
     -- (1.5, 1) is feasible, with fmax 1 and kmax 2
     record { got = verdict (assess ³⁄₂ 1ᶠ .verdict); expected = 4 ∷ [] } ∷
     record { got = toBits binary64 (assess ³⁄₂ 1ᶠ .oracle .fmax) ∷ signed (assess ³⁄₂ 1ᶠ .oracle .kmax) ∷ []; expected = 0x3ff0_0000_0000_0000 ∷ 2 ∷ [] } ∷
@@ -177,5 +177,5 @@ rows =
     []
 
 pub known : map (λ r. r .got) rows ≡ map (λ r. r .expected) rows
-unfolding add neg lt sub mul div le tab ofInt ofBits toBits pick isqrtTo isqrt rounded sqrtOf core-new core-parallel-bias-cut-fast core-bias-cut-fast core-bias-cut made calc-bias-cut calc-bias-cut-q calc-parallel-impl calc-parallel-bias-cut dotFrom dotOf setDiag diagOf advanced valueOf scanFrom scanOf assess-sign assess-middle assess-stop assessOf assess-feas-answer grid total get-elem taken reduced stored stop-from stopOf filled rowsOf factorOf witness-tail witnessOf quad-term quadOf
+unfolding add neg lt sub mul div le tab ofInt ofBits toBits pick isqrt-to isqrt rounded sqrt-of core-new core-parallel-bias-cut-fast core-bias-cut-fast core-bias-cut made calc-bias-cut calc-bias-cut-q calc-parallel-impl calc-parallel-bias-cut dot-from dot-of set-diag diag-of advanced value-of scan-from scan-of assess-sign assess-middle assess-stop assess-of assess-feas-answer grid total get-elem taken reduced stored stop-from stop-of filled factor-rows factor-of witness-tail witness-of quad-term quad-of
 known = refl

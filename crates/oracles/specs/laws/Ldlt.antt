@@ -20,7 +20,7 @@ use Rattle.numbers.specs.laws.Pick.{hit, skip, says-yes}
 use Rattle.numbers.specs.laws.Refusal.{ask-sound, both-sound, held, at-next, accepts, by-tests}
 use Rattle.oracles.specs.Matrix.{at, total}
 use Rattle.oracles.specs.laws.Matrix.{length-grid, grid-at, grid-ext}
-use Rattle.oracles.specs.LdltMgr.{isOrder, get-elem, less, taken, reduced, stored, stops, stop-from, stopOf, filled, posOf, rowsOf, factorOf, factor-tests, factor-answer, witnessOf, witness-tests, witness-answer}
+use Rattle.oracles.specs.LdltMgr.{is-order, get-elem, less, taken, reduced, stored, stops, stop-from, stop-of, filled, position-of, factor-rows, factor-of, factor-tests, factor-answer, witness-of, witness-tests, witness-answer}
 use Rattle.oracles.specs.declared.ldlt_mgr.Pos.{Pos}
 use Rattle.oracles.specs.declared.ldlt_mgr.Factored.{Factored}
 use Rattle.oracles.specs.declared.ldlt_mgr.Factored.the-variants.{Definite, Stopped, Refused}
@@ -28,8 +28,8 @@ use Rattle.oracles.specs.declared.ldlt_mgr.Factored.the-variants.{Defini
 -- ---- the tests of a call
 
 -- `r` is what is_order answered
-pub order-most : (m : ℕ) (r : Bool) → r ≡ isOrder m → not r ≡ false → m ≤ 32
-order-most m r e t = leb-true m 32 (and-eq-true-iff (leb 1 m) (leb m 32) .0 (says-yes r (isOrder m) e t) .1)
+pub order-most : (m : ℕ) (r : Bool) → r ≡ is-order m → not r ≡ false → m ≤ 32
+order-most m r e t = leb-true m 32 (and-eq-true-iff (leb 1 m) (leb m 32) .0 (says-yes r (is-order m) e t) .1)
 
 -- ---- the entry
 
@@ -174,24 +174,24 @@ module _ (A : ℕ → ℕ → Float) where
           (eq-or-lt-of-le a)
 
   -- the stop is one more than the first row whose pivot stops it, and 0 where none does
-  pub stop-first : (m e : ℕ) → stopOf A m ≡ suc e → (e < m) × (stops (reduced A e e) ≡ true) × ((k : ℕ) → k < e → stops (reduced A k k) ≡ false)
-  unfolding stopOf
+  pub stop-first : (m e : ℕ) → stop-of A m ≡ suc e → (e < m) × (stops (reduced A e e) ≡ true) × ((k : ℕ) → k < e → stops (reduced A k k) ≡ false)
+  unfolding stop-of
   stop-first m e h = let r = first-from m 0 e h in (omega (arith, r .within), r .stopped, λ k l. r .passed k (omega arith) l)
 
-  pub stop-none : (m : ℕ) → stopOf A m ≡ 0 → (k : ℕ) → k < m → stops (reduced A k k) ≡ false
-  unfolding stopOf
+  pub stop-none : (m : ℕ) → stop-of A m ≡ 0 → (k : ℕ) → k < m → stops (reduced A k k) ≡ false
+  unfolding stop-of
   stop-none m h k l = none-from m 0 h k (omega arith) (omega arith)
 
-  pub stop-most : (m : ℕ) → stopOf A m ≤ m
-  stop-most m = go (stopOf A m) refl
+  pub stop-most : (m : ℕ) → stop-of A m ≤ m
+  stop-most m = go (stop-of A m) refl
     where
-      go : (e : ℕ) → stopOf A m ≡ e → stopOf A m ≤ m
+      go : (e : ℕ) → stop-of A m ≡ e → stop-of A m ≤ m
       go zero h = omega arith
       go (suc e) h = omega (arith, stop-first m e h .0)
 
 -- `e` is what factor_rows answered
-pub rows-most : (A : ℕ → ℕ → Float) (m : ℕ) (storage : List Float) (e : ℕ) (out : List Float) → (e, out) ≡ rowsOf A m storage → e ≤ m
-unfolding rowsOf
+pub rows-most : (A : ℕ → ℕ → Float) (m : ℕ) (storage : List Float) (e : ℕ) (out : List Float) → (e, out) ≡ factor-rows A m storage → e ≤ m
+unfolding factor-rows
 rows-most A m storage e out h = rw (ap (λ (x : ℕ × List Float). x .0) h) (stop-most A m)
 
 -- ---- the factorization reads the entries (i, j) with j ≤ i alone
@@ -238,14 +238,14 @@ module _ (A B : ℕ → ℕ → Float) (m : ℕ) (agree : (i j : ℕ) → i < m 
       (λ r c a b x y. filled-in A m storage k r c a b x y ∙ stored-cong r c a b)
       (filled-out A m storage k)
 
-  rows-cong : (storage : List Float) → rowsOf A m storage ≡ rowsOf B m storage
-  unfolding rowsOf stopOf
+  rows-cong : (storage : List Float) → factor-rows A m storage ≡ factor-rows B m storage
+  unfolding factor-rows stop-of
   rows-cong storage = rw (stop-cong m 0 (omega arith), filled-cong storage (pick (eqb (stop-from B m 0) 0) m (stop-from B m 0)))
 
 -- so `factor` answers the same, storage too, of two matrices that agree on these
 pub factor-lower : (m : ℕ) (mat mat′ storage : List Float) → length mat ≡ length mat′ → ((i j : ℕ) → i < m → j ≤ i → at m mat i j ≡ at m mat′ i j)
     → factor-answer m mat storage ≡ factor-answer m mat′ storage
-unfolding factorOf
+unfolding factor-of
 factor-lower m mat mat′ storage l agree =
     let q = rows-cong (get-elem m mat [] []) (get-elem m mat′ [] []) m (λ i j b h. entry-plain m mat i j ∙ agree i j b h ∙ sym (entry-plain m mat′ i j)) storage in
     rw (l, q)
@@ -254,7 +254,7 @@ factor-lower m mat mat′ storage l agree =
 
 -- what holds where `factor` has said that it stopped at pos, and has left `out` in the storage
 pub record StoppedAt (m : ℕ) (pos : Pos) (out : List Float) : Type 0 where
-  pub order : isOrder m ≡ true
+  pub order : is-order m ≡ true
   pub long : length out ≡ m * m
   pub start : pos .start ≡ 0
   pub begun : pos .start < pos .end
@@ -272,21 +272,21 @@ same-place p q h = cc
 abbrev said : Factored × List Float → Factored
 said x = x .0
 
-rows-stopped : (A : ℕ → ℕ → Float) (m : ℕ) (storage : List Float) (pos : Pos) (out : List Float) → isOrder m ≡ true → factorOf A m storage ≡ (Stopped pos, out) → StoppedAt m pos out
-unfolding factorOf rowsOf
-rows-stopped A m storage pos out o f = go (eqb (stopOf A m) 0) refl
+rows-stopped : (A : ℕ → ℕ → Float) (m : ℕ) (storage : List Float) (pos : Pos) (out : List Float) → is-order m ≡ true → factor-of A m storage ≡ (Stopped pos, out) → StoppedAt m pos out
+unfolding factor-of factor-rows
+rows-stopped A m storage pos out o f = go (eqb (stop-of A m) 0) refl
   where
-    go : (t : Bool) → eqb (stopOf A m) 0 ≡ t → StoppedAt m pos out
+    go : (t : Bool) → eqb (stop-of A m) 0 ≡ t → StoppedAt m pos out
     go true x = absurd (definite-no pos (hit _ _ _ _ x refl ∙ ap said f))
     go false x =
-        let q = same-place (posOf (stopOf A m)) pos (skip _ _ _ _ x refl ∙ ap said f) in
+        let q = same-place (position-of (stop-of A m)) pos (skip _ _ _ _ x refl ∙ ap said f) in
         let a : 0 ≡ pos .start = ap (λ (p : Pos). p .start) q in
-        let b : stopOf A m ≡ pos .end = ap (λ (p : Pos). p .end) q in
+        let b : stop-of A m ≡ pos .end = ap (λ (p : Pos). p .end) q in
         record {
           order = o;
           long = sym (ap (λ (x : Factored × List Float). length (x .1)) f) ∙ length-filled A m storage _;
           start = sym a;
-          begun = let z = eqb-false (stopOf A m) 0 x in omega arith;
+          begun = let z = eqb-false (stop-of A m) 0 x in omega arith;
           within = omega (arith, stop-most A m);
         }
 
@@ -294,10 +294,10 @@ pub factor-stopped : (m : ℕ) (mat storage : List Float) (pos : Pos) (out : Lis
 factor-stopped m mat storage pos out =
     by-tests (λ (r : Factored × List Float). r ≡ (Stopped pos, out) → StoppedAt m pos out) (factor-tests m mat storage) _ _
     (λ why place e h. absurd (refused-no why pos (ap said h)))
-    (λ e h. rows-stopped (get-elem m mat [] []) m storage pos out (ask-sound (isOrder m) _ _ (both-sound (ask (isOrder m) Dimension) _ e .0)) h)
+    (λ e h. rows-stopped (get-elem m mat [] []) m storage pos out (ask-sound (is-order m) _ _ (both-sound (ask (is-order m) Dimension) _ e .0)) h)
 
 pub witness-follows : (m : ℕ) (pos : Pos) (out wit : List Float) → StoppedAt m pos out → length wit ≡ m
-    → witness-answer m pos out wit ≡ (Value (neg (at m out (pos .end - 1) (pos .end - 1))), witnessOf m pos out wit)
+    → witness-answer m pos out wit ≡ (Value (neg (at m out (pos .end - 1) (pos .end - 1))), witness-of m pos out wit)
 witness-follows m pos out wit h l =
     sym
     (accepts _ _ (witness-tests m pos out wit)

@@ -14,14 +14,14 @@ use Rattle.numbers.specs.Pick.{pick}
 use Rattle.numbers.specs.Arr.{tab}
 use Rattle.numbers.specs.laws.Arr.{row-in, row-unique, tab-ext}
 use Rattle.numbers.specs.laws.Pick.{hit, both-ways, is-hit, is-skip, pick-grow}
-use Rattle.oracles.specs.Matrix.{entry, at, grid}
+use Rattle.oracles.specs.Matrix.{nth, at, grid}
 use Rattle.oracles.specs.laws.Matrix.{place-in, grid-ext, at-set-same, at-set-other}
 
 -- ---- a vector with the entries f, while a loop writes it
 
 pub record VectorOf (m : ℕ) (f : ℕ → Float) (xs : List Float) : Type 0 where
   pub long : length xs ≡ m
-  pub each : (k : ℕ) → k < m → entry xs k ≡ f k
+  pub each : (k : ℕ) → k < m → nth xs k ≡ f k
 
 pub vector-set : (m : ℕ) (f g : ℕ → Float) (xs : List Float) (i : ℕ) (v : Float) → VectorOf m f xs → i < m → v ≡ g i
     → ((k : ℕ) → k < m → (k ≡ i → ⊥) → f k ≡ g k) → VectorOf m g (set xs i v)
@@ -30,7 +30,7 @@ vector-set m f g xs i v h l e o = record {
   each = λ k b. go k b (eqb k i) refl;
 }
   where
-    go : (k : ℕ) → k < m → (t : Bool) → eqb k i ≡ t → entry (set xs i v) k ≡ g k
+    go : (k : ℕ) → k < m → (t : Bool) → eqb k i ≡ t → nth (set xs i v) k ≡ g k
     go k b true q = let p : k ≡ i = eqb-true k i q in rw p (getD-set-same xs i v nan (omega (arith, h .long)) ∙ e)
     go k b false q = getD-set-other xs i k v nan (eqb-false k i q) ∙ h .each k b ∙ o k b (eqb-false k i q)
 
@@ -40,15 +40,15 @@ abbrev pub swept : (ℕ → Float) → (ℕ → Float) → ℕ → ℕ → Float
 swept f g i k = pick (ltb k i) (f k) (g k)
 
 module _ (m : ℕ) (f g : ℕ → Float) (i : ℕ) (xs : List Float) where
-  pub sweep-start : length xs ≡ m → ((k : ℕ) → k < m → entry xs k ≡ g k) → ((k : ℕ) → k < i → g k ≡ f k) → VectorOf m (swept f g i) xs
+  pub sweep-start : length xs ≡ m → ((k : ℕ) → k < m → nth xs k ≡ g k) → ((k : ℕ) → k < i → g k ≡ f k) → VectorOf m (swept f g i) xs
   sweep-start l h e = record { long = l; each = λ k b. both-ways (ltb k i) (λ t. h k b ∙ e k (ltb-true k i t)) (λ _. h k b) }
 
   module _ (h : VectorOf m (swept f g i) xs) where
     -- what is not written yet, and what is
-    pub sweep-left : (k : ℕ) → i ≤ k → k < m → entry xs k ≡ g k
+    pub sweep-left : (k : ℕ) → i ≤ k → k < m → nth xs k ≡ g k
     sweep-left k l b = h .each k b ∙ is-skip (ltb k i) (f k) (g k) (le-ltb k i l)
 
-    pub sweep-past : (k : ℕ) → k < i → k < m → entry xs k ≡ f k
+    pub sweep-past : (k : ℕ) → k < i → k < m → nth xs k ≡ f k
     sweep-past k l b = h .each k b ∙ is-hit (ltb k i) (f k) (g k) (lt-ltb k i l)
 
     pub sweep-turn : (v : Float) → i < m → v ≡ f i → VectorOf m (swept f g (i + 1)) (set xs i v)
@@ -59,13 +59,13 @@ module _ (m : ℕ) (f g : ℕ → Float) (i : ℕ) (xs : List Float) where
     pub sweep-done : ((k : ℕ) → k < m → i ≤ k → g k ≡ f k) → xs ≡ tab f m
     sweep-done e = tab-ext f m xs (h .long) (λ k b. go k b (ltb k i) refl)
       where
-        go : (k : ℕ) → k < m → (t : Bool) → ltb k i ≡ t → entry xs k ≡ f k
+        go : (k : ℕ) → k < m → (t : Bool) → ltb k i ≡ t → nth xs k ≡ f k
         go k b true t = sweep-past k (ltb-true k i t) b
         go k b false t = sweep-left k (ltb-false k i t) b ∙ e k b (ltb-false k i t)
 
 -- where nothing is written yet
-pub sweep-zero : (m : ℕ) (f : ℕ → Float) (xs : List Float) → length xs ≡ m → VectorOf m (swept f (λ k. entry xs k) 0) xs
-sweep-zero m f xs l = sweep-start m f (λ k. entry xs k) 0 xs l (λ k b. refl) (λ k b. absurd (omega (arith, b)))
+pub sweep-zero : (m : ℕ) (f : ℕ → Float) (xs : List Float) → length xs ≡ m → VectorOf m (swept f (λ k. nth xs k) 0) xs
+sweep-zero m f xs l = sweep-start m f (λ k. nth xs k) 0 xs l (λ k b. refl) (λ k b. absurd (omega (arith, b)))
 
 -- ---- a matrix with the entries f, while a loop writes it
 
@@ -96,28 +96,28 @@ module _ (a k : ℕ) (xs ys : List Float) (h : a + k ≤ length xs) (l : length 
   front-long : length (take a xs) ≡ a
   front-long = length-take-le a xs (omega (arith, h))
 
-  pub put-before : (p : ℕ) → p < a → entry (putMid a k xs ys) p ≡ entry xs p
+  pub put-before : (p : ℕ) → p < a → nth (putMid a k xs ys) p ≡ nth xs p
   put-before p b = List·getD-append (take a xs) (ys ++ drop k (drop a xs)) nan p (rw front-long b) ∙ getD-take a xs p nan b
 
-  past-front : (q : ℕ) → entry (putMid a k xs ys) (a + q) ≡ entry (ys ++ drop k (drop a xs)) q
+  past-front : (q : ℕ) → nth (putMid a k xs ys) (a + q) ≡ nth (ys ++ drop k (drop a xs)) q
   past-front q =
       let e : a + q ≡ length (take a xs) + q = rw front-long in
       rw e (getD-append-add (take a xs) (ys ++ drop k (drop a xs)) q nan)
 
-  pub put-in : (q : ℕ) → q < k → entry (putMid a k xs ys) (a + q) ≡ entry ys q
+  pub put-in : (q : ℕ) → q < k → nth (putMid a k xs ys) (a + q) ≡ nth ys q
   put-in q b = past-front q ∙ List·getD-append ys (drop k (drop a xs)) nan q (omega (arith, l))
 
-  pub put-after : (p : ℕ) → a + k ≤ p → entry (putMid a k xs ys) p ≡ entry xs p
+  pub put-after : (p : ℕ) → a + k ≤ p → nth (putMid a k xs ys) p ≡ nth xs p
   put-after p b =
       let m = p - (a + k) in
       let e : p ≡ a + (length ys + m) = omega (arith, l) in
       let e′ : p ≡ a + (k + m) = omega arith in
-      ap (λ (z : ℕ). entry (putMid a k xs ys) z) e ∙ past-front (length ys + m) ∙ getD-append-add ys (drop k (drop a xs)) m nan
-      ∙ getD-drop k (drop a xs) m nan ∙ getD-drop a xs (k + m) nan ∙ ap (λ (z : ℕ). entry xs z) (sym e′)
+      ap (λ (z : ℕ). nth (putMid a k xs ys) z) e ∙ past-front (length ys + m) ∙ getD-append-add ys (drop k (drop a xs)) m nan
+      ∙ getD-drop k (drop a xs) m nan ∙ getD-drop a xs (k + m) nan ∙ ap (λ (z : ℕ). nth xs z) (sym e′)
 
 -- the k entries of row i from a on, lent as a part, and back
 pub matrix-put : (n : ℕ) (f g : ℕ → ℕ → Float) (mat ys : List Float) (i a k : ℕ) → MatrixOf n f mat → i < n → a + k ≤ n → length ys ≡ k
-    → ((c : ℕ) → c < k → entry ys c ≡ g i (a + c)) → ((r c : ℕ) → r < n → c < n → (r ≡ i → a ≤ c → c < a + k → ⊥) → f r c ≡ g r c)
+    → ((c : ℕ) → c < k → nth ys c ≡ g i (a + c)) → ((r c : ℕ) → r < n → c < n → (r ≡ i → a ≤ c → c < a + k → ⊥) → f r c ≡ g r c)
     → MatrixOf n g (putMid (i * n + a) k mat ys)
 matrix-put n f g mat ys i a k h l b e p o = record {
   long = same-len-mid (i * n + a) k mat ys (e ∙ sym (length-take-le k (drop (i * n + a) mat) (rw (length-drop (i * n + a) mat) (omega (arith, inside))))) ∙ h .long;
@@ -196,18 +196,18 @@ module _ (n : ℕ) (f g : ℕ → ℕ → Float) (i : ℕ) (mat : List Float) (h
   pub part-long : length (take k (drop s mat)) ≡ k
   part-long = length-take-le k (drop s mat) (rw (length-drop s mat) (omega (arith, row-in n i n l, h .long)))
 
-  pub part-entry : (c : ℕ) → c < k → entry (take k (drop s mat)) c ≡ g i (a + c)
+  pub part-entry : (c : ℕ) → c < k → nth (take k (drop s mat)) c ≡ g i (a + c)
   part-entry c m =
       let e : s + c ≡ i * n + (a + c) = omega arith in
-      getD-take k (drop s mat) c nan m ∙ getD-drop s mat c nan ∙ ap (λ (z : ℕ). entry mat z) e
+      getD-take k (drop s mat) c nan m ∙ getD-drop s mat c nan ∙ ap (λ (z : ℕ). nth mat z) e
       ∙ by-left n (λ r c. r) f g i mat h i (a + c) l (omega arith) (omega arith)
 
-  pub part-turn : (ys : List Float) → length ys ≡ k → ((c : ℕ) → c < k → entry ys c ≡ f i (a + c)) → ((c : ℕ) → c < n → (a ≤ c → c < a + k → ⊥) → g i c ≡ f i c)
+  pub part-turn : (ys : List Float) → length ys ≡ k → ((c : ℕ) → c < k → nth ys c ≡ f i (a + c)) → ((c : ℕ) → c < n → (a ≤ c → c < a + k → ⊥) → g i c ≡ f i c)
       → MatrixOf n (swept-by (λ r c. r) f g (i + 1)) (putMid s k mat ys)
   part-turn ys m e o =
       rw p
       (matrix-put n (swept-by (λ r c. r) f g i) (swept-by (λ r c. r) f g (i + 1)) mat ys i a k h l b m
-      (λ c y. hit (ltb i (i + 1)) (f i (a + c)) (g i (a + c)) (entry ys c) (lt-ltb i (i + 1) (omega arith)) (e c y))
+      (λ c y. hit (ltb i (i + 1)) (f i (a + c)) (g i (a + c)) (nth ys c) (lt-ltb i (i + 1) (omega arith)) (e c y))
       (λ r c x y z. go r c y z (eqb r i) refl))
     where
       go : (r c : ℕ) → c < n → (r ≡ i → a ≤ c → c < a + k → ⊥) → (t : Bool) → eqb r i ≡ t → swept-by (λ r c. r) f g i r c ≡ swept-by (λ r c. r) f g (i + 1) r c

@@ -11,7 +11,7 @@ use lib.ListN.{length, take, drop, getD, set, length-append, length-drop, List·
 use lib.Seq.{take-suc, append-snoc, set-at, getD-append-add, getD-set-same, getD-set-other, getD-take, getD-drop, take-add, take-all, length-take-le}
 use Rattle.numbers.specs.Arr.{tab}
 use Rattle.numbers.specs.laws.Arr.{length-tab, row-in, row-unique, tab-entry, tab-ext}
-use Rattle.oracles.specs.Matrix.{entry, at, grid, total}
+use Rattle.oracles.specs.Matrix.{nth, at, grid, total}
 
 -- ---- matrices
 
@@ -120,7 +120,7 @@ row-small m i h k = omega (arith, row-in m i m k, mul-le-mul h h)
 -- ---- a vector in three parts
 
 -- an entry of the middle one
-pub entry-mid : (xs ys zs : List Float) (i j : ℕ) → length xs ≡ i → j < length ys → entry (xs ++ ys ++ zs) (i + j) ≡ entry ys j
+pub entry-mid : (xs ys zs : List Float) (i j : ℕ) → length xs ≡ i → j < length ys → nth (xs ++ ys ++ zs) (i + j) ≡ nth ys j
 entry-mid xs ys zs i j e h =
     rw (← e)
     (List·getD-append (xs ++ ys) zs nan (length xs + j) (rw (length-append xs ys) (omega arith)) ∙ getD-append-add xs ys j nan)

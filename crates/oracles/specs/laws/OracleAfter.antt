@@ -14,19 +14,19 @@ use lib.Signed.{ltZ}
 use lib.Ieee.{Float, neg}
 use Rattle.numbers.specs.F64.{0ᶠ}
 use Rattle.numbers.specs.Pick.{pick}
-use Rattle.numbers.specs.Arr.{rowOf}
+use Rattle.numbers.specs.Arr.{row-of}
 use Rattle.numbers.specs.laws.Arr.{row-in}
 use Rattle.numbers.specs.laws.Pick.{by-test}
 use Rattle.numbers.specs.laws.Refusal.{by-tests}
-use Rattle.oracles.specs.RoundRobin.{isAt}
+use Rattle.oracles.specs.RoundRobin.{is-at}
 use Rattle.oracles.specs.laws.RoundRobin.{legal-at}
 use Rattle.oracles.specs.Scan.{−∞, none, band-gradient}
 use Rattle.oracles.specs.laws.Scan.{last-legal}
-use Rattle.oracles.specs.LowpassOracle.{−1ᶠ, bands-fit, offered, assessOf, improvedOf, optim-of, assess-tests, assess-feas-answer, assess-optim-answer}
+use Rattle.oracles.specs.LowpassOracle.{−1ᶠ, bands-fit, offered, assess-of, improved-of, optim-of, assess-tests, assess-feas-answer, assess-optim-answer}
 use Rattle.oracles.specs.laws.Assess.{fit-of, pass-left, stop-left, middle-left, assess-cases, accepted-of, accepted-by, accepted-is}
 use Rattle.oracles.specs.Verdict.{asked, limits, is-accepted, FeasRule}
 use Rattle.oracles.specs.laws.CursorRule.{band-found, feas-rule}
-use Rattle.oracles.specs.declared.scan.Upper.the-variants.{Absent, At}
+use Rattle.oracles.specs.declared.scan.Upper.the-variants.{Absent, Limit}
 use Rattle.oracles.specs.declared.lowpass_oracle.LowpassOracle.{LowpassOracle}
 use Rattle.oracles.specs.declared.lowpass_oracle.Verdict.{Verdict}
 use Rattle.oracles.specs.declared.lowpass_oracle.Verdict.the-variants.{Feasible, Cut, Refused}
@@ -60,7 +60,7 @@ pub record OptimLeft (o o′ : LowpassOracle) (r : AssessedOptim) : Type 0 where
 
 pub optim-left : (o : LowpassOracle) (gamma : Float) (n rows : ℕ) (table x grad : List Float)
     → OptimLeft o (assess-feas-answer (offered o gamma) n rows table x grad .0 .oracle) (assess-optim-answer o gamma n rows table x grad .0)
-unfolding improvedOf
+unfolding improved-of
 optim-left o gamma n rows table x grad = let a = assess-feas-answer (offered o gamma) n rows table x grad in go (a .0 .oracle) (a .0 .verdict) (a .1)
   where
     go : (o′ : LowpassOracle) (v : Verdict) (g : List Float) → OptimLeft o o′ (optim-of o gamma n table o′ v g .0)
@@ -78,7 +78,7 @@ optim-kept o gamma n rows table x grad e = ap limits (optim-left o gamma n rows 
 
 -- after an accepted call it is accepted again, with any point and gradient of n numbers
 module _ (o : LowpassOracle) (n rows : ℕ) (table x grad : List Float) (h : is-accepted o n rows table x grad ≡ true) (x′ grad′ : List Float) (hx : length x′ ≡ n) (hg : length grad′ ≡ n) where
-  fits-again : (o′ : LowpassOracle) → bands-fit o′ rows ≡ true → isAt (o′ .rr1) ≡ true → isAt (o′ .rr2) ≡ true → isAt (o′ .rr3) ≡ true → is-accepted o′ n rows table x′ grad′ ≡ true
+  fits-again : (o′ : LowpassOracle) → bands-fit o′ rows ≡ true → is-at (o′ .rr1) ≡ true → is-at (o′ .rr2) ≡ true → is-at (o′ .rr3) ≡ true → is-accepted o′ n rows table x′ grad′ ≡ true
   fits-again o′ b a₁ a₂ a₃ =
       let a = accepted-of o n rows table x grad h in
       accepted-by o′ n rows table x′ grad′
@@ -90,12 +90,12 @@ module _ (o : LowpassOracle) (n rows : ℕ) (table x grad : List Float) (h : is-
       let F = fit-of o rows (a .bands) (a .cursors) in
       fits-again o (a .bands) (legal-at (o .rr1) (F .pass-rows .legal)) (legal-at (o .rr2) (F .middle-rows .legal)) (legal-at (o .rr3) (F .stop-rows .legal))
 
-  assessed-again : is-accepted (assessOf o n table x grad .0 .oracle) n rows table x′ grad′ ≡ true
+  assessed-again : is-accepted (assess-of o n table x grad .0 .oracle) n rows table x′ grad′ ≡ true
   assessed-again =
       let a = accepted-of o n rows table x grad h in
       let F = fit-of o rows (a .bands) (a .cursors) in
-      let p = last-legal n table x (o .rr1) (o .«lp_sq») (At (o .«up_sq»)) (F .pass-rows .legal) .at in
-      let s = last-legal n table x (o .rr3) 0ᶠ (At (o .«sp_sq»)) (F .stop-rows .legal) .at in
+      let p = last-legal n table x (o .rr1) (o .«lp_sq») (Limit (o .«up_sq»)) (F .pass-rows .legal) .at in
+      let s = last-legal n table x (o .rr3) 0ᶠ (Limit (o .«sp_sq»)) (F .stop-rows .legal) .at in
       let m = last-legal n table x (o .rr2) 0ᶠ Absent (F .middle-rows .legal) .at in
       let s₀ = legal-at (o .rr3) (F .stop-rows .legal) in
       let m₀ = legal-at (o .rr2) (F .middle-rows .legal) in
@@ -121,13 +121,13 @@ optim-again o gamma n rows table x grad h x′ grad′ hx hg = go (is-refusal (a
 
 -- ---- the gradient after an accepted call has n numbers
 
-row-length : (n rows : ℕ) (table : List Float) (row : ℕ) → length table ≡ rows * n → row < rows → length (rowOf n table row) ≡ n
+row-length : (n rows : ℕ) (table : List Float) (row : ℕ) → length table ≡ rows * n → row < rows → length (row-of n table row) ≡ n
 row-length n rows table row h l = length-take-le n (drop (row * n) table) (rw (length-drop (row * n) table) (omega (arith, row-in n row rows l)))
 
 cut-length : (n rows : ℕ) (table : List Float) (row : ℕ) (over : Bool) → length table ≡ rows * n → row < rows → length (band-gradient n table row over) ≡ n
 unfolding band-gradient pick
 cut-length n rows table row true h l = row-length n rows table row h l
-cut-length n rows table row false h l = length-map (rowOf n table row) neg ∙ row-length n rows table row h l
+cut-length n rows table row false h l = length-map (row-of n table row) neg ∙ row-length n rows table row h l
 
 module _ (o : LowpassOracle) (n rows : ℕ) (table x grad : List Float) (h : is-accepted o n rows table x grad ≡ true) where
   pub gradient-length : length (assess-feas-answer o n rows table x grad .1) ≡ n
@@ -136,8 +136,8 @@ module _ (o : LowpassOracle) (n rows : ℕ) (table x grad : List Float) (h : is-
       let F = fit-of o rows (a .bands) (a .cursors) in
       rw (accepted-is o n rows table x grad h)
       (assess-cases o n table x grad (λ r. length (r .1) ≡ n)
-      (λ row v over e. cut row over (band-found n table x (o .rr1) (o .«lp_sq») (At (o .«up_sq»)) 0 (natAbs (o .nwpass)) (F .pass-rows) row v over e .high) (F .pass-high))
-      (λ e₁ row v over e. cut row over (band-found n table x (o .rr3) 0ᶠ (At (o .«sp_sq»)) (natAbs (o .nwstop)) rows (F .stop-rows) row v over e .high) (le-refl rows))
+      (λ row v over e. cut row over (band-found n table x (o .rr1) (o .«lp_sq») (Limit (o .«up_sq»)) 0 (natAbs (o .nwpass)) (F .pass-rows) row v over e .high) (F .pass-high))
+      (λ e₁ row v over e. cut row over (band-found n table x (o .rr3) 0ᶠ (Limit (o .«sp_sq»)) (natAbs (o .nwstop)) rows (F .stop-rows) row v over e .high) (le-refl rows))
       (λ e₁ e₂ row v over e. cut row over (band-found n table x (o .rr2) 0ᶠ Absent (natAbs (o .nwpass)) (natAbs (o .nwstop)) (F .middle-rows) row v over e .high) (F .middle-high))
       (λ e₁ e₂ e₃ e. length-set (replicate (length grad) 0ᶠ) 0 −1ᶠ ∙ length-replicate (length grad) 0ᶠ ∙ a .grad-long)
       (λ e₁ e₂ e₃ e. a .grad-long))
@@ -146,7 +146,7 @@ module _ (o : LowpassOracle) (n rows : ℕ) (table x grad : List Float) (h : is-
       cut row over l m = cut-length n rows table row over (accepted-of o n rows table x grad h .table-long) (le-trans l m)
 
 pub optim-gradient-length : (o : LowpassOracle) (gamma : Float) (n rows : ℕ) (table x grad : List Float) → is-accepted o n rows table x grad ≡ true → length (assess-optim-answer o gamma n rows table x grad .1) ≡ n
-unfolding improvedOf
+unfolding improved-of
 optim-gradient-length o gamma n rows table x grad h =
     let a = assess-feas-answer (offered o gamma) n rows table x grad in
     go (a .0 .oracle) (a .0 .verdict) (a .1) (feas-rule (offered o gamma) n rows table x grad h) (gradient-length (offered o gamma) n rows table x grad h)

@@ -7,7 +7,7 @@ use borrow.Author.Tests.{le-ltb, leb-true, ltb-true, le-leb, lt-ltb, eqb-true, e
 use lib.IntN.{ℤ, pos, negsuc, predℤ, _+ℤ_, _-ℤ_, +ℤ-one, suc-pred}
 use lib.Signed.{leZ, ltZ}
 use Rattle.numbers.specs.Pick.{pick}
-use Rattle.oracles.specs.RoundRobin.{isBand, isAt, eqZ, advanced}
+use Rattle.oracles.specs.RoundRobin.{is-band, is-at, eqZ, advanced}
 use Rattle.oracles.specs.declared.round_robin.RoundRobin.{RoundRobin}
 use Rattle.numbers.specs.laws.Pick.{and-parts}
 
@@ -41,7 +41,7 @@ eqZ-true (negsuc a) (pos b) e = absurd (true≢false (sym e))
 eqZ-true (negsuc a) (negsuc b) e = ap negsuc (eqb-true a b e)
 
 -- the tests of a cursor make it legal
-pub legal-of : (c : RoundRobin) → isBand (c .lo) (c .hi) ≡ true → isAt c ≡ true → Legal c
+pub legal-of : (c : RoundRobin) → is-band (c .lo) (c .hi) ≡ true → is-at c ≡ true → Legal c
 legal-of c b a =
     let p = and-parts (leZ (pos 0) (c .lo) && leZ (c .lo) (c .hi)) (leZ (c .hi) (pos 1024)) b in
     let q = and-parts (leZ (pos 0) (c .lo)) (leZ (c .lo) (c .hi)) (p .0) in
@@ -106,10 +106,10 @@ band-is c L = (λ i. L .hi-is i -ℤ L .lo-is i) ∙ go (L .past) (L .from) (ome
     go p (suc f) h = rw (le-ltb p (suc f) h)
 
 -- a legal cursor passes its tests
-pub legal-band : (c : RoundRobin) → Legal c → isBand (c .lo) (c .hi) ≡ true
+pub legal-band : (c : RoundRobin) → Legal c → is-band (c .lo) (c .hi) ≡ true
 legal-band c L = rw (L .lo-is, L .hi-is, le-leb 0 (L .from) (omega arith), le-leb (L .from) (L .past) (omega arith), le-leb (L .past) 1024 (L .small))
 
-pub legal-at : (c : RoundRobin) → Legal c → isAt c ≡ true
+pub legal-at : (c : RoundRobin) → Legal c → is-at c ≡ true
 legal-at c L = rw (legal-canon c L, one-on (L .next), le-leb (L .from) (L .next) (L .above), before (L .next) (L .below))
   where
     before : (k : ℕ) → k ≤ L .past → ltZ (predℤ (pos k)) (pos (L .past)) ≡ true

@@ -12,15 +12,15 @@ use lib.IntN.{ℤ, pos, predℤ, natAbs, _-ℤ_}
 use lib.Ieee.{Float, lt, isNan}
 use Rattle.numbers.specs.Pick.{pick, some}
 use Rattle.numbers.specs.laws.Pick.{none-some, some-holds}
-use Rattle.oracles.specs.RoundRobin.{isBand, isAt, moved, advanced}
+use Rattle.oracles.specs.RoundRobin.{is-band, is-at, moved, advanced}
 use Rattle.oracles.specs.laws.RoundRobin.{canon, legal-canon, adv-next, adv-wrap, band-is, legal-band, legal-at, Legal}
 use Rattle.oracles.specs.laws.FloatOrder.{nlt-trans, lt-asym, lt-irrefl, above-compares}
-use Rattle.oracles.specs.Scan.{−∞, none, valueOf, isOver, scanFrom, scanOf, table-fits, band-fits}
+use Rattle.oracles.specs.Scan.{−∞, none, value-of, is-over, scan-from, scan-of, table-fits, band-fits}
 use Rattle.oracles.specs.declared.round_robin.RoundRobin.{RoundRobin}
 use Rattle.oracles.specs.declared.scan.Upper.{Upper}
 use Rattle.oracles.specs.declared.scan.Violation.the-variants.{Nothing, Broken}
 use Rattle.oracles.specs.declared.scan.Scan.{Scan}
-use Rattle.numbers.specs.Arr.{isDimension}
+use Rattle.numbers.specs.Arr.{is-dimension}
 
 -- ---- what the inner functions ask for
 
@@ -31,10 +31,10 @@ pub record Ready (n : ℕ) (table x : List Float) (c : RoundRobin) : Type 0 wher
 
 -- a scan with nothing left to refuse
 pub record Scannable (n rows : ℕ) (table x : List Float) (c : RoundRobin) : Type 0 where
-  pub dimension : isDimension n ≡ true
+  pub dimension : is-dimension n ≡ true
   pub long : table-fits n rows table x ≡ true
   pub band : band-fits rows (c .lo) (c .hi) ≡ true
-  pub at : isAt c ≡ true
+  pub at : is-at c ≡ true
 
 -- ---- how many rows a scan has, and which
 
@@ -89,21 +89,21 @@ nothing-broken i v over e = let z : _≡_ {A = ℕ} 0 1 = cc in omega arith
 module _ (n : ℕ) (table x : List Float) (lower : Float) (upper : Upper) where
   -- row i's value
   abbrev val : ℕ → Float
-  val i = valueOf n table x i
+  val i = value-of n table x i
 
   -- what holds of each way through a row holds of the scan
   turn : (P : Scan → Type 0) (left from past k : ℕ) (fmax : Float) (kmax : ℤ) (o : NextRow from past k)
-      → (isOver upper (val (o .row)) ≡ true → P (ended (o .row) (val (o .row)) true fmax kmax))
-      → (isOver upper (val (o .row)) ≡ false → lt (val (o .row)) lower ≡ true → P (ended (o .row) (val (o .row)) false fmax kmax))
-      → (isOver upper (val (o .row)) ≡ false → lt (val (o .row)) lower ≡ false
-      → P (scanFrom n table x lower upper left (canon from past (suc (o .row))) (best fmax (val (o .row))) (best-row fmax kmax (o .row) (val (o .row)))))
-      → P (scanFrom n table x lower upper (suc left) (canon from past k) fmax kmax)
-  unfolding scanFrom pick
-  turn P left from past k fmax kmax o over under on = rw (o .goes) (go (isOver upper (val (o .row))) (lt (val (o .row)) lower) refl refl)
+      → (is-over upper (val (o .row)) ≡ true → P (ended (o .row) (val (o .row)) true fmax kmax))
+      → (is-over upper (val (o .row)) ≡ false → lt (val (o .row)) lower ≡ true → P (ended (o .row) (val (o .row)) false fmax kmax))
+      → (is-over upper (val (o .row)) ≡ false → lt (val (o .row)) lower ≡ false
+      → P (scan-from n table x lower upper left (canon from past (suc (o .row))) (best fmax (val (o .row))) (best-row fmax kmax (o .row) (val (o .row)))))
+      → P (scan-from n table x lower upper (suc left) (canon from past k) fmax kmax)
+  unfolding scan-from pick
+  turn P left from past k fmax kmax o over under on = rw (o .goes) (go (is-over upper (val (o .row))) (lt (val (o .row)) lower) refl refl)
     where
-      go : (s t : Bool) → isOver upper (val (o .row)) ≡ s → lt (val (o .row)) lower ≡ t
+      go : (s t : Bool) → is-over upper (val (o .row)) ≡ s → lt (val (o .row)) lower ≡ t
           → P (pick s (ended (o .row) (val (o .row)) true fmax kmax) (pick t (ended (o .row) (val (o .row)) false fmax kmax)
-          (scanFrom n table x lower upper left (canon from past (suc (o .row))) (best fmax (val (o .row))) (best-row fmax kmax (o .row) (val (o .row))))))
+          (scan-from n table x lower upper left (canon from past (suc (o .row))) (best fmax (val (o .row))) (best-row fmax kmax (o .row) (val (o .row))))))
       go true t es et = over es
       go false true es et = under es et
       go false false es et = on es et
@@ -114,9 +114,9 @@ module _ (n : ℕ) (table x : List Float) (from past : ℕ) where
   pub record Found (lower : Float) (upper : Upper) (row : ℕ) (v : Float) (over : Bool) (last : ℤ) : Type 0 where
     pub low : from ≤ row
     pub high : row < past
-    pub value-is : v ≡ valueOf n table x row
-    pub above : over ≡ true → isOver upper v ≡ true
-    pub below : over ≡ false → (isOver upper v ≡ false) × (lt v lower ≡ true)
+    pub value-is : v ≡ value-of n table x row
+    pub above : over ≡ true → is-over upper v ≡ true
+    pub below : over ≡ false → (is-over upper v ≡ false) × (lt v lower ≡ true)
     pub last-is : last ≡ pos row
 
   -- a row of the band has the largest value so far
@@ -125,7 +125,7 @@ module _ (n : ℕ) (table x : List Float) (from past : ℕ) where
     pub row-is : kmax ≡ pos row
     pub low : from ≤ row
     pub high : row < past
-    pub value-is : valueOf n table x row ≡ fmax
+    pub value-is : value-of n table x row ≡ fmax
     pub compares : isNan fmax ≡ false
 
   -- −∞ and none before the first value that compares with it
@@ -133,12 +133,12 @@ module _ (n : ℕ) (table x : List Float) (from past : ℕ) where
   Top fmax kmax = ((fmax ≡ −∞) × (kmax ≡ none)) ⊎ Best fmax kmax
 
   -- after row i
-  top-on : (i : ℕ) (fmax : Float) (kmax : ℤ) → from ≤ i → i < past → Top fmax kmax → Top (best fmax (valueOf n table x i)) (best-row fmax kmax i (valueOf n table x i))
+  top-on : (i : ℕ) (fmax : Float) (kmax : ℤ) → from ≤ i → i < past → Top fmax kmax → Top (best fmax (value-of n table x i)) (best-row fmax kmax i (value-of n table x i))
   unfolding pick
-  top-on i fmax kmax a b t = go (lt fmax (valueOf n table x i)) refl
+  top-on i fmax kmax a b t = go (lt fmax (value-of n table x i)) refl
     where
-      go : (s : Bool) → lt fmax (valueOf n table x i) ≡ s → Top (pick s (valueOf n table x i) fmax) (pick s (pos i) kmax)
-      go true e = inr (record { row = i; row-is = refl; low = a; high = b; value-is = refl; compares = above-compares fmax (valueOf n table x i) e })
+      go : (s : Bool) → lt fmax (value-of n table x i) ≡ s → Top (pick s (value-of n table x i) fmax) (pick s (pos i) kmax)
+      go true e = inr (record { row = i; row-is = refl; low = a; high = b; value-is = refl; compares = above-compares fmax (value-of n table x i) e })
       go false e = t
 
   -- the violation, the largest value, and a cursor that is still legal
@@ -153,29 +153,29 @@ module _ (n : ℕ) (table x : List Float) (from past : ℕ) where
   module _ (lower : Float) (upper : Upper) where
     -- at row i, with a violation
     sound-end : (i : ℕ) (over : Bool) (fmax : Float) (kmax : ℤ) → from ≤ i → i < past → Top fmax kmax
-        → (over ≡ true → isOver upper (valueOf n table x i) ≡ true)
-        → (over ≡ false → (isOver upper (valueOf n table x i) ≡ false) × (lt (valueOf n table x i) lower ≡ true))
-        → Sound lower upper (ended i (valueOf n table x i) over fmax kmax)
+        → (over ≡ true → is-over upper (value-of n table x i) ≡ true)
+        → (over ≡ false → (is-over upper (value-of n table x i) ≡ false) × (lt (value-of n table x i) lower ≡ true))
+        → Sound lower upper (ended i (value-of n table x i) over fmax kmax)
     sound-end i over fmax kmax a b t above below = record { broken = found; top = t; next = suc i; last-is = refl; above = omega arith; below = b }
       where
-        found : (row : ℕ) (v : Float) (o : Bool) → Broken i (valueOf n table x i) over ≡ Broken row v o → Found lower upper row v o (pos i)
+        found : (row : ℕ) (v : Float) (o : Bool) → Broken i (value-of n table x i) over ≡ Broken row v o → Found lower upper row v o (pos i)
         found row v o e =
             let ei : i ≡ row = cc in
-            let ev : valueOf n table x i ≡ v = cc in
+            let ev : value-of n table x i ≡ v = cc in
             let eo : over ≡ o = cc in
             record { low = rw (← ei) a; high = rw (← ei) b; value-is = rw ei at (sym ev); above = rw (eo, ev) at above; below = rw (eo, ev) at below; last-is = rw ei }
 
     -- wherever it begins
     sound : (left k : ℕ) (fmax : Float) (kmax : ℤ) → from ≤ k → k ≤ past → left ≤ past - from → Top fmax kmax
-        → Sound lower upper (scanFrom n table x lower upper left (canon from past k) fmax kmax)
-    unfolding scanFrom
+        → Sound lower upper (scan-from n table x lower upper left (canon from past k) fmax kmax)
+    unfolding scan-from
     sound zero k fmax kmax a b m t = record { broken = λ i v over e. absurd (nothing-broken i v over e); top = t; next = k; last-is = refl; above = a; below = b }
     sound (suc left) k fmax kmax a b m t =
         let o = next-row from past k a b (omega arith) in
         turn n table x lower upper (Sound lower upper) left from past k fmax kmax o
         (λ s. sound-end (o .row) true fmax kmax (o .low) (o .high) t (λ e. s) (λ e. absurd (true≢false e)))
         (λ s u. sound-end (o .row) false fmax kmax (o .low) (o .high) t (λ e. absurd (true≢false (sym e))) (λ e. (s, u)))
-        (λ s u. sound left (suc (o .row)) (best fmax (valueOf n table x (o .row))) (best-row fmax kmax (o .row) (valueOf n table x (o .row)))
+        (λ s u. sound left (suc (o .row)) (best fmax (value-of n table x (o .row))) (best-row fmax kmax (o .row) (value-of n table x (o .row)))
         (omega arith) (omega arith) (omega arith) (top-on (o .row) fmax kmax (o .low) (o .high) t))
 
 -- ---- a scan that finds nothing
@@ -197,9 +197,9 @@ larger fmax v h = go (lt fmax v) refl
 module _ (n : ℕ) (table x : List Float) (lower : Float) (upper : Upper) where
   -- row i breaks no limit, and its value is not above the largest
   pub record Passed (fmax : Float) (i : ℕ) : Type 0 where
-    pub not-over : isOver upper (valueOf n table x i) ≡ false
-    pub not-under : lt (valueOf n table x i) lower ≡ false
-    pub not-above : lt fmax (valueOf n table x i) ≡ false
+    pub not-over : is-over upper (value-of n table x i) ≡ false
+    pub not-under : lt (value-of n table x i) lower ≡ false
+    pub not-above : lt fmax (value-of n table x i) ≡ false
 
   module _ (from past : ℕ) where
     -- so with all rows that the scan has seen, and the largest value has not become less
@@ -208,9 +208,9 @@ module _ (n : ℕ) (table x : List Float) (lower : Float) (upper : Upper) where
       keeps : lt fmax′ fmax ≡ false
 
     clear : (left k : ℕ) (fmax : Float) (kmax : ℤ) → from ≤ k → k ≤ past → left ≤ past - from → isNan fmax ≡ false
-        → scanFrom n table x lower upper left (canon from past k) fmax kmax .viol ≡ Nothing
-        → Clear k left fmax (scanFrom n table x lower upper left (canon from past k) fmax kmax .fmax)
-    unfolding scanFrom
+        → scan-from n table x lower upper left (canon from past k) fmax kmax .viol ≡ Nothing
+        → Clear k left fmax (scan-from n table x lower upper left (canon from past k) fmax kmax .fmax)
+    unfolding scan-from
     clear zero k fmax kmax a b m h = λ e. record { each = λ i u w s. absurd (unseen i u s); keeps = lt-irrefl fmax }
       where
         unseen : (i : ℕ) → from ≤ i → Seen from past k 0 i → ⊥
@@ -218,18 +218,18 @@ module _ (n : ℕ) (table x : List Float) (lower : Float) (upper : Upper) where
         unseen i u (inr s) = omega arith
     clear (suc left) k fmax kmax a b m h =
         let o = next-row from past k a b (omega arith) in
-        let v = valueOf n table x (o .row) in
+        let v = value-of n table x (o .row) in
         let g = larger fmax v h in
         turn n table x lower upper (λ s. s .viol ≡ Nothing → Clear k (suc left) fmax (s .fmax)) left from past k fmax kmax o
         (λ s e. absurd (nothing-broken (o .row) v true (sym e)))
         (λ s u e. absurd (nothing-broken (o .row) v false (sym e)))
         (λ s u e. on o s u g (clear left (suc (o .row)) (best fmax v) (best-row fmax kmax (o .row) v) (omega arith) (omega arith) (omega arith) (g .compares) e))
       where
-        on : {fmax′ : Float} (o : NextRow from past k) → isOver upper (valueOf n table x (o .row)) ≡ false → lt (valueOf n table x (o .row)) lower ≡ false
-            → Larger fmax (valueOf n table x (o .row)) (best fmax (valueOf n table x (o .row)))
-            → Clear (suc (o .row)) left (best fmax (valueOf n table x (o .row))) fmax′ → Clear k (suc left) fmax fmax′
+        on : {fmax′ : Float} (o : NextRow from past k) → is-over upper (value-of n table x (o .row)) ≡ false → lt (value-of n table x (o .row)) lower ≡ false
+            → Larger fmax (value-of n table x (o .row)) (best fmax (value-of n table x (o .row)))
+            → Clear (suc (o .row)) left (best fmax (value-of n table x (o .row))) fmax′ → Clear k (suc left) fmax fmax′
         on {fmax′} o s u g r =
-            let v = valueOf n table x (o .row) in
+            let v = value-of n table x (o .row) in
             let here : Passed fmax′ (o .row) = record { not-over = s; not-under = u; not-above = nlt-trans v (best fmax v) fmax′ (g .compares) (g .takes) (r .keeps) } in
             record {
               each = λ i p q seen. elim (o .rest left i p q seen) [ inl e ↦ rw (← e) here | inr more ↦ r .each i p q more ];
@@ -240,42 +240,42 @@ module _ (n : ℕ) (table x : List Float) (lower : Float) (upper : Upper) where
 
 -- whether row i breaks a limit
 abbrev pub row-breaks : ℕ → List Float → List Float → Float → Upper → ℕ → Bool
-row-breaks n table x lower upper i = isOver upper (valueOf n table x i) || lt (valueOf n table x i) lower
+row-breaks n table x lower upper i = is-over upper (value-of n table x i) || lt (value-of n table x i) lower
 
 -- the cursor c as a scan leaves it: legal over the same band
 pub record LeftAt (c : RoundRobin) (L : Legal c) (last : ℤ) : Type 0 where
   pub legal : Legal (moved c last)
   pub from-is : legal .from ≡ L .from
   pub past-is : legal .past ≡ L .past
-  pub at : isAt (moved c last) ≡ true
-  pub band : isBand (moved c last .lo) (moved c last .hi) ≡ true
+  pub at : is-at (moved c last) ≡ true
+  pub band : is-band (moved c last .lo) (moved c last .hi) ≡ true
 
 module _ (n : ℕ) (table x : List Float) (c : RoundRobin) (lower : Float) (upper : Upper) (L : Legal c) where
   -- it begins at the cursor's next row
-  scan-is : scanOf n table x c lower upper ≡ scanFrom n table x lower upper (L .past - L .from) (canon (L .from) (L .past) (L .next)) −∞ none
-  unfolding scanOf
-  scan-is = ap (λ m. scanFrom n table x lower upper m c −∞ none) (band-count c L) ∙ ap (λ d. scanFrom n table x lower upper (L .past - L .from) d −∞ none) (legal-canon c L)
+  scan-is : scan-of n table x c lower upper ≡ scan-from n table x lower upper (L .past - L .from) (canon (L .from) (L .past) (L .next)) −∞ none
+  unfolding scan-of
+  scan-is = ap (λ m. scan-from n table x lower upper m c −∞ none) (band-count c L) ∙ ap (λ d. scan-from n table x lower upper (L .past - L .from) d −∞ none) (legal-canon c L)
 
-  scan-sound : Sound n table x (L .from) (L .past) lower upper (scanOf n table x c lower upper)
+  scan-sound : Sound n table x (L .from) (L .past) lower upper (scan-of n table x c lower upper)
   scan-sound = rw scan-is (sound n table x (L .from) (L .past) lower upper (L .past - L .from) (L .next) −∞ none (L .above) (L .below) (omega arith) (inl (refl, refl)))
 
   -- a violation is a row of the band
-  pub found-in : (row : ℕ) (v : Float) (over : Bool) → scanOf n table x c lower upper .viol ≡ Broken row v over
-      → Found n table x (L .from) (L .past) lower upper row v over (scanOf n table x c lower upper .last)
+  pub found-in : (row : ℕ) (v : Float) (over : Bool) → scan-of n table x c lower upper .viol ≡ Broken row v over
+      → Found n table x (L .from) (L .past) lower upper row v over (scan-of n table x c lower upper .last)
   found-in row v over e = scan-sound .broken row v over e
 
-  pub broken-in : (row : ℕ) (v : Float) (over : Bool) → scanOf n table x c lower upper .viol ≡ Broken row v over → (L .from ≤ row) × (row < L .past)
+  pub broken-in : (row : ℕ) (v : Float) (over : Bool) → scan-of n table x c lower upper .viol ≡ Broken row v over → (L .from ≤ row) × (row < L .past)
   broken-in row v over e = let f = found-in row v over e in (f .low, f .high)
 
   -- the largest value before a violation, and its row
-  pub top-in : Top n table x (L .from) (L .past) (scanOf n table x c lower upper .fmax) (scanOf n table x c lower upper .kmax)
+  pub top-in : Top n table x (L .from) (L .past) (scan-of n table x c lower upper .fmax) (scan-of n table x c lower upper .kmax)
   top-in = scan-sound .top
 
   -- where the cursor is left, another scan may begin
-  pub last-legal : LeftAt c L (scanOf n table x c lower upper .last)
-  last-legal = record { legal = l; from-is = refl; past-is = refl; at = legal-at (moved c (scanOf n table x c lower upper .last)) l; band = legal-band c L }
+  pub last-legal : LeftAt c L (scan-of n table x c lower upper .last)
+  last-legal = record { legal = l; from-is = refl; past-is = refl; at = legal-at (moved c (scan-of n table x c lower upper .last)) l; band = legal-band c L }
     where
-      l : Legal (moved c (scanOf n table x c lower upper .last))
+      l : Legal (moved c (scan-of n table x c lower upper .last))
       l = record {
         from = L .from;
         past = L .past;
@@ -289,7 +289,7 @@ module _ (n : ℕ) (table x : List Float) (c : RoundRobin) (lower : Float) (uppe
       }
 
   -- nothing is found: each row of the band has passed, and the largest value is that of all of them
-  pub passed-in : scanOf n table x c lower upper .viol ≡ Nothing → (i : ℕ) → L .from ≤ i → i < L .past → Passed n table x lower upper (scanOf n table x c lower upper .fmax) i
+  pub passed-in : scan-of n table x c lower upper .viol ≡ Nothing → (i : ℕ) → L .from ≤ i → i < L .past → Passed n table x lower upper (scan-of n table x c lower upper .fmax) i
   unfolding isNan
   passed-in e i a b =
       let r = clear n table x lower upper (L .from) (L .past) (L .past - L .from) (L .next) −∞ none (L .above) (L .below) (omega arith) refl (rw scan-is at e) in
@@ -299,16 +299,16 @@ module _ (n : ℕ) (table x : List Float) (c : RoundRobin) (lower : Float) (uppe
       whole i a b = elim (decLt i (L .next)) [ yes l ↦ inr (omega arith) | no g ↦ inl (omega arith) ]
 
   -- so it finds nothing exactly where no row of the band breaks a limit: one way
-  pub nothing-none : scanOf n table x c lower upper .viol ≡ Nothing → some (row-breaks n table x lower upper) (L .from) (L .past - L .from) ≡ false
+  pub nothing-none : scan-of n table x c lower upper .viol ≡ Nothing → some (row-breaks n table x lower upper) (L .from) (L .past - L .from) ≡ false
   nothing-none e = none-some (row-breaks n table x lower upper) (L .from) (L .past - L .from) (λ i a b. let p = passed-in e i a (omega arith) in rw (p .not-over) (p .not-under))
 
   -- and the other
-  pub broken-some : (row : ℕ) (v : Float) (over : Bool) → scanOf n table x c lower upper .viol ≡ Broken row v over
+  pub broken-some : (row : ℕ) (v : Float) (over : Bool) → scan-of n table x c lower upper .viol ≡ Broken row v over
       → some (row-breaks n table x lower upper) (L .from) (L .past - L .from) ≡ true
   broken-some row v over e =
       let f = found-in row v over e in
       some-holds (row-breaks n table x lower upper) (L .from) (L .past - L .from) row (f .low) (omega arith) (rw (← f .value-is) (go over (f .above) (f .below)))
     where
-      go : (o : Bool) → (o ≡ true → isOver upper v ≡ true) → (o ≡ false → (isOver upper v ≡ false) × (lt v lower ≡ true)) → (isOver upper v || lt v lower) ≡ true
+      go : (o : Bool) → (o ≡ true → is-over upper v ≡ true) → (o ≡ false → (is-over upper v ≡ false) × (lt v lower ≡ true)) → (is-over upper v || lt v lower) ≡ true
       go true above below = rw (above refl)
       go false above below = rw (below refl .0) (below refl .1)

@@ -7,50 +7,50 @@ use lib.IntN.{ℤ, pos, predℤ}
 use lib.Ieee.{Float, inf, lt}
 use Rattle.numbers.specs.Pick.{pick}
 use Rattle.numbers.specs.declared.arr.Four.{Four}
-use Rattle.oracles.specs.Scan.{valueOf}
+use Rattle.oracles.specs.Scan.{value-of}
 use Rattle.oracles.specs.declared.round_robin.RoundRobin.{RoundRobin}
 use Rattle.oracles.specs.declared.scan.Upper.{Upper}
-use Rattle.oracles.specs.declared.scan.Upper.the-variants.{Absent, At}
+use Rattle.oracles.specs.declared.scan.Upper.the-variants.{Absent, Limit}
 use Rattle.oracles.specs.declared.scan.Violation.{Violation}
 use Rattle.oracles.specs.declared.scan.Violation.the-variants.{Nothing, Broken}
 use Rattle.oracles.specs.declared.scan.Scan.{Scan}
 use Rattle.oracles.specs.laws.RoundRobin.{Legal}
 
 -- the upper limit as a number: infinity where there is none
-abbrev pub limitOf : Upper → Float
-limitOf Absent = inf false
-limitOf (At u) = u
+abbrev pub limit-of : Upper → Float
+limit-of Absent = inf false
+limit-of (Limit u) = u
 
-abbrev pub isBroken : Violation → Bool
-isBroken Nothing = false
-isBroken (Broken row value over) = true
+abbrev pub is-broken : Violation → Bool
+is-broken Nothing = false
+is-broken (Broken row value over) = true
 
 -- the values of the four rows from row i on
-abbrev pub valuesOf : ℕ → List Float → List Float → ℕ → Four
-valuesOf n table x i =
+abbrev pub four-values : ℕ → List Float → List Float → ℕ → Four
+four-values n table x i =
     record {
-      a = valueOf n table x i;
-      b = valueOf n table x (i + 1);
-      c = valueOf n table x (i + 2);
-      d = valueOf n table x (i + 3);
+      a = value-of n table x i;
+      b = value-of n table x (i + 1);
+      c = value-of n table x (i + 2);
+      d = value-of n table x (i + 3);
     }
 
 -- row i with the value v, after the largest value so far and its row, by two tests: whether v lies above the limit, and below the lower one
-abbrev pub testedBy : Bool → Bool → ℕ → Float → Float → ℤ → Scan
-testedBy over under i v fmax kmax =
+abbrev pub tested-by : Bool → Bool → ℕ → Float → Float → ℤ → Scan
+tested-by over under i v fmax kmax =
     pick over (record { viol = Broken i v true; fmax = fmax; kmax = kmax; last = pos i })
     (pick under (record { viol = Broken i v false; fmax = fmax; kmax = kmax; last = pos i })
     (record { viol = Nothing; fmax = pick (lt fmax v) v fmax; kmax = pick (lt fmax v) (pos i) kmax; last = pos i }))
 
-abbrev pub judgedOf : Float → Float → ℕ → Float → Float → ℤ → Scan
-judgedOf lower limit i v fmax kmax = testedBy (lt limit v) (lt v lower) i v fmax kmax
+abbrev pub judged-of : Float → Float → ℕ → Float → Float → ℤ → Scan
+judged-of lower limit i v fmax kmax = tested-by (lt limit v) (lt v lower) i v fmax kmax
 
 -- the `count` rows from row i on, up to the first that breaks a limit
-unfoldable pub runOf : ℕ → List Float → List Float → Float → Float → ℕ → ℕ → Float → ℤ → Scan
-runOf n table x lower limit zero i fmax kmax = record { viol = Nothing; fmax = fmax; kmax = kmax; last = predℤ (pos i) }
-runOf n table x lower limit (suc count) i fmax kmax =
-    let s = judgedOf lower limit i (valueOf n table x i) fmax kmax in
-    pick (isBroken (s .viol)) s (runOf n table x lower limit count (suc i) (s .fmax) (s .kmax))
+unfoldable pub scan-run : ℕ → List Float → List Float → Float → Float → ℕ → ℕ → Float → ℤ → Scan
+scan-run n table x lower limit zero i fmax kmax = record { viol = Nothing; fmax = fmax; kmax = kmax; last = predℤ (pos i) }
+scan-run n table x lower limit (suc count) i fmax kmax =
+    let s = judged-of lower limit i (value-of n table x i) fmax kmax in
+    pick (is-broken (s .viol)) s (scan-run n table x lower limit count (suc i) (s .fmax) (s .kmax))
 
 -- a scan from c with rows left, no more than the band has
 pub record Going (n : ℕ) (table : List Float) (c : RoundRobin) (left : ℕ) : Type 0 where

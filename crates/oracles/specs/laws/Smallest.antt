@@ -6,14 +6,14 @@ use lib.IntN.{pos, negsuc}
 use lib.Ieee.{Float, nan, binary64, ofBits, add, sub, mul, div, neg, le, lt}
 use Rattle.numbers.specs.F64.{0ᶠ, 1ᶠ, 2ᶠ}
 use Rattle.numbers.specs.Pick.{pick}
-use Rattle.numbers.specs.Arr.{tab, dotFrom, dotOf}
+use Rattle.numbers.specs.Arr.{tab, dot-from, dot-of}
 use Rattle.numbers.specs.declared.refusal.Refusal.the-variants.{Dimension, Band, Position, NoStopValue}
 use Rattle.numbers.specs.declared.arr.Number.the-variants.{Value, Refused as NoNumber}
 use Rattle.oracles.specs.RoundRobin.{fresh, advanced, new-range-answer, advance-answer}
-use Rattle.oracles.specs.Scan.{−∞, none, valueOf, scanFrom, scanOf}
-use Rattle.oracles.specs.LowpassOracle.{assess-sign, assess-middle, assess-stop, assessOf, assess-feas-answer, improvedOf, assess-optim-answer}
+use Rattle.oracles.specs.Scan.{−∞, none, value-of, scan-from, scan-of}
+use Rattle.oracles.specs.LowpassOracle.{assess-sign, assess-middle, assess-stop, assess-of, assess-feas-answer, improved-of, assess-optim-answer}
 use Rattle.oracles.specs.Matrix.{grid, total}
-use Rattle.oracles.specs.LdltMgr.{get-elem, taken, reduced, stored, stop-from, stopOf, filled, posOf, rowsOf, factorOf, factor-answer, witness-tail, witnessOf, witness-answer, quad-term, quadOf, sym-quad-answer}
+use Rattle.oracles.specs.LdltMgr.{get-elem, taken, reduced, stored, stop-from, stop-of, filled, position-of, factor-rows, factor-of, factor-answer, witness-tail, witness-of, witness-answer, quad-term, quad-of, sym-quad-answer}
 use Rattle.oracles.specs.LmiOracle.{lmi-answer}
 use Rattle.oracles.specs.declared.round_robin.CursorAnswer.the-variants.{Refused as NoCursor}
 use Rattle.oracles.specs.declared.lowpass_oracle.LowpassOracle.{LowpassOracle}
@@ -50,11 +50,11 @@ one-row = record {
 }
 
 pub no-stop-row : assess-optim-answer one-row 1ᶠ 2 1 (1ᶠ ∷ 0ᶠ ∷ []) (1ᶠ ∷ 0ᶠ ∷ []) (0ᶠ ∷ 0ᶠ ∷ []) ≡ (record { oracle = one-row; gamma = 1ᶠ; verdict = NotImproved NoStopValue }, 0ᶠ ∷ 0ᶠ ∷ [])
-unfolding add mul le lt ofBits pick dotFrom dotOf advanced valueOf scanFrom scanOf assess-sign assess-middle assess-stop assessOf assess-feas-answer improvedOf
+unfolding add mul le lt ofBits pick dot-from dot-of advanced value-of scan-from scan-of assess-sign assess-middle assess-stop assess-of assess-feas-answer improved-of
 no-stop-row = refl
 
 -- a witness of nothing, and a quadratic form from 2 to 1
-pub no-witness : witness-answer 1 (posOf 0) (0ᶠ ∷ []) (0ᶠ ∷ []) ≡ (NoNumber Position, 0ᶠ ∷ [])
+pub no-witness : witness-answer 1 (position-of 0) (0ᶠ ∷ []) (0ᶠ ∷ []) ≡ (NoNumber Position, 0ᶠ ∷ [])
 unfolding pick
 no-witness = refl
 
@@ -64,7 +64,7 @@ no-form = refl
 
 -- a NaN pivot passes
 pub nan-pivot : factor-answer 1 (nan ∷ []) (0ᶠ ∷ []) ≡ (Definite, nan ∷ [])
-unfolding le pick tab total get-elem taken reduced stored stop-from stopOf grid filled rowsOf factorOf
+unfolding le pick tab total get-elem taken reduced stored stop-from stop-of grid filled factor-rows factor-of
 nan-pivot = refl
 
 -- of 1 0 / 2 1 `factor` reads 2, as of 1 2 / 2 1, and `sym_quad` 0
@@ -74,12 +74,12 @@ lopsided = 1ᶠ ∷ 0ᶠ ∷ 2ᶠ ∷ 1ᶠ ∷ []
 abbrev zeros : List Float
 zeros = 0ᶠ ∷ 0ᶠ ∷ 0ᶠ ∷ 0ᶠ ∷ []
 
-pub lower-read : factor-answer 2 lopsided zeros .0 ≡ Stopped (posOf 2)
-unfolding add sub mul div le ofBits pick tab total get-elem taken reduced stored stop-from stopOf grid filled rowsOf factorOf
+pub lower-read : factor-answer 2 lopsided zeros .0 ≡ Stopped (position-of 2)
+unfolding add sub mul div le ofBits pick tab total get-elem taken reduced stored stop-from stop-of grid filled factor-rows factor-of
 lower-read = refl
 
-pub upper-read : sym-quad-answer 2 (posOf 2) (witness-answer 2 (posOf 2) (factor-answer 2 lopsided zeros .1) (0ᶠ ∷ 0ᶠ ∷ []) .1) lopsided ≡ Value (ofBits binary64 0x4014_0000_0000_0000)
-unfolding add sub mul div neg le ofBits pick tab total get-elem taken reduced stored stop-from stopOf grid filled rowsOf factorOf witness-tail witnessOf quad-term quadOf
+pub upper-read : sym-quad-answer 2 (position-of 2) (witness-answer 2 (position-of 2) (factor-answer 2 lopsided zeros .1) (0ᶠ ∷ 0ᶠ ∷ []) .1) lopsided ≡ Value (ofBits binary64 0x4014_0000_0000_0000)
+unfolding add sub mul div neg le ofBits pick tab total get-elem taken reduced stored stop-from stop-of grid filled factor-rows factor-of witness-tail witness-of quad-term quad-of
 upper-read = refl
 
 -- an LMI of one unknown

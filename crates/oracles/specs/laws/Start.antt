@@ -10,19 +10,19 @@ use lib.Signed.{leZ}
 use lib.Ieee.{Float}
 use Rattle.numbers.specs.laws.Pick.{and-parts}
 use Rattle.numbers.specs.laws.Refusal.{held, accepts}
-use Rattle.oracles.specs.RoundRobin.{isBand, new-range-tests, new-range-answer}
-use Rattle.oracles.specs.Scan.{none, isRows}
-use Rattle.oracles.specs.LowpassOracle.{fresh-cur, start-oracle, isOf, bands-fit}
+use Rattle.oracles.specs.RoundRobin.{is-band, new-range-tests, new-range-answer}
+use Rattle.oracles.specs.Scan.{none, is-rows}
+use Rattle.oracles.specs.LowpassOracle.{fresh-cur, start-oracle, has-band, bands-fit}
 use Rattle.oracles.specs.declared.lowpass_oracle.LowpassOracle.{LowpassOracle}
 
 -- before a band stands lo − 1
-pub fresh-before : (lo hi : ℤ) → isBand lo hi ≡ true → fresh-cur (new-range-answer lo hi) ≡ lo -ℤ pos 1
+pub fresh-before : (lo hi : ℤ) → is-band lo hi ≡ true → fresh-cur (new-range-answer lo hi) ≡ lo -ℤ pos 1
 unfolding new-range-answer
 fresh-before lo hi h = ap fresh-cur (sym (accepts _ _ (new-range-tests lo hi) (held _ _ h) refl))
 
 -- bands that pass refusal 3 are three bands
 three-bands : (p s : ℤ) (rows : ℕ) → rows ≤ 1024 → leZ (pos 0) p ≡ true → leZ p s ≡ true → leZ s (pos rows) ≡ true
-    → (isBand (pos 0) p ≡ true) × (isBand p s ≡ true) × (isBand s (pos rows) ≡ true)
+    → (is-band (pos 0) p ≡ true) × (is-band p s ≡ true) × (is-band s (pos rows) ≡ true)
 three-bands (negsuc p) s rows m h₁ h₂ h₃ = absurd (true≢false (sym h₁))
 three-bands (pos p) (negsuc s) rows m h₁ h₂ h₃ = absurd (true≢false (sym h₂))
 three-bands (pos p) (pos s) rows m h₁ h₂ h₃ =
@@ -42,12 +42,12 @@ pub start-before : (nwpass nwstop cur1 cur2 cur3 : ℤ) (lp up sp : Float) (rows
 unfolding start-oracle
 start-before nwpass nwstop cur1 cur2 cur3 lp up sp rows h =
     let o = start-oracle nwpass nwstop (pos rows) cur1 cur2 cur3 lp up sp in
-    let b₃ = and-parts _ (isOf (o .rr3) (o .nwstop) (pos rows)) h in
-    let b₂ = and-parts _ (isOf (o .rr2) (o .nwpass) (o .nwstop)) (b₃ .0) in
-    let b₁ = and-parts _ (isOf (o .rr1) (pos 0) (o .nwpass)) (b₂ .0) in
+    let b₃ = and-parts _ (has-band (o .rr3) (o .nwstop) (pos rows)) h in
+    let b₂ = and-parts _ (has-band (o .rr2) (o .nwpass) (o .nwstop)) (b₃ .0) in
+    let b₁ = and-parts _ (has-band (o .rr1) (pos 0) (o .nwpass)) (b₂ .0) in
     let h₃ = and-parts _ (leZ nwstop (pos rows)) (b₁ .0) in
     let h₂ = and-parts _ (leZ nwpass nwstop) (h₃ .0) in
-    let h₁ = and-parts (isRows rows) (leZ (pos 0) nwpass) (h₂ .0) in
+    let h₁ = and-parts (is-rows rows) (leZ (pos 0) nwpass) (h₂ .0) in
     let small = leb-true rows 1024 (and-parts (leb 1 rows) (leb rows 1024) (h₁ .0) .1) in
     let t = three-bands nwpass nwstop rows small (h₁ .1) (h₂ .1) (h₃ .1) in
     (fresh-before (pos 0) nwpass (t .0), fresh-before nwpass nwstop (t .1), fresh-before nwstop (pos rows) (t .2))

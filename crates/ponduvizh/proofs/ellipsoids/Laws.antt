@@ -3,7 +3,7 @@ use mathlib.Core.Path.{_≡_, refl}
 use mathlib.Core.List.{List}
 use Prim.Native.Nat.{ℕ}
 use lib.Ieee.{Float}
-use Rattle.numbers.specs.Refusal.{refusalNumber}
+use Rattle.numbers.specs.Refusal.{refusal-number}
 use Rattle.numbers.specs.declared.refusal.Refusal.{Refusal}
 use Rattle.numbers.specs.declared.cut.CutChoice.{CutChoice}
 use Rattle.oracles.specs.Ell.{EllBuffers, with-tsq, ell-update-answer}
@@ -41,7 +41,7 @@ ell-was-made x y e s grad beta kappa tsq status b l d m h = rw (← d, m) h
 pub ell-was-refused : (x y : NewEll) (why : Refusal) (s : CutStrategy) (grad : List Float) (beta : CutChoice) (kappa tsq : Float) (status : ℕ) (b : EllBuffers) (r : ℕ)
     → x ≡ y
     → x ≡ Refused why
-    → r ≡ refusalNumber why
+    → r ≡ refusal-number why
     → _≡_ {A = Left EllBuffers} (record { code = r; status = status; kappa = kappa; tsq = tsq; buffers = b }) (ell-told y s grad beta kappa tsq status b)
 unfolding ell-told
 ell-was-refused x y why s grad beta kappa tsq status b r d m h = rw (← d, m, h) refl
@@ -67,7 +67,7 @@ stable-was-made x y e s grad beta kappa tsq status b l d m h = rw (← d, m) h
 pub stable-was-refused : (x y : NewEllStable) (why : Refusal) (s : CutStrategy) (grad : List Float) (beta : CutChoice) (kappa tsq : Float) (status : ℕ) (b : StableBuffers) (r : ℕ)
     → x ≡ y
     → x ≡ RefusedStable why
-    → r ≡ refusalNumber why
+    → r ≡ refusal-number why
     → _≡_ {A = Left StableBuffers} (record { code = r; status = status; kappa = kappa; tsq = tsq; buffers = b }) (stable-told y s grad beta kappa tsq status b)
 unfolding stable-told
 stable-was-refused x y why s grad beta kappa tsq status b r d m h = rw (← d, m, h) refl

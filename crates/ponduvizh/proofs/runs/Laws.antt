@@ -6,14 +6,14 @@ use lib.Dec.{eqb}
 use lib.IntN.{ℤ}
 use lib.Ieee.{Float}
 use mathlib.Core.Bool.{false}
-use Rattle.numbers.specs.Refusal.{refusalNumber}
+use Rattle.numbers.specs.Refusal.{refusal-number}
 use Rattle.numbers.specs.declared.refusal.Refusal.{Refusal}
 use Rattle.oracles.specs.Ell.{EllBuffers}
 use Rattle.oracles.specs.declared.ell.Ell.{Ell}
 use Rattle.oracles.specs.declared.ell.NewEll.{NewEll}
 use Rattle.oracles.specs.declared.ell.NewEll.the-variants.{Made, Refused as NotMade}
 use Rattle.oracles.specs.declared.lowpass_oracle.LowpassOracle.{LowpassOracle}
-use Rattle.drivers.specs.CuttingPlane.{Space, OptimLeft, feas-answer, optim-answer, optim-left}
+use Rattle.drivers.specs.CuttingPlane.{State, OptimLeft, feas-answer, optim-answer, optim-left}
 use Rattle.drivers.specs.Numbered.{feas-number, optim-number}
 use Rattle.drivers.specs.declared.cutting_plane.Options.{Options}
 use Rattle.drivers.specs.declared.answer.Answer.{Answer}
@@ -32,7 +32,7 @@ pub state-law : (a : Answer) (o : LowpassOracle) (e : Ell) (answer : List ℕ) (
 unfolding numbers-after
 state-law a o e answer marks values h₁ h₂ h₃ = rw (h₁, h₂, h₃) refl
 
-pub feas-law : (a : FeasAnswer) (o : LowpassOracle) (e : Ell) (b : EllBuffers) (grad best : List Float) (code : ℕ) (now old : RunNumbers) (r : FeasAnswer × Space × List Float)
+pub feas-law : (a : FeasAnswer) (o : LowpassOracle) (e : Ell) (b : EllBuffers) (grad best : List Float) (code : ℕ) (now old : RunNumbers) (r : FeasAnswer × State × List Float)
     → (a, record { oracle = o; ell = e; buffers = b; grad = grad }, best) ≡ r
     → code ≡ feas-number a
     → now ≡ feas-said a o e old
@@ -76,7 +76,7 @@ module _ (x : NewEll) (o : LowpassOracle) (p : Options) (rows k : ℕ) (table : 
   unfolding feas-told
   feas-made e r m h = rw m h
 
-  pub feas-not-made : (why : Refusal) (code : ℕ) → x ≡ NotMade why → code ≡ refusalNumber why → was code ≡ feas-told x o p rows table (was k)
+  pub feas-not-made : (why : Refusal) (code : ℕ) → x ≡ NotMade why → code ≡ refusal-number why → was code ≡ feas-told x o p rows table (was k)
   unfolding feas-told
   feas-not-made why code m h = rw (m, h) refl
 
@@ -86,7 +86,7 @@ module _ (x : NewEll) (o : LowpassOracle) (p : Options) (rows k : ℕ) (table : 
   unfolding optim-told
   optim-made gamma e r m h = rw m h
 
-  pub optim-not-made : (gamma : Float) (why : Refusal) (code : ℕ) → x ≡ NotMade why → code ≡ refusalNumber why
+  pub optim-not-made : (gamma : Float) (why : Refusal) (code : ℕ) → x ≡ NotMade why → code ≡ refusal-number why
       → (was code, gamma) ≡ optim-told x o p rows table gamma (was k)
   unfolding optim-told
   optim-not-made gamma why code m h = rw (m, h) refl

@@ -14,15 +14,15 @@ use Rattle.oracles.specs.declared.scan.Violation.the-variants.{Broken}
 use Rattle.oracles.specs.declared.scan.Scan.{Scan}
 use Rattle.oracles.specs.declared.scan.ScanAnswer.{ScanAnswer}
 use Rattle.oracles.specs.declared.scan.ScanAnswer.the-variants.{Scanned, Refused}
-use Rattle.ponduvizh.specs.ToldScan.{ScanLeft, sideOf, rowOf, valueOf, scan-left, scan-said, scan-ended}
+use Rattle.ponduvizh.specs.ToldScan.{ScanLeft, side-of, row-of, value-of, scan-left, scan-said, scan-ended}
 
-pub is-above : (v : Violation) (row : ℕ) (value : Float) (over : Bool) → v ≡ Broken row value over → over ≡ true → _≡_ {A = ℕ} 2 (sideOf v)
+pub is-above : (v : Violation) (row : ℕ) (value : Float) (over : Bool) → v ≡ Broken row value over → over ≡ true → _≡_ {A = ℕ} 2 (side-of v)
 is-above v row value over e h = rw e (hit _ _ _ _ h refl)
 
-pub is-below : (v : Violation) (row : ℕ) (value : Float) (over : Bool) → v ≡ Broken row value over → over ≡ false → _≡_ {A = ℕ} 1 (sideOf v)
+pub is-below : (v : Violation) (row : ℕ) (value : Float) (over : Bool) → v ≡ Broken row value over → over ≡ false → _≡_ {A = ℕ} 1 (side-of v)
 is-below v row value over e h = rw e (skip _ _ _ _ h refl)
 
-pub scan-law : (s : Scan) (side row : ℕ) (value : Float) (kmax : ℤ) → side ≡ sideOf (s .viol) → row ≡ rowOf (s .viol) → value ≡ valueOf (s .viol) → kmax ≡ s .kmax
+pub scan-law : (s : Scan) (side row : ℕ) (value : Float) (kmax : ℤ) → side ≡ side-of (s .viol) → row ≡ row-of (s .viol) → value ≡ value-of (s .viol) → kmax ≡ s .kmax
     → _≡_ {A = ScanLeft} (record { found = side ∷ row ∷ []; values = value ∷ s .fmax ∷ []; kmax = kmax }) (scan-left s)
 unfolding scan-left
 scan-law s side row value kmax a b d e = rw (a, b, d, e) refl

@@ -9,7 +9,7 @@ use Rattle.numbers.specs.declared.refusal.Refusal.{Refusal}
 use Rattle.oracles.specs.declared.ell.NewEll.{NewEll}
 use Rattle.oracles.specs.declared.ell.NewEll.the-variants.{Made, Refused as NotMade}
 use Rattle.oracles.specs.declared.lowpass_oracle.LowpassOracle.{LowpassOracle}
-use Rattle.drivers.specs.CuttingPlane.{Space, OptimSpace, OptimLeft, leaves, feas-answer, optim-answer}
+use Rattle.drivers.specs.CuttingPlane.{State, OptimState, OptimLeft, leaves, feas-answer, optim-answer}
 use Rattle.drivers.specs.Numbered.{optim-number}
 use Rattle.drivers.specs.laws.Refused.{feas-refused, optim-refused}
 use Rattle.drivers.specs.declared.cutting_plane.Options.{Options}
@@ -26,13 +26,13 @@ unfolding feas-told feas-left
 feas-told-refused (NotMade why) o options rows table l = λ _. refl
 feas-told-refused (Made e) o options rows table l = let r = feas-answer options rows table s (l .best) in go (r .0) (r .1) (r .2) (feas-refused options rows table s (l .best))
   where
-    s : Space
+    s : State
     s = record { oracle = o; ell = e; buffers = l .buffers; grad = l .grad }
 
-    go : (a : FeasAnswer) (s′ : Space) (best : List Float) → ((why : Refusal) → a ≡ NotRun why → _≡_ {A = FeasAnswer × Space × List Float} (a, s′, best) (NotRun why, s, l .best))
+    go : (a : FeasAnswer) (s′ : State) (best : List Float) → ((why : Refusal) → a ≡ NotRun why → _≡_ {A = FeasAnswer × State × List Float} (a, s′, best) (NotRun why, s, l .best))
         → let r = feas-left (a, s′, best) (l .numbers) in eqb (r .code) 0 ≡ false → r ≡ coded (r .code) l
     go (Ended d) s′ best f h = absurd (true≢false h)
-    go (NotRun why) s′ best f h = ap (λ (z : FeasAnswer × Space × List Float). feas-left z (l .numbers)) (f why refl)
+    go (NotRun why) s′ best f h = ap (λ (z : FeasAnswer × State × List Float). feas-left z (l .numbers)) (f why refl)
 
 -- one that is neither 0 nor 6: gamma too
 pub optim-told-refused : (x : NewEll) (o : LowpassOracle) (options : Options) (rows : ℕ) (table : List Float) (gamma : Float) (l : RunLeft)
@@ -41,7 +41,7 @@ unfolding optim-told optim-left-told
 optim-told-refused (NotMade why) o options rows table gamma l = λ _ _. refl
 optim-told-refused (Made e) o options rows table gamma l = go (optim-answer options rows table s .answer) (optim-answer options rows table s) refl (optim-refused options rows table s)
   where
-    s : OptimSpace
+    s : OptimState
     s = record { oracle = o; ell = e; buffers = l .buffers; grad = l .grad; gamma = gamma; found = false; best = l .best }
 
     go : (a : OptimAnswer) (r : OptimLeft) → r .answer ≡ a → ((why : Refusal) → r .answer ≡ NotRunOptim why → r ≡ leaves (NotRunOptim why) s)

@@ -5,7 +5,7 @@ use mathlib.Core.List.{List}
 use Prim.Native.Nat.{ℕ}
 use borrow.Author.Needs.{needs}
 use lib.Dec.{ltb}
-use Rattle.numbers.specs.Arr.{isDimension}
+use Rattle.numbers.specs.Arr.{is-dimension}
 use Rattle.numbers.specs.laws.Arr.{dimension-most}
 use Rattle.numbers.specs.declared.refusal.Refusal.the-variants.{Dimension, Room}
 use Rattle.numbers.specs.laws.Pick.{is-skip, says-no, says-yes}
@@ -32,12 +32,12 @@ module _ (n : ℕ) (bytes : List ℕ) (room : ℕ) where
   abbrev Right : Fault → List ℕ → Type 0
   Right r places = (r ≡ tests) × (r ≡ Sound → places ≡ answer-walk bytes .1)
 
-  no-dimension : (places : List ℕ) → isDimension n ≡ false → Right (At Dimension 0) places
+  no-dimension : (places : List ℕ) → is-dimension n ≡ false → Right (At Dimension 0) places
   unfolding answer-fault
   no-dimension places d = (at-first _ (at-first _ (failed d)), λ e. absurd (true≢false (ap is-fault e)))
 
   -- the walk found f₁ and noted the places
-  module _ (d : isDimension n ≡ true) (places₀ : List ℕ) (e₀ : places₀ ≡ no-places) (f₁ : Fault) (places : List ℕ) (e₁ : (f₁, places) ≡ record-fault bytes answer-form places₀) where
+  module _ (d : is-dimension n ≡ true) (places₀ : List ℕ) (e₀ : places₀ ≡ no-places) (f₁ : Fault) (places : List ℕ) (e₁ : (f₁, places) ≡ record-fault bytes answer-form places₀) where
     walked : (f₁, places) ≡ answer-walk bytes
     walked = e₁ ∙ ap (λ (l : List ℕ). record-fault bytes answer-form l) e₀
 

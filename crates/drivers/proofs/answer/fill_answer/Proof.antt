@@ -12,32 +12,32 @@ use lib.Ieee.{Float}
 use Rattle.numbers.specs.laws.Arr.{length-tab}
 use Rattle.numbers.specs.laws.Pick.{is-hit, is-skip}
 use Rattle.drivers.specs.Rules.{steps-place, found-place}
-use Rattle.drivers.specs.Record.{halfAt, numberAt, numbersAt, place, fronted}
+use Rattle.drivers.specs.Record.{half-at, number-at, numbers-at, place, fronted}
 use Rattle.drivers.specs.Answer.{has-point, answer-at, point-at}
 use Rattle.drivers.specs.declared.answer.Answer.{Answer}
 use Rattle.drivers.proofs.answer.fill_answer.Statement.{statement}
 use Rattle.drivers.proofs.answer.fill_answer.Tie as tie
 use Rattle.numbers.specs.laws.Over.{over-none, over-front}
 
-module _ (n : ℕ) (bytes places : List ℕ) (point : List Float) (h : ℕ) (e : h ≡ halfAt bytes (place places steps-place)) where
+module _ (n : ℕ) (bytes places : List ℕ) (point : List Float) (h : ℕ) (e : h ≡ half-at bytes (place places steps-place)) where
   abbrev Right : Answer → List Float → Type 0
   Right a out = (a ≡ answer-at bytes places) × (out ≡ fronted (point-at n bytes places) point)
 
   none : place places found-place ≡ 0 → Right (record { found = false; steps = h }) point
   none z =
       let p : has-point places ≡ false = ap not (eq-eqb (place places found-place) 0 z) in
-      let q : point-at n bytes places ≡ [] = is-skip (has-point places) (numbersAt bytes (place places found-place) n) [] p in
+      let q : point-at n bytes places ≡ [] = is-skip (has-point places) (numbers-at bytes (place places found-place) n) [] p in
       ((λ i. record { found = sym p i; steps = e i }), rw q (sym (over-none point 0)))
 
   -- the part xs has been filled
-  found : (place places found-place ≡ 0 → ⊥) → (xs : List Float) → xs ≡ numbersAt bytes (place places found-place) (length (take n point)) → n ≤ length point
+  found : (place places found-place ≡ 0 → ⊥) → (xs : List Float) → xs ≡ numbers-at bytes (place places found-place) (length (take n point)) → n ≤ length point
       → Right (record { found = true; steps = h }) (xs ++ drop n point)
   found z xs q l =
       let p : has-point places ≡ true = ap not (ne-eqb (place places found-place) 0 z) in
       let w : length (take n point) ≡ n = length-take-le n point l in
-      let y : xs ≡ numbersAt bytes (place places found-place) n = q ∙ ap (numbersAt bytes (place places found-place)) w in
-      let r : point-at n bytes places ≡ xs = is-hit (has-point places) (numbersAt bytes (place places found-place) n) [] p ∙ sym y in
-      let m : length xs ≡ n = ap length y ∙ length-tab (λ k. numberAt bytes (place places found-place) k) n in
+      let y : xs ≡ numbers-at bytes (place places found-place) n = q ∙ ap (numbers-at bytes (place places found-place)) w in
+      let r : point-at n bytes places ≡ xs = is-hit (has-point places) (numbers-at bytes (place places found-place) n) [] p ∙ sym y in
+      let m : length xs ≡ n = ap length y ∙ length-tab (λ k. number-at bytes (place places found-place) k) n in
       ((λ i. record { found = sym p i; steps = e i }), rw r (ap (λ (k : ℕ). xs ++ drop k point) (sym m) ∙ sym (over-front point xs)))
 
 -- a front that was lent and came back

@@ -8,14 +8,14 @@ use Rattle.numbers.specs.declared.refusal.Refusal.the-variants.{Outcome}
 use Rattle.numbers.specs.laws.Refusal.{failed, held}
 use Rattle.numbers.specs.declared.refusal.Fault.the-variants.{Sound, At}
 use Rattle.drivers.specs.Rules.{outcome-place}
-use Rattle.drivers.specs.Record.{tagAt, startOf, place}
+use Rattle.drivers.specs.Record.{tag-at, start-of, place}
 use Rattle.drivers.specs.Answer.{outcome-byte, has-point, outcome-fault}
 use Rattle.drivers.proofs.answer.outcome_fault.Statement.{statement}
 use Rattle.drivers.proofs.answer.outcome_fault.Tie as tie
 
 -- the byte b is read, and w is what it should be
-module _ (bytes places : List ℕ) (b w : ℕ) (e : b ≡ tagAt bytes (place places outcome-place)) (d : w ≡ outcome-byte (has-point places)) where
-  wrong : (b ≡ w → ⊥) → (s : ℕ) → s ≡ startOf (place places outcome-place) → At Outcome s ≡ outcome-fault bytes places
+module _ (bytes places : List ℕ) (b w : ℕ) (e : b ≡ tag-at bytes (place places outcome-place)) (d : w ≡ outcome-byte (has-point places)) where
+  wrong : (b ≡ w → ⊥) → (s : ℕ) → s ≡ start-of (place places outcome-place) → At Outcome s ≡ outcome-fault bytes places
   unfolding outcome-fault
   wrong h s q = ap (At Outcome) q ∙ rw (← e, ← d) (failed (ne-eqb b w h))
 

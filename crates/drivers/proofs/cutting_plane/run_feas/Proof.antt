@@ -7,14 +7,14 @@ use lib.ListN.{length}
 use lib.Ieee.{Float}
 use Rattle.oracles.specs.declared.ell.Ell.{Ell}
 use Rattle.oracles.specs.declared.lowpass_oracle.LowpassOracle.{LowpassOracle}
-use Rattle.drivers.specs.CuttingPlane.{Space, feas-run}
+use Rattle.drivers.specs.CuttingPlane.{State, feas-run}
 use Rattle.drivers.proofs.cutting_plane.Runs.{all-left, feas-more, feas-ends, feas-out}
 use Rattle.drivers.proofs.cutting_plane.run_feas.Statement.{statement}
 use Rattle.drivers.proofs.cutting_plane.run_feas.Tie as tie
 use Rattle.numbers.specs.laws.Pick.{says-no, says-yes}
 
 -- the space of the slices and the state
-abbrev at-hand : LowpassOracle → Ell → List Float → List Float → List Float → List Float → Space
+abbrev at-hand : LowpassOracle → Ell → List Float → List Float → List Float → List Float → State
 at-hand o e mq xc grad grad-t = record { oracle = o; ell = e; buffers = record { mq = mq; xc = xc; grad-t = grad-t }; grad = grad }
 
 abbrev Inv-loop : tie.InvT-loop

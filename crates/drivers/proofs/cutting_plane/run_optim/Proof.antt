@@ -8,14 +8,14 @@ use lib.ListN.{length}
 use lib.Ieee.{Float}
 use Rattle.oracles.specs.declared.ell.Ell.{Ell}
 use Rattle.oracles.specs.declared.lowpass_oracle.LowpassOracle.{LowpassOracle}
-use Rattle.drivers.specs.CuttingPlane.{OptimSpace, optim-run}
+use Rattle.drivers.specs.CuttingPlane.{OptimState, optim-run}
 use Rattle.drivers.proofs.cutting_plane.Runs.{all-left, optim-more, optim-ends, optim-out}
 use Rattle.drivers.proofs.cutting_plane.run_optim.Statement.{statement}
 use Rattle.drivers.proofs.cutting_plane.run_optim.Tie as tie
 use Rattle.numbers.specs.laws.Pick.{says-no, says-yes}
 
 -- the space of the slices and the state
-abbrev at-hand : LowpassOracle → Ell → Float → Bool → List Float → List Float → List Float → List Float → List Float → OptimSpace
+abbrev at-hand : LowpassOracle → Ell → Float → Bool → List Float → List Float → List Float → List Float → List Float → OptimState
 at-hand o e gamma found mq xc grad grad-t best = record { oracle = o; ell = e; buffers = record { mq = mq; xc = xc; grad-t = grad-t }; grad = grad; gamma = gamma; found = found; best = best }
 
 abbrev Inv-loop : tie.InvT-loop

@@ -1,6 +1,6 @@
 -- `drivers::fields::put_integer_field` meets its contract. Assumes nothing.
 use borrow.Author.Needs.{needs}
-use Rattle.numbers.specs.Bits.{leBytes}
+use Rattle.numbers.specs.Bits.{le-bytes}
 use Rattle.numbers.specs.laws.Bits.{length-bytes}
 use Rattle.drivers.specs.laws.Text.{put-then, put-one}
 use Rattle.drivers.proofs.fields.Puts.{no-room, in-pieces, field-long, integer-field}
@@ -14,7 +14,7 @@ has-room-requires : tie.Need-has-room-requires
 has-room-requires c κs = tt
 
 returns : tie.Need-returns
-returns c = let a = c .before .before .before .args in no-room _ _ _ _ (field-long (a .tag) (leBytes (a .k) (a .w)) _ (length-bytes (a .k) (a .w))) _ (c .before .has-room .ensures) (c .if1 .taken)
+returns c = let a = c .before .before .before .args in no-room _ _ _ _ (field-long (a .tag) (le-bytes (a .k) (a .w)) _ (length-bytes (a .k) (a .w))) _ (c .before .has-room .ensures) (c .if1 .taken)
 
 put-header-requires : tie.Need-put-header-requires
 put-header-requires c κs = search needs
@@ -31,7 +31,7 @@ returns-2 c =
     let head = content .before .before .before .before in
     let test = head .before .before in
     let a = test .before .before .before .args in
-    in-pieces _ _ _ _ (field-long (a .tag) (leBytes (a .k) (a .w)) _ (length-bytes (a .k) (a .w))) _ (test .before .has-room .ensures) _ _ (test .if1 .left) (integer-field (a .tag) (a .k) (a .w))
+    in-pieces _ _ _ _ (field-long (a .tag) (le-bytes (a .k) (a .w)) _ (length-bytes (a .k) (a .w))) _ (test .before .has-room .ensures) _ _ (test .if1 .left) (integer-field (a .tag) (a .k) (a .w))
     (put-then _ _ _ _ _ _ (head .put-header .ensures) (put-one _ _ _ _ (content .put-integer .ensures)))
 
 pub put-integer-field-spec : {M : Type 1} → statement M

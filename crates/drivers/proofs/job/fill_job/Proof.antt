@@ -8,17 +8,17 @@ use lib.ListN.{length, take, drop}
 use lib.Seq.{length-take-le}
 use lib.Ieee.{Float}
 use Rattle.numbers.specs.laws.Arr.{length-tab}
-use Rattle.drivers.specs.Record.{numberAt, numbersAt, fronted}
+use Rattle.drivers.specs.Record.{number-at, numbers-at, fronted}
 use borrow.Author.Needs.{needs}
 use Rattle.drivers.proofs.job.fill_job.Statement.{statement}
 use Rattle.drivers.proofs.job.fill_job.Tie as tie
 use Rattle.numbers.specs.laws.Over.{over-front}
 
 -- numbers that were written to the front
-front : (bytes : List ℕ) (p m : ℕ) (ys out : List Float) → ys ≡ numbersAt bytes p (length (take m out)) → m ≤ length out → ys ++ drop m out ≡ fronted (numbersAt bytes p m) out
+front : (bytes : List ℕ) (p m : ℕ) (ys out : List Float) → ys ≡ numbers-at bytes p (length (take m out)) → m ≤ length out → ys ++ drop m out ≡ fronted (numbers-at bytes p m) out
 front bytes p m ys out e h =
-    let q : ys ++ drop m out ≡ numbersAt bytes p m ++ drop (length (numbersAt bytes p m)) out = rw (e, length-take-le m out h, length-tab (λ j. numberAt bytes p j) m) in
-    q ∙ sym (over-front out (numbersAt bytes p m))
+    let q : ys ++ drop m out ≡ numbers-at bytes p m ++ drop (length (numbers-at bytes p m)) out = rw (e, length-take-le m out h, length-tab (λ j. number-at bytes p j) m) in
+    q ∙ sym (over-front out (numbers-at bytes p m))
 
 square : (n : ℕ) → n ≤ 32 → n * n ≤ 1024
 square n h = mul-le-mul h h

@@ -8,7 +8,7 @@ use borrow.Rule.Slice.PartMut.{putMid}
 use lib.ListN.{length, take, drop, length-drop}
 use lib.Seq.{length-take-le, drop-drop}
 use lib.Ieee.{Float}
-use Rattle.drivers.specs.Record.{contentOf, numbersAt, is-row, rows-in}
+use Rattle.drivers.specs.Record.{content-of, numbers-at, is-row, rows-in}
 use Rattle.drivers.specs.laws.Record.{row-filled}
 use borrow.Author.Needs.{needs}
 use Rattle.drivers.proofs.job.fill_row.Statement.{statement}
@@ -25,14 +25,14 @@ module _ (bytes : List ℕ) (at n k : ℕ) (t : Bool) (e : t ≡ is-row bytes at
       go : (r : ℕ) → r ≡ 1 → k + r * n ≤ l → k + n ≤ l
       go r o h = let h′ : k + 1 * n ≤ l = rw o at h in omega arith
 
-  filled : (p : ℕ) (table ys : List Float) → p ≡ contentOf bytes at → ys ≡ numbersAt bytes p (length (take (k + n - k) (drop k table)))
+  filled : (p : ℕ) (table ys : List Float) → p ≡ content-of bytes at → ys ≡ numbers-at bytes p (length (take (k + n - k) (drop k table)))
       → k + rows-in bytes at * n ≤ length table → (k + n, putMid k (k + n - k) table ys) ≡ row-filled bytes at n k table
   unfolding row-filled
   filled p table ys a d h =
       hit _ _ _ _ (says-yes t (is-row bytes at) e y)
       (ap (λ (z : List Float). (k + n, z))
       (rw (d, a, m, length-take-le n (drop k table) (rw (length-drop k table) (omega (arith, room (length table) h))), drop-drop n k table)
-      (sym (append-assoc (take k table) (numbersAt bytes (contentOf bytes at) n) (drop (k + n) table)))))
+      (sym (append-assoc (take k table) (numbers-at bytes (content-of bytes at) n) (drop (k + n) table)))))
     where
       m : k + n - k ≡ n
       m = omega arith

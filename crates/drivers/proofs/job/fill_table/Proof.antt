@@ -10,7 +10,7 @@ use lib.Ieee.{Float}
 use Rattle.numbers.specs.Pick.{pick}
 use Rattle.numbers.specs.laws.Arr.{length-tab}
 use Rattle.numbers.specs.laws.Pick.{is-hit, is-skip, by-test}
-use Rattle.drivers.specs.Record.{contentOf, numberAt, numbersAt, after, fields-of, is-row, rows-in, row-count, rows-of, fronted}
+use Rattle.drivers.specs.Record.{content-of, number-at, numbers-at, after, fields-of, is-row, rows-in, row-count, rows-of, fronted}
 use Rattle.drivers.specs.laws.Record.{fields-after, fields-start, fields-turn, fields-end, left-less, row-filled}
 use borrow.Author.Needs.{needs}
 use Rattle.drivers.proofs.job.fill_table.Statement.{statement}
@@ -39,7 +39,7 @@ module _ (bytes : List ℕ) (n : ℕ) (table₀ : List Float) where
         go : (s r t : ℕ) → s ≡ r + t → k + s * n ≤ length table₀ → k + r * n ≤ length table
         go s r t e l = let l′ : k + (r + t) * n ≤ length table₀ = rw e at l in omega (arith, f .long)
 
-    rows-turn : (xs : List Float) → pick (is-row bytes at) (numbersAt bytes (contentOf bytes at) n) [] ≡ xs
+    rows-turn : (xs : List Float) → pick (is-row bytes at) (numbers-at bytes (content-of bytes at) n) [] ≡ xs
         → rows-of n bytes (fields-after bytes at) ≡ xs ++ rows-of n bytes (fields-after bytes (after bytes at))
     unfolding rows-of
     rows-turn xs e = ap (rows-of n bytes) (fields-turn bytes at h) ∙ ap (λ (z : List Float). z ++ rows-of n bytes (fields-after bytes (after bytes at))) e
@@ -51,7 +51,7 @@ module _ (bytes : List ℕ) (n : ℕ) (table₀ : List Float) where
         go : (s t : ℕ) → s ≡ r + t → k + s * n ≤ length table₀ → k + r * n + t * n ≤ length table₀
         go s t e l = let l′ : k + (r + t) * n ≤ length table₀ = rw e at l in omega arith
 
-    row : is-row bytes at ≡ true → Filling bytes n table₀ (after bytes at) (k + n, take k table ++ numbersAt bytes (contentOf bytes at) n ++ drop (k + n) table)
+    row : is-row bytes at ≡ true → Filling bytes n table₀ (after bytes at) (k + n, take k table ++ numbers-at bytes (content-of bytes at) n ++ drop (k + n) table)
     row t = record {
       long = length-append (take k table ++ xs) (drop (k + n) table) ∙ omega (arith, more, whole, length-drop (k + n) table, f .long);
       room = omega (arith, more);
@@ -63,7 +63,7 @@ module _ (bytes : List ℕ) (n : ℕ) (table₀ : List Float) where
     }
       where
         xs : List Float
-        xs = numbersAt bytes (contentOf bytes at) n
+        xs = numbers-at bytes (content-of bytes at) n
 
         left : List Float
         left = rows-of n bytes (fields-after bytes (after bytes at))
@@ -71,8 +71,8 @@ module _ (bytes : List ℕ) (n : ℕ) (table₀ : List Float) where
         more : k + 1 * n + row-count bytes (fields-after bytes (after bytes at)) * n ≤ length table₀
         more = left-room 1 (is-hit _ _ _ t)
 
-        whole : length (take k table ++ numbersAt bytes (contentOf bytes at) n) ≡ k + n
-        whole = length-append (take k table) xs ∙ omega (arith, length-take-le k table (omega (arith, more, f .long)), length-tab (λ j. numberAt bytes (contentOf bytes at) j) n)
+        whole : length (take k table ++ numbers-at bytes (content-of bytes at) n) ≡ k + n
+        whole = length-append (take k table) xs ∙ omega (arith, length-take-le k table (omega (arith, more, f .long)), length-tab (λ j. number-at bytes (content-of bytes at) j) n)
 
     other : is-row bytes at ≡ false → Filling bytes n table₀ (after bytes at) (k, table)
     other t = record {

@@ -7,9 +7,9 @@ use lib.Ieee.{Float}
 use mir.Syntax.{w32}
 use mir.Val.{toZ, ofZ}
 use mir.Facts.{toZ-ofZ}
-use Rattle.numbers.specs.Bits.{wordAt}
-use Rattle.drivers.specs.Record.{halfAt, numberAt, fields-of, row-count, place}
-use Rattle.drivers.specs.Job.{partOf, signed, optionsOf, job-at}
+use Rattle.numbers.specs.Bits.{word-at}
+use Rattle.drivers.specs.Record.{half-at, number-at, fields-of, row-count, place}
+use Rattle.drivers.specs.Job.{part-of, signed, options-of, job-at}
 use Rattle.drivers.specs.declared.cutting_plane.Options.{Options}
 use Rattle.drivers.specs.Rules.{bands-place, cursors-place, kappa-place, limits-place, n-place, settings-place}
 use Rattle.drivers.proofs.job.Signs.{signed-fits, reads-half, part-small}
@@ -18,22 +18,22 @@ use Rattle.drivers.proofs.job.job_at.Statement.{statement}
 use Rattle.drivers.proofs.job.job_at.Tie as tie
 
 -- a part of a word is below 2 ^ 16
-small : (w k r : ℕ) → r ≡ partOf w k → r < 65536
+small : (w k r : ℕ) → r ≡ part-of w k → r < 65536
 small w k r e = rw e (part-small w k)
 
 -- a band's end, and a cursor's position, read back
-band : (w w′ k h : ℕ) → w ≡ w′ → h ≡ partOf w k → toZ w32 h ≡ pos (partOf w′ k)
-band w w′ k h a b = reads-half h (small w k h b) ∙ ap pos (b ∙ ap (λ (z : ℕ). partOf z k) a)
+band : (w w′ k h : ℕ) → w ≡ w′ → h ≡ part-of w k → toZ w32 h ≡ pos (part-of w′ k)
+band w w′ k h a b = reads-half h (small w k h b) ∙ ap pos (b ∙ ap (λ (z : ℕ). part-of z k) a)
 
-cursor : (w w′ k h : ℕ) (z : ℤ) → w ≡ w′ → h ≡ partOf w k → z ≡ signed h → toZ w32 (ofZ w32 z) ≡ signed (partOf w′ k)
-cursor w w′ k h z a b d = rw (d, b, a) (toZ-ofZ (signed-fits (partOf w′ k) (part-small w′ k)))
+cursor : (w w′ k h : ℕ) (z : ℤ) → w ≡ w′ → h ≡ part-of w k → z ≡ signed h → toZ w32 (ofZ w32 z) ≡ signed (part-of w′ k)
+cursor w w′ k h z a b d = rw (d, b, a) (toZ-ofZ (signed-fits (part-of w′ k) (part-small w′ k)))
 
 is : (bytes places : List ℕ) (n rows : ℕ) (np ns : ℤ) (x y z : Float) (p q r : ℤ) (k : Float) (o : Options)
-    → n ≡ halfAt bytes (place places n-place) → rows ≡ row-count bytes (fields-of bytes)
-    → np ≡ pos (partOf (wordAt bytes (place places bands-place)) 0) → ns ≡ pos (partOf (wordAt bytes (place places bands-place)) 1)
-    → x ≡ numberAt bytes (place places limits-place) 0 → y ≡ numberAt bytes (place places limits-place) 1 → z ≡ numberAt bytes (place places limits-place) 2
-    → p ≡ signed (partOf (wordAt bytes (place places cursors-place)) 0) → q ≡ signed (partOf (wordAt bytes (place places cursors-place)) 1) → r ≡ signed (partOf (wordAt bytes (place places cursors-place)) 2)
-    → k ≡ numberAt bytes (place places kappa-place) 0 → o ≡ optionsOf bytes (place places settings-place)
+    → n ≡ half-at bytes (place places n-place) → rows ≡ row-count bytes (fields-of bytes)
+    → np ≡ pos (part-of (word-at bytes (place places bands-place)) 0) → ns ≡ pos (part-of (word-at bytes (place places bands-place)) 1)
+    → x ≡ number-at bytes (place places limits-place) 0 → y ≡ number-at bytes (place places limits-place) 1 → z ≡ number-at bytes (place places limits-place) 2
+    → p ≡ signed (part-of (word-at bytes (place places cursors-place)) 0) → q ≡ signed (part-of (word-at bytes (place places cursors-place)) 1) → r ≡ signed (part-of (word-at bytes (place places cursors-place)) 2)
+    → k ≡ number-at bytes (place places kappa-place) 0 → o ≡ options-of bytes (place places settings-place)
     → record { n = n; rows = rows; nwpass = np; nwstop = ns; «lp_sq» = x; «up_sq» = y; «sp_sq» = z; cur1 = p; cur2 = q; cur3 = r; kappa = k; options = o } ≡ job-at bytes places
 unfolding job-at
 is bytes places n rows np ns x y z p q r k o e₁ e₂ e₃ e₄ e₅ e₆ e₇ e₈ e₉ f₁ f₂ f₃ = rw (e₁, e₂, e₃, e₄, e₅, e₆, e₇, e₈, e₉, f₁, f₂, f₃)

@@ -12,7 +12,7 @@ use Rattle.numbers.specs.Refusal.{is-fault, _⨾_, ask-at}
 use Rattle.numbers.specs.laws.Refusal.{stops, passes}
 use Rattle.oracles.specs.LowpassOracle.{bands-fit, cursors-fit}
 use Rattle.oracles.specs.declared.lowpass_oracle.LowpassOracle.{LowpassOracle}
-use Rattle.drivers.specs.Record.{startOf, halfAt, fields-of, no-places, record-fault, lengths-fault, place}
+use Rattle.drivers.specs.Record.{start-of, half-at, fields-of, no-places, record-fault, lengths-fault, place}
 use Rattle.drivers.specs.Job.{job-oracle, job-at, job-walk, size-fault, job-fault}
 use Rattle.drivers.specs.laws.Job.{size-small}
 use Rattle.drivers.specs.declared.job.Job.{Job}
@@ -21,7 +21,7 @@ use borrow.Author.Needs.{needs}
 use Rattle.drivers.proofs.job.job_fault.Statement.{statement}
 use Rattle.drivers.proofs.job.job_fault.Tie as tie
 
-n-is : (bytes places : List ℕ) → job-at bytes places .n ≡ halfAt bytes (place places n-place)
+n-is : (bytes places : List ℕ) → job-at bytes places .n ≡ half-at bytes (place places n-place)
 unfolding job-at
 n-is bytes places = refl
 
@@ -36,10 +36,10 @@ module _ (bytes places₀ places : List ℕ) (e₀ : places₀ ≡ no-places) (f
   job = job-at bytes places
 
   abbrev bands-asked : Fault
-  bands-asked = ask-at (startOf (place places bands-place)) (bands-fit (job-oracle job) (job .rows)) Band
+  bands-asked = ask-at (start-of (place places bands-place)) (bands-fit (job-oracle job) (job .rows)) Band
 
   abbrev cursors-asked : Fault
-  cursors-asked = ask-at (startOf (place places cursors-place)) (cursors-fit (job-oracle job)) Cursor
+  cursors-asked = ask-at (start-of (place places cursors-place)) (cursors-fit (job-oracle job)) Cursor
 
   -- the chain of what the code has found so far
   answer : (f₂ f₃ f₄ f₅ : Fault) → f₂ ≡ size-fault n-place 2 bytes (place places n-place) → f₃ ≡ lengths-fault (job .n) bytes (fields-of bytes) → f₄ ≡ bands-asked → f₅ ≡ cursors-asked
@@ -54,7 +54,7 @@ module _ (bytes places₀ places : List ℕ) (e₀ : places₀ ≡ no-places) (f
     at-dimension : is-fault f₂ ≡ true → Right f₂
     at-dimension t = answer _ _ _ _ e₂ refl refl refl f₂ (passes f₁ _ _ t₁ (stops f₂ _ t))
 
-    module _ (t₂ : is-fault f₂ ≡ false) (n : ℕ) (d : n ≡ halfAt bytes (place places n-place)) (f₃ : Fault) (e₃ : f₃ ≡ lengths-fault n bytes (fields-of bytes)) where
+    module _ (t₂ : is-fault f₂ ≡ false) (n : ℕ) (d : n ≡ half-at bytes (place places n-place)) (f₃ : Fault) (e₃ : f₃ ≡ lengths-fault n bytes (fields-of bytes)) where
       lengths : f₃ ≡ lengths-fault (job .n) bytes (fields-of bytes)
       lengths = e₃ ∙ ap (λ (m : ℕ). lengths-fault m bytes (fields-of bytes)) (d ∙ sym (n-is bytes places))
 
@@ -65,7 +65,7 @@ module _ (bytes places₀ places : List ℕ) (e₀ : places₀ ≡ no-places) (f
         bands : bands-fit (job-oracle job) (job .rows) ≡ b
         bands = rw (← d₂, ← d₃) (sym e₄)
 
-        at-bands-of : not b ≡ true → (q : ℕ) → q ≡ startOf (place places bands-place) → Right (At Band q)
+        at-bands-of : not b ≡ true → (q : ℕ) → q ≡ start-of (place places bands-place) → Right (At Band q)
         at-bands-of h q s =
             answer _ _ (At Band q) _ e₂ lengths (skip _ _ _ _ (bands ∙ not-true b h) (ap (At Band) s)) refl (At Band q)
             (passes f₁ _ _ t₁ (passes f₂ _ _ t₂ (passes f₃ _ _ t₃ (stops (At Band q) _ refl))))
@@ -77,7 +77,7 @@ module _ (bytes places₀ places : List ℕ) (e₀ : places₀ ≡ no-places) (f
           cursors : cursors-fit (job-oracle job) ≡ k
           cursors = rw (← d₂, ← d₃) (sym e₅)
 
-          at-cursors-of : not k ≡ true → (q : ℕ) → q ≡ startOf (place places cursors-place) → Right (At Cursor q)
+          at-cursors-of : not k ≡ true → (q : ℕ) → q ≡ start-of (place places cursors-place) → Right (At Cursor q)
           at-cursors-of h q s =
               answer _ _ Sound (At Cursor q) e₂ lengths band-sound (skip _ _ _ _ (cursors ∙ not-true k h) (ap (At Cursor) s)) (At Cursor q)
               (passes f₁ _ _ t₁ (passes f₂ _ _ t₂ (passes f₃ _ _ t₃ (passes Sound _ _ refl refl))))

@@ -12,7 +12,7 @@ use Rattle.numbers.specs.declared.refusal.Fault.{Fault}
 use Rattle.numbers.specs.declared.refusal.Fault.the-variants.{Sound, At}
 use Rattle.numbers.specs.Refusal.{_⨾_}
 use Rattle.numbers.specs.laws.Pick.{is-hit, is-skip, and-parts}
-use Rattle.drivers.specs.Record.{numbersAt, fields-of, row-count, rows-of, fronted, place}
+use Rattle.drivers.specs.Record.{numbers-at, fields-of, row-count, rows-of, fronted, place}
 use Rattle.drivers.specs.Job.{job-at, full-job-at, has-room, room-fault, read-into}
 use Rattle.drivers.specs.declared.job.Job.{Job}
 use Rattle.drivers.specs.declared.job.JobAnswer.{JobAnswer}
@@ -43,8 +43,8 @@ module _ (bytes places : List ℕ) (table xc mq : List Float) (j : Job) (d : j �
       rw f refl
 
   module _ (h : not t ≡ false) where
-    read : (table′ xc′ mq′ : List Float) → table′ ≡ fronted (rows-of (j .n) bytes (fields-of bytes)) table → xc′ ≡ fronted (numbersAt bytes (place places point-place) (j .n)) xc
-        → mq′ ≡ fronted (numbersAt bytes (place places matrix-place) (j .n * j .n)) mq → _≡_ {A = Answer} (Read j, table′, xc′, mq′) (read-into (full-job-at bytes places) Sound table xc mq)
+    read : (table′ xc′ mq′ : List Float) → table′ ≡ fronted (rows-of (j .n) bytes (fields-of bytes)) table → xc′ ≡ fronted (numbers-at bytes (place places point-place) (j .n)) xc
+        → mq′ ≡ fronted (numbers-at bytes (place places matrix-place) (j .n * j .n)) mq → _≡_ {A = Answer} (Read j, table′, xc′, mq′) (read-into (full-job-at bytes places) Sound table xc mq)
     unfolding full-job-at
     read table′ xc′ mq′ a b c =
         let f : (Sound ⨾ fault) ≡ Sound = is-skip false Sound fault refl ∙ is-hit _ _ _ (has ∙ not-false t h) in

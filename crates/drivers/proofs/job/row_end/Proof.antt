@@ -8,13 +8,13 @@ use lib.Dec.{leb}
 use mir.Syntax.{w32}
 use mir.Val.{toZ}
 use Rattle.numbers.specs.laws.Pick.{hit, skip, and-parts}
-use Rattle.oracles.specs.Scan.{none, isRows}
+use Rattle.oracles.specs.Scan.{none, is-rows}
 use Rattle.drivers.specs.Job.{row-end}
 use Rattle.drivers.proofs.job.Signs.{half-fits, reads-half}
 use Rattle.drivers.proofs.job.row_end.Statement.{statement}
 use Rattle.drivers.proofs.job.row_end.Tie as tie
 
-module _ (rows : ℕ) (t : Bool) (e : t ≡ isRows rows) where
+module _ (rows : ℕ) (t : Bool) (e : t ≡ is-rows rows) where
   small : t ≡ true → rows < 65536
   small h = omega (arith, leb-true rows 1024 (and-parts (leb 1 rows) (leb rows 1024) (sym e ∙ h) .1))
 

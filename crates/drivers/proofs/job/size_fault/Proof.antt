@@ -9,33 +9,33 @@ use Rattle.numbers.specs.Refusal.{ask-at}
 use Rattle.numbers.specs.laws.Refusal.{stops, passes}
 use Rattle.numbers.specs.declared.refusal.Refusal.the-variants.{Dimension, Length}
 use Rattle.numbers.specs.laws.Pick.{hit, skip, is-hit, is-skip}
-use Rattle.drivers.specs.Record.{lengthAt, startOf, halfAt}
+use Rattle.drivers.specs.Record.{length-at, start-of, half-at}
 use Rattle.drivers.specs.Job.{size-fault}
-use Rattle.drivers.specs.Rules.{ruleLength}
+use Rattle.drivers.specs.Rules.{rule-length}
 use Rattle.numbers.specs.declared.refusal.Fault.the-variants.{Sound, At}
 use borrow.Author.Needs.{needs}
 use Rattle.drivers.proofs.job.size_fault.Statement.{statement}
 use Rattle.drivers.proofs.job.size_fault.Tie as tie
 
-module _ (bytes : List ℕ) (rule least p q l r : ℕ) (s : q ≡ startOf p) (a : l ≡ lengthAt bytes q) (b : r ≡ ruleLength rule 0) where
+module _ (bytes : List ℕ) (rule least p q l r : ℕ) (s : q ≡ start-of p) (a : l ≡ length-at bytes q) (b : r ≡ rule-length rule 0) where
   too-long : (l ≡ r → ⊥) → At Length q ≡ size-fault rule least bytes p
   unfolding size-fault
   too-long h =
-      let t : eqb (lengthAt bytes (startOf p)) (ruleLength rule 0) ≡ false = rw (← s, ← a, ← b) (ne-eqb l r h) in
-      let f : ask-at (startOf p) (eqb (lengthAt bytes (startOf p)) (ruleLength rule 0)) Length ≡ At Length (startOf p) = is-skip _ Sound (At Length (startOf p)) t in
-      rw (f, s) (stops (At Length (startOf p)) _ refl)
+      let t : eqb (length-at bytes (start-of p)) (rule-length rule 0) ≡ false = rw (← s, ← a, ← b) (ne-eqb l r h) in
+      let f : ask-at (start-of p) (eqb (length-at bytes (start-of p)) (rule-length rule 0)) Length ≡ At Length (start-of p) = is-skip _ Sound (At Length (start-of p)) t in
+      rw (f, s) (stops (At Length (start-of p)) _ refl)
 
-  module _ (h : l ≡ r) (n : ℕ) (d : n ≡ halfAt bytes p) where
-    long : ask-at (startOf p) (eqb (lengthAt bytes (startOf p)) (ruleLength rule 0)) Length ≡ Sound
-    long = is-hit _ Sound (At Length (startOf p)) (rw (← s, ← a, ← b) (eq-eqb l r h))
+  module _ (h : l ≡ r) (n : ℕ) (d : n ≡ half-at bytes p) where
+    long : ask-at (start-of p) (eqb (length-at bytes (start-of p)) (rule-length rule 0)) Length ≡ Sound
+    long = is-hit _ Sound (At Length (start-of p)) (rw (← s, ← a, ← b) (eq-eqb l r h))
 
     outside : not (leb least n && leb n 32) ≡ true → At Dimension q ≡ size-fault rule least bytes p
     unfolding size-fault
-    outside k = rw (long, ← d, s) (passes Sound _ _ refl (skip _ Sound (At Dimension (startOf p)) _ (not-true _ k) refl))
+    outside k = rw (long, ← d, s) (passes Sound _ _ refl (skip _ Sound (At Dimension (start-of p)) _ (not-true _ k) refl))
 
     inside : not (leb least n && leb n 32) ≡ false → Sound ≡ size-fault rule least bytes p
     unfolding size-fault
-    inside k = rw (long, ← d) (passes Sound _ _ refl (hit _ Sound (At Dimension (startOf p)) _ (not-false _ k) refl))
+    inside k = rw (long, ← d) (passes Sound _ _ refl (hit _ Sound (At Dimension (start-of p)) _ (not-false _ k) refl))
 
 start-of-requires : tie.Need-start-of-requires
 start-of-requires c κs = search needs

@@ -10,30 +10,30 @@ use lib.ListN.{length}
 use Rattle.numbers.specs.laws.Refusal.{failed, held, at-first, at-next}
 use Rattle.numbers.specs.declared.refusal.Refusal.the-variants.{CutShort, ForeignTag, RepeatedTag}
 use Rattle.numbers.specs.declared.refusal.Fault.the-variants.{Sound, At}
-use Rattle.drivers.specs.Record.{indexAt, lengthAt, place, field-fault}
+use Rattle.drivers.specs.Record.{index-at, length-at, place, field-fault}
 use Rattle.drivers.specs.declared.rules.Rule.{Rule}
 use Rattle.drivers.specs.declared.rules.Form.{Form}
-use Rattle.drivers.specs.Rules.{many, ruleAt, is-of, indexOf}
+use Rattle.drivers.specs.Rules.{many, rule-at, is-of, index-of}
 use Rattle.drivers.specs.laws.Rules.{is-of-listed}
 use borrow.Author.Needs.{needs}
 use Rattle.drivers.proofs.record.field_fault.Statement.{statement}
 use Rattle.drivers.proofs.record.field_fault.Tie as tie
 
 -- a tag by its rule: whether it is of the form, and that it is then in the table
-module _ (bytes : List ℕ) (form : Form) (at i : ℕ) (e : i ≡ indexAt bytes at) (r : Rule) (d : r ≡ ruleAt i) (t : Bool) (q : t ≡ eqb (r .1 / form .bit % 2) 1) where
-  of-form : t ≡ is-of form (indexAt bytes at)
+module _ (bytes : List ℕ) (form : Form) (at i : ℕ) (e : i ≡ index-at bytes at) (r : Rule) (d : r ≡ rule-at i) (t : Bool) (q : t ≡ eqb (r .1 / form .bit % 2) 1) where
+  of-form : t ≡ is-of form (index-at bytes at)
   of-form = q ∙ rw (d, e)
 
   listed : not t ≡ false → i < 12
-  listed f = rw e (is-of-listed form (indexAt bytes at) (sym of-form ∙ not-false t f))
+  listed f = rw e (is-of-listed form (index-at bytes at) (sym of-form ∙ not-false t f))
 
 module _ (bytes : List ℕ) (form : Form) (places : List ℕ) (at : ℕ) where
   no-header : length bytes - at < 3 → At CutShort at ≡ field-fault bytes form places at
   unfolding field-fault
   no-header h = at-first _ (failed (lt-leb 3 (length bytes - at) h))
 
-  module _ (h : 3 ≤ length bytes - at) (i : ℕ) (e : i ≡ indexAt bytes at) (r : Rule) (d : r ≡ ruleAt i) (t : Bool) (q : t ≡ eqb (r .1 / form .bit % 2) 1) where
-    known : t ≡ is-of form (indexAt bytes at)
+  module _ (h : 3 ≤ length bytes - at) (i : ℕ) (e : i ≡ index-at bytes at) (r : Rule) (d : r ≡ rule-at i) (t : Bool) (q : t ≡ eqb (r .1 / form .bit % 2) 1) where
+    known : t ≡ is-of form (index-at bytes at)
     known = of-form bytes form at i e r d t q
 
     foreign : not t ≡ true → At ForeignTag at ≡ field-fault bytes form places at
@@ -47,20 +47,20 @@ module _ (bytes : List ℕ) (form : Form) (places : List ℕ) (at : ℕ) where
           at-next (held _ _ (le-leb 3 (length bytes - at) h))
           (at-next (held _ _ (sym known ∙ not-false t f)) (at-first _ (failed (rw (← e, ← d) (ap not g)))))
 
-      module _ (g : (not (eqb (place places i) 0) && not (eqb (r .5) many)) ≡ false) (l : ℕ) (k : l ≡ lengthAt bytes at) where
+      module _ (g : (not (eqb (place places i) 0) && not (eqb (r .5) many)) ≡ false) (l : ℕ) (k : l ≡ length-at bytes at) where
         no-content : length bytes - at - 3 < l → At CutShort at ≡ field-fault bytes form places at
         unfolding field-fault
         no-content x =
             at-next (held _ _ (le-leb 3 (length bytes - at) h))
             (at-next (held _ _ (sym known ∙ not-false t f))
-            (at-next (held _ _ (rw (← e, ← d) (ap not g))) (failed (ap not (lt-ltb (length bytes - at) (3 + lengthAt bytes at) (omega arith))))))
+            (at-next (held _ _ (rw (← e, ← d) (ap not g))) (failed (ap not (lt-ltb (length bytes - at) (3 + length-at bytes at) (omega arith))))))
 
         sound : l ≤ length bytes - at - 3 → Sound ≡ field-fault bytes form places at
         unfolding field-fault
         sound x =
             at-next (held _ _ (le-leb 3 (length bytes - at) h))
             (at-next (held _ _ (sym known ∙ not-false t f))
-            (at-next (held _ _ (rw (← e, ← d) (ap not g))) (held _ _ (ap not (le-ltb (length bytes - at) (3 + lengthAt bytes at) (omega arith))))))
+            (at-next (held _ _ (rw (← e, ← d) (ap not g))) (held _ _ (ap not (le-ltb (length bytes - at) (3 + length-at bytes at) (omega arith))))))
 
 sub-if1 : tie.Need-sub-if1
 sub-if1 c = search needs
@@ -86,7 +86,7 @@ returns-2 c =
     let ra = io .before in
     let ri = ra .before in
     let ta = ri .before in
-    foreign _ _ _ _ (ta .before .if1 .left) _ (ri .rule-index .ensures ∙ ap indexOf (ta .tag-at .ensures)) _ (ra .rule-at .ensures) _ (io .is-of .ensures) (c .if2 .taken)
+    foreign _ _ _ _ (ta .before .if1 .left) _ (ri .rule-index .ensures ∙ ap index-of (ta .tag-at .ensures)) _ (ra .rule-at .ensures) _ (io .is-of .ensures) (c .if2 .taken)
 
 element-copy-out-if3 : tie.Need-element-copy-out-if3
 element-copy-out-if3 c =
@@ -94,7 +94,7 @@ element-copy-out-if3 c =
     let ra = io .before in
     let ri = ra .before in
     let ta = ri .before in
-    listed _ _ _ _ (ri .rule-index .ensures ∙ ap indexOf (ta .tag-at .ensures)) _ (ra .rule-at .ensures) _ (io .is-of .ensures) (c .if2 .left)
+    listed _ _ _ _ (ri .rule-index .ensures ∙ ap index-of (ta .tag-at .ensures)) _ (ra .rule-at .ensures) _ (io .is-of .ensures) (c .if2 .left)
 
 mul-if3 : tie.Need-mul-if3
 mul-if3 c = record { fits = omega (arith, element-copy-out-if3 c) }
@@ -106,7 +106,7 @@ returns-3 c =
     let ra = io .before in
     let ri = ra .before in
     let ta = ri .before in
-    again _ _ _ _ (ta .before .if1 .left) _ (ri .rule-index .ensures ∙ ap indexOf (ta .tag-at .ensures)) _ (ra .rule-at .ensures) _ (io .is-of .ensures) (test2 .if2 .left) (c .if3 .taken)
+    again _ _ _ _ (ta .before .if1 .left) _ (ri .rule-index .ensures ∙ ap index-of (ta .tag-at .ensures)) _ (ra .rule-at .ensures) _ (io .is-of .ensures) (test2 .if2 .left) (c .if3 .taken)
 
 sub-if4 : tie.Need-sub-if4
 sub-if4 c = search needs
@@ -126,7 +126,7 @@ returns-4 c =
     let ra = io .before in
     let ri = ra .before in
     let ta = ri .before in
-    no-content _ _ _ _ (ta .before .if1 .left) _ (ri .rule-index .ensures ∙ ap indexOf (ta .tag-at .ensures)) _ (ra .rule-at .ensures) _ (io .is-of .ensures) (test2 .if2 .left)
+    no-content _ _ _ _ (ta .before .if1 .left) _ (ri .rule-index .ensures ∙ ap index-of (ta .tag-at .ensures)) _ (ra .rule-at .ensures) _ (io .is-of .ensures) (test2 .if2 .left)
     (test3 .if3 .left) _ (la .length-at .ensures) (c .if4 .taken)
 
 returns-5 : tie.Need-returns-5
@@ -138,7 +138,7 @@ returns-5 c =
     let ra = io .before in
     let ri = ra .before in
     let ta = ri .before in
-    sound _ _ _ _ (ta .before .if1 .left) _ (ri .rule-index .ensures ∙ ap indexOf (ta .tag-at .ensures)) _ (ra .rule-at .ensures) _ (io .is-of .ensures) (test2 .if2 .left)
+    sound _ _ _ _ (ta .before .if1 .left) _ (ri .rule-index .ensures ∙ ap index-of (ta .tag-at .ensures)) _ (ra .rule-at .ensures) _ (io .is-of .ensures) (test2 .if2 .left)
     (test3 .if3 .left) _ (la .length-at .ensures) (c .if4 .left)
 
 pub field-fault-spec : {M : Type 1} → statement M

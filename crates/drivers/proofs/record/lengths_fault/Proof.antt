@@ -8,9 +8,9 @@ use lib.ListN.{length}
 use Rattle.numbers.specs.laws.Refusal.{failed, held, at-first, at-next}
 use Rattle.numbers.specs.declared.refusal.Refusal.the-variants.{Length}
 use Rattle.numbers.specs.Refusal.{_⨾_, ask-at}
-use Rattle.drivers.specs.Record.{indexAt, lengthAt, after, fields-of, lengths-fault}
+use Rattle.drivers.specs.Record.{index-at, length-at, after, fields-of, lengths-fault}
 use Rattle.drivers.specs.laws.Record.{fields-after, fields-start, fields-turn, fields-end, left-less}
-use Rattle.drivers.specs.Rules.{indexOf, ruleLength}
+use Rattle.drivers.specs.Rules.{index-of, rule-length}
 use Rattle.numbers.specs.declared.refusal.Fault.{Fault}
 use Rattle.numbers.specs.declared.refusal.Fault.the-variants.{Sound, At}
 use borrow.Author.Needs.{needs}
@@ -18,7 +18,7 @@ use Rattle.drivers.proofs.record.lengths_fault.Statement.{statement}
 use Rattle.drivers.proofs.record.lengths_fault.Tie as tie
 
 module _ (bytes : List ℕ) (n at : ℕ) (w : Fault) (left : lengths-fault n bytes (fields-after bytes at) ≡ w) where
-  module _ (h : at < length bytes) (l r : ℕ) (a : l ≡ lengthAt bytes at) (b : r ≡ ruleLength (indexAt bytes at) n) where
+  module _ (h : at < length bytes) (l r : ℕ) (a : l ≡ length-at bytes at) (b : r ≡ rule-length (index-at bytes at) n) where
     -- the test of this field, then those of the rest
     turn : (ask-at at (eqb l r) Length ⨾ lengths-fault n bytes (fields-after bytes (after bytes at))) ≡ w
     unfolding lengths-fault
@@ -64,8 +64,8 @@ returns c =
     let in-loop = ta .before in
     let l = in-loop .before in
     let s = l .before .before in
-    let i = ri .rule-index .ensures ∙ ap indexOf (ta .tag-at .ensures) in
-    stops _ _ _ _ (l .loop .inv) (in-loop .loop-test .taken) _ _ (la .length-at .ensures) (rl .rule-length .ensures ∙ ap (λ (z : ℕ). ruleLength z (s .args .n)) i) (c .if1 .taken)
+    let i = ri .rule-index .ensures ∙ ap index-of (ta .tag-at .ensures) in
+    stops _ _ _ _ (l .loop .inv) (in-loop .loop-test .taken) _ _ (la .length-at .ensures) (rl .rule-length .ensures ∙ ap (λ (z : ℕ). rule-length z (s .args .n)) i) (c .if1 .taken)
 
 next-field-requires : tie.Need-next-field-requires Inv-loop μ-loop
 next-field-requires c κs = search needs
@@ -85,8 +85,8 @@ loop-again c =
     let in-loop = ta .before in
     let l = in-loop .before in
     let s = l .before .before in
-    let i = ri .rule-index .ensures ∙ ap indexOf (ta .tag-at .ensures) in
-    goes-on _ _ _ _ (l .loop .inv) (in-loop .loop-test .taken) _ _ (la .length-at .ensures) (rl .rule-length .ensures ∙ ap (λ (z : ℕ). ruleLength z (s .args .n)) i) (test1 .if1 .left) _ (c .next-field .ensures)
+    let i = ri .rule-index .ensures ∙ ap index-of (ta .tag-at .ensures) in
+    goes-on _ _ _ _ (l .loop .inv) (in-loop .loop-test .taken) _ _ (la .length-at .ensures) (rl .rule-length .ensures ∙ ap (λ (z : ℕ). rule-length z (s .args .n)) i) (test1 .if1 .left) _ (c .next-field .ensures)
 
 returns-2 : tie.Need-returns-2 Inv-loop μ-loop
 returns-2 c = ends _ _ _ _ (c .before .loop .inv) (c .loop-test .left)

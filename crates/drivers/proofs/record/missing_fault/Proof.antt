@@ -13,14 +13,14 @@ use Rattle.numbers.specs.laws.Pick.{some-holds, none-some}
 use Rattle.drivers.specs.Record.{place, is-missing, missing-fault}
 use Rattle.drivers.specs.declared.rules.Form.{Form}
 use Rattle.drivers.specs.declared.rules.Rule.{Rule}
-use Rattle.drivers.specs.Rules.{tags, maybe, ruleAt}
+use Rattle.drivers.specs.Rules.{tags, maybe, rule-at}
 use Rattle.numbers.specs.declared.refusal.Fault.the-variants.{Sound, At}
 use borrow.Author.Needs.{needs}
 use Rattle.drivers.proofs.record.missing_fault.Statement.{statement}
 use Rattle.drivers.proofs.record.missing_fault.Tie as tie
 
 module _ (end : ℕ) (form : Form) (places : List ℕ) (i : ℕ) where
-  module _ (r : Rule) (e : r ≡ ruleAt i) (t : Bool) (d : t ≡ eqb (r .1 / form .bit % 2) 1) where
+  module _ (r : Rule) (e : r ≡ rule-at i) (t : Bool) (d : t ≡ eqb (r .1 / form .bit % 2) 1) where
     test-is : (t && not (eqb (r .5) maybe) && eqb (place places i) 0) ≡ is-missing form places i
     test-is = rw (d, e)
 

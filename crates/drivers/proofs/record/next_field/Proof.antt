@@ -4,17 +4,17 @@ use mathlib.Core.List.{List}
 use Prim.Native.Nat.{ℕ, _<_, _≤_, _+_, _-_}
 use borrow.Author.Tests.{lt-ltb, le-ltb}
 use lib.ListN.{length}
-use Rattle.drivers.specs.Record.{lengthAt, after}
+use Rattle.drivers.specs.Record.{length-at, after}
 use borrow.Author.Needs.{needs}
 use Rattle.drivers.proofs.record.next_field.Statement.{statement}
 use Rattle.drivers.proofs.record.next_field.Tie as tie
 use Rattle.numbers.specs.laws.Pick.{hit, skip}
 
-cut : (bytes : List ℕ) (at l : ℕ) → l ≡ lengthAt bytes at → length bytes - at < 3 + l → length bytes ≡ after bytes at
+cut : (bytes : List ℕ) (at l : ℕ) → l ≡ length-at bytes at → length bytes - at < 3 + l → length bytes ≡ after bytes at
 unfolding after
 cut bytes at l e h = hit _ _ _ _ (lt-ltb _ _ (rw e at h)) refl
 
-whole : (bytes : List ℕ) (at l : ℕ) → l ≡ lengthAt bytes at → 3 + l ≤ length bytes - at → at + (3 + l) ≡ after bytes at
+whole : (bytes : List ℕ) (at l : ℕ) → l ≡ length-at bytes at → 3 + l ≤ length bytes - at → at + (3 + l) ≡ after bytes at
 unfolding after
 whole bytes at l e h = skip _ _ _ _ (le-ltb _ _ (rw e at h)) (rw e)
 

@@ -6,22 +6,22 @@ use native.Mathlib.Omega.{arith}
 use lib.ListN.{length, take, drop, length-drop}
 use lib.Seq.{take-all}
 use lib.Ieee.{Float}
-use Rattle.numbers.specs.Bits.{floatOf, wordAt}
+use Rattle.numbers.specs.Bits.{float-of, word-at}
 use Rattle.numbers.specs.laws.Bits.{word-past}
-use Rattle.drivers.specs.Record.{numberAt}
+use Rattle.drivers.specs.Record.{number-at}
 use borrow.Author.Needs.{needs}
 use Rattle.drivers.proofs.record.number_at.Statement.{statement}
 use Rattle.drivers.proofs.record.number_at.Tie as tie
 
-past : (bytes : List ℕ) (p k : ℕ) → length bytes < p → floatOf 0 ≡ numberAt bytes p k
-unfolding numberAt
-past bytes p k h = ap floatOf (word-past (drop p bytes) (8 * k) (rw (length-drop p bytes) (omega arith)))
+past : (bytes : List ℕ) (p k : ℕ) → length bytes < p → float-of 0 ≡ number-at bytes p k
+unfolding number-at
+past bytes p k h = ap float-of (word-past (drop p bytes) (8 * k) (rw (length-drop p bytes) (omega arith)))
 
-read : (bytes : List ℕ) (p k w : ℕ) (r : Float) → w ≡ wordAt (take (length bytes - p) (drop p bytes)) (8 * k) → r ≡ floatOf w → r ≡ numberAt bytes p k
-unfolding numberAt
+read : (bytes : List ℕ) (p k w : ℕ) (r : Float) → w ≡ word-at (take (length bytes - p) (drop p bytes)) (8 * k) → r ≡ float-of w → r ≡ number-at bytes p k
+unfolding number-at
 read bytes p k w r e f =
     let a : take (length bytes - p) (drop p bytes) ≡ drop p bytes = take-all (length bytes - p) (drop p bytes) (rw (length-drop p bytes) (omega arith)) in
-    f ∙ ap floatOf (e ∙ rw a)
+    f ∙ ap float-of (e ∙ rw a)
 
 returns : tie.Need-returns
 returns c = past _ _ (c .before .before .args .k) (c .if1 .taken)

@@ -2,13 +2,13 @@
 use Prim.Native.Nat.{_-_}
 use lib.ListN.{length}
 use Rattle.numbers.specs.laws.Arr.{FilledTo, filled-start, filled-turn, filled-done}
-use Rattle.drivers.specs.Record.{numberAt}
+use Rattle.drivers.specs.Record.{number-at}
 use borrow.Author.Needs.{needs}
 use Rattle.drivers.proofs.record.numbers_into.Statement.{statement}
 use Rattle.drivers.proofs.record.numbers_into.Tie as tie
 
 abbrev Inv-loop : tie.InvT-loop
-Inv-loop bytes p out₀ i₀ out i = FilledTo (λ k. numberAt bytes p k) out₀ out i
+Inv-loop bytes p out₀ i₀ out i = FilledTo (λ k. number-at bytes p k) out₀ out i
 
 abbrev μ-loop : tie.MeasureT-loop
 μ-loop bytes p out₀ i₀ out i = length out₀ - i

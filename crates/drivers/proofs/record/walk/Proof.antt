@@ -13,10 +13,10 @@ use Rattle.numbers.specs.laws.Refusal.{no-fault, both-sound, ask-sound}
 use Rattle.numbers.specs.declared.refusal.Refusal.the-variants.{CutShort, ForeignTag, RepeatedTag}
 use Rattle.numbers.specs.declared.refusal.Fault.{Fault}
 use Rattle.numbers.specs.declared.refusal.Fault.the-variants.{Sound}
-use Rattle.drivers.specs.Record.{is-met, overruns, indexAt, contentOf, after, place, first-place, noted, field-fault, fields-of, walk-of}
+use Rattle.drivers.specs.Record.{is-met, overruns, index-at, content-of, after, place, first-place, noted, field-fault, fields-of, walk-of}
 use Rattle.drivers.specs.laws.Record.{fields-after, fields-start, fields-turn, fields-end, left-less}
 use Rattle.drivers.specs.declared.rules.Form.{Form}
-use Rattle.drivers.specs.Rules.{is-of, repeats, indexOf}
+use Rattle.drivers.specs.Rules.{is-of, repeats, index-of}
 use Rattle.drivers.specs.laws.Rules.{is-of-listed}
 use borrow.Author.Needs.{needs}
 use Rattle.drivers.proofs.record.walk.Statement.{statement}
@@ -24,10 +24,10 @@ use Rattle.drivers.proofs.record.walk.Tie as tie
 
 module _ (bytes : List ℕ) (form : Form) where
   -- a field without a fault has a tag of the form
-  known : (places : List ℕ) (at : ℕ) → is-fault (field-fault bytes form places at) ≡ false → indexAt bytes at < 12
+  known : (places : List ℕ) (at : ℕ) → is-fault (field-fault bytes form places at) ≡ false → index-at bytes at < 12
   unfolding field-fault
   known places at h =
-      let i = indexAt bytes at in
+      let i = index-at bytes at in
       let of-form = ask-at at (is-of form i) ForeignTag in
       let rest = ask-at at (not (is-met places i && not (repeats i))) RepeatedTag ⨾ ask-at at (not (overruns bytes at)) CutShort in
       let e = both-sound (ask-at at (leb 3 (length bytes - at)) CutShort) (of-form ⨾ rest) (no-fault (field-fault bytes form places at) h) .1 in
@@ -35,18 +35,18 @@ module _ (bytes : List ℕ) (form : Form) where
 
   module _ (places : List ℕ) (at : ℕ) (f : Fault) (h : at < length bytes) (e : f ≡ field-fault bytes form places at) (w : Fault × List ℕ) (left : walk-of bytes form (fields-after bytes at) places ≡ w) where
     turn : walk-of bytes form (fields-after bytes at) places
-        ≡ pick (is-fault f) (f, places) (walk-of bytes form (fields-after bytes (after bytes at)) (noted places (indexAt bytes at) (contentOf bytes at)))
+        ≡ pick (is-fault f) (f, places) (walk-of bytes form (fields-after bytes (after bytes at)) (noted places (index-at bytes at) (content-of bytes at)))
     unfolding walk-of
     turn = ap (λ (l : List ℕ). walk-of bytes form l places) (fields-turn bytes at h) ∙ rw e
 
     stops : is-fault f ≡ true → (f, places) ≡ w
     stops t = sym (turn ∙ is-hit _ _ _ t) ∙ left
 
-    goes-on : is-fault f ≡ false → (i p q next : ℕ) → i ≡ indexAt bytes at → p ≡ contentOf bytes at → q ≡ first-place (place places i) p → next ≡ after bytes at
+    goes-on : is-fault f ≡ false → (i p q next : ℕ) → i ≡ index-at bytes at → p ≡ content-of bytes at → q ≡ first-place (place places i) p → next ≡ after bytes at
         → walk-of bytes form (fields-after bytes next) (set places i q) ≡ w
     goes-on t i p q next a b c d = rw (c, a, b, d) (sym (turn ∙ is-skip _ _ _ t) ∙ left)
 
-    listed : is-fault f ≡ false → (i : ℕ) → i ≡ indexAt bytes at → i < 12
+    listed : is-fault f ≡ false → (i : ℕ) → i ≡ index-at bytes at → i < 12
     listed t i a = rw a (known places at (rw (← e) t))
 
   ends : (places : List ℕ) (at : ℕ) (w : Fault × List ℕ) → walk-of bytes form (fields-after bytes at) places ≡ w → length bytes ≤ at → (Sound, places) ≡ w
@@ -89,7 +89,7 @@ element-copy-out-first-place c =
     let ff = asked1 .before in
     let in-loop = ff .before .before in
     listed _ _ _ _ _ (in-loop .loop-test .taken) (ff .field-fault .ensures) _ (in-loop .before .loop .inv) (sym (asked1 .is-fault .ensures) ∙ test1 .if1 .left) _
-    (c .rule-index .ensures ∙ ap indexOf (ta .tag-at .ensures))
+    (c .rule-index .ensures ∙ ap index-of (ta .tag-at .ensures))
 
 mul-first-place : tie.Need-mul-first-place Inv-loop μ-loop
 mul-first-place c = record { fits = omega (arith, element-copy-out-first-place c) }
@@ -109,7 +109,7 @@ element-write-places c =
     let ff = asked1 .before in
     let in-loop = ff .before .before in
     listed _ _ _ _ _ (in-loop .loop-test .taken) (ff .field-fault .ensures) _ (in-loop .before .loop .inv) (sym (asked1 .is-fault .ensures) ∙ test1 .if1 .left) _
-    (ri .rule-index .ensures ∙ ap indexOf (ta .tag-at .ensures))
+    (ri .rule-index .ensures ∙ ap index-of (ta .tag-at .ensures))
 
 mul-places : tie.Need-mul-places Inv-loop μ-loop
 mul-places c = record { fits = omega (arith, element-write-places c) }
@@ -133,7 +133,7 @@ loop-again c =
     let ff = asked1 .before in
     let in-loop = ff .before .before in
     goes-on _ _ _ _ _ (in-loop .loop-test .taken) (ff .field-fault .ensures) _ (in-loop .before .loop .inv) (sym (asked1 .is-fault .ensures) ∙ test1 .if1 .left) _ _ _ _
-    (ri .rule-index .ensures ∙ ap indexOf (ta .tag-at .ensures)) (ca .content-at .ensures) (fp .first-place .ensures) (c .next-field .ensures)
+    (ri .rule-index .ensures ∙ ap index-of (ta .tag-at .ensures)) (ca .content-at .ensures) (fp .first-place .ensures) (c .next-field .ensures)
 
 returns-2 : tie.Need-returns-2 Inv-loop μ-loop
 returns-2 c = ends _ _ _ _ _ (c .before .loop .inv) (c .loop-test .left)

@@ -5,11 +5,11 @@ use lib.ListN.{List·getD-eq-default}
 use borrow.Author.Needs.{needs}
 use Rattle.drivers.proofs.rules.rule_at.Statement.{statement}
 use Rattle.drivers.proofs.rules.rule_at.Tie as tie
-use Rattle.drivers.specs.Rules.{no-rule, tags, rules, ruleAt}
+use Rattle.drivers.specs.Rules.{no-rule, tags, rules, rule-at}
 use Rattle.drivers.specs.laws.Rules.{rule-within}
 
-outside : (i : ℕ) → tags ≤ i → no-rule ≡ ruleAt i
-unfolding ruleAt rules
+outside : (i : ℕ) → tags ≤ i → no-rule ≡ rule-at i
+unfolding rule-at rules
 outside i h = sym (List·getD-eq-default rules no-rule h)
 
 mul-result : tie.Need-mul-result

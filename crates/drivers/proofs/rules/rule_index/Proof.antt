@@ -5,11 +5,11 @@ use lib.ListN.{drop}
 use borrow.Author.Needs.{needs}
 use Rattle.drivers.proofs.rules.rule_index.Statement.{statement}
 use Rattle.drivers.proofs.rules.rule_index.Tie as tie
-use Rattle.drivers.specs.Rules.{rules, indexIn, indexOf}
+use Rattle.drivers.specs.Rules.{rules, index-in, index-of}
 use Rattle.drivers.specs.laws.Rules.{rule-within, index-start, index-found, index-turn, index-end}
 
 abbrev Inv-loop : tie.InvT-loop
-Inv-loop tag table i₀ i = (i ≤ 12) × (indexOf tag ≡ i + indexIn (drop i rules) tag)
+Inv-loop tag table i₀ i = (i ≤ 12) × (index-of tag ≡ i + index-in (drop i rules) tag)
 
 abbrev μ-loop : tie.MeasureT-loop
 μ-loop tag table i₀ i = 12 - i

@@ -4,13 +4,13 @@ use Prim.Native.Nat.{ℕ, _≤_, _+_, _*_, _^_}
 use native.Mathlib.Nat.{mul-le-mul, pow-le-pow-left, pow-le-pow-right}
 use native.Mathlib.Omega.{arith}
 use Rattle.drivers.specs.declared.rules.Rule.{Rule}
-use Rattle.drivers.specs.Rules.{ruleAt, ruleLength}
+use Rattle.drivers.specs.Rules.{rule-at, rule-length}
 use Rattle.drivers.specs.laws.Rules.{rule-small}
 use borrow.Author.Needs.{needs}
 use Rattle.drivers.proofs.rules.rule_length.Statement.{statement}
 use Rattle.drivers.proofs.rules.rule_length.Tie as tie
 
-small : (i : ℕ) (r : Rule) → r ≡ ruleAt i → (r .2 ≤ 24) × (r .3 ≤ 8) × (r .4 ≤ 2)
+small : (i : ℕ) (r : Rule) → r ≡ rule-at i → (r .2 ≤ 24) × (r .3 ≤ 8) × (r .4 ≤ 2)
 small i r e = rw e (rule-small i)
 
 product : (f p n k : ℕ) → p ≡ n ^ k → f ≤ 8 → n ≤ 32 → k ≤ 2 → f * p ≤ 8192
@@ -21,8 +21,8 @@ product f p n k e a b d =
     let s : f * p ≤ 8 * 1024 = mul-le-mul a t in
     omega arith
 
-is : (i n p : ℕ) (r : Rule) → r ≡ ruleAt i → p ≡ n ^ (r .4) → r .2 + r .3 * p ≡ ruleLength i n
-unfolding ruleLength
+is : (i n p : ℕ) (r : Rule) → r ≡ rule-at i → p ≡ n ^ (r .4) → r .2 + r .3 * p ≡ rule-length i n
+unfolding rule-length
 is i n p r e d = rw (d, e)
 
 rule-at-requires : tie.Need-rule-at-requires

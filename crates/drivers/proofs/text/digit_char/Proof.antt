@@ -2,7 +2,7 @@
 use mathlib.Core.Path.{refl}
 use borrow.Author.Needs.{needs}
 use borrow.Author.Tests.{lt-ltb, le-ltb}
-use Rattle.drivers.specs.Text.{digitChar}
+use Rattle.drivers.specs.Text.{digit-char}
 use Rattle.drivers.proofs.text.digit_char.Statement.{statement}
 use Rattle.drivers.proofs.text.digit_char.Tie as tie
 use Rattle.numbers.specs.laws.Pick.{hit, skip}
@@ -14,7 +14,7 @@ add-result : tie.Need-add-result
 add-result c = search needs
 
 returns : tie.Need-returns
-unfolding digitChar
+unfolding digit-char
 returns c = hit _ _ _ _ (lt-ltb (c .before .args .d) 10 (search needs)) refl
 
 cast-result-2 : tie.Need-cast-result-2
@@ -24,7 +24,7 @@ add-result-2 : tie.Need-add-result-2
 add-result-2 c = search needs
 
 returns-2 : tie.Need-returns-2
-unfolding digitChar
+unfolding digit-char
 returns-2 c = skip _ _ _ _ (le-ltb (c .before .args .d) 10 (search needs)) refl
 
 pub digit-char-spec : {M : Type 1} → statement M

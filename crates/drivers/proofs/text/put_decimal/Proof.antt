@@ -2,7 +2,7 @@
 use Prim.Native.Nat.{ℕ}
 use mathlib.Core.Path.{ap, _∙_}
 use borrow.Author.Needs.{needs}
-use Rattle.drivers.specs.Text.{digitsOf, decimal}
+use Rattle.drivers.specs.Text.{digits-of, decimal}
 use Rattle.drivers.specs.laws.Text.{put}
 use Rattle.drivers.proofs.text.put_decimal.Statement.{statement}
 use Rattle.drivers.proofs.text.put_decimal.Tie as tie
@@ -23,7 +23,7 @@ returns c =
     let digit-count = digits .before in
     let start = digit-count .before .before .before in
     let a = start .args in
-    digits .put-digits .ensures ∙ ap (λ (n : ℕ). put (a .out .now) (a .at) (digitsOf 10 n (a .w))) (digit-count .digit-count .ensures)
+    digits .put-digits .ensures ∙ ap (λ (n : ℕ). put (a .out .now) (a .at) (digits-of 10 n (a .w))) (digit-count .digit-count .ensures)
 
 pub put-decimal-spec : {M : Type 1} → statement M
 put-decimal-spec =

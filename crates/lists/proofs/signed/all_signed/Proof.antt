@@ -3,13 +3,13 @@ use Prim.Native.Nat.{_-_}
 use mathlib.Core.Path.{_≡_, refl, sym, ap, _∙_}
 use borrow.Author.Needs.{needs}
 use borrow.Author.Tests.{not-true, not-false}
-use Rattle.lists.specs.Signed.{isSigned, allSigned}
+use Rattle.lists.specs.Signed.{is-signed, all-signed}
 use Rattle.lists.proofs.signed.Laws.{signed-turn, signed-stop, signed-all}
 use Rattle.lists.proofs.signed.all_signed.Statement.{statement}
 use Rattle.lists.proofs.signed.all_signed.Tie as tie
 
 abbrev Inv-loop : tie.InvT-loop
-Inv-loop inputs from to k₀ k = allSigned inputs k (to - k) ≡ allSigned inputs from (to - from)
+Inv-loop inputs from to k₀ k = all-signed inputs k (to - k) ≡ all-signed inputs from (to - from)
 
 abbrev μ-loop : tie.MeasureT-loop
 μ-loop inputs from to k₀ k = to - k
@@ -27,7 +27,7 @@ returns : tie.Need-returns Inv-loop μ-loop
 returns c =
     let a = c .before .before .before .before .before .before .args in
     let l = c .before .before .before .before .loop in
-    signed-stop (a .inputs .now) (l .k) (a .to) (search needs) (sym (c .before .is-signed .ensures ∙ ap isSigned (c .before .before .word .ensures)) ∙ not-true _ (c .if1 .taken)) ∙ l .inv
+    signed-stop (a .inputs .now) (l .k) (a .to) (search needs) (sym (c .before .is-signed .ensures ∙ ap is-signed (c .before .before .word .ensures)) ∙ not-true _ (c .if1 .taken)) ∙ l .inv
 
 add-k : tie.Need-add-k Inv-loop μ-loop
 add-k c = search needs
@@ -39,7 +39,7 @@ loop-again : tie.Need-loop-again Inv-loop μ-loop
 loop-again c =
     let a = c .before .before .before .before .before .before .args in
     let l = c .before .before .before .before .loop in
-    signed-turn (a .inputs .now) (l .k) (a .to) (search needs) (sym (c .before .is-signed .ensures ∙ ap isSigned (c .before .before .word .ensures)) ∙ not-false _ (c .if1 .left)) ∙ l .inv
+    signed-turn (a .inputs .now) (l .k) (a .to) (search needs) (sym (c .before .is-signed .ensures ∙ ap is-signed (c .before .before .word .ensures)) ∙ not-false _ (c .if1 .left)) ∙ l .inv
 
 returns-2 : tie.Need-returns-2 Inv-loop μ-loop
 returns-2 c =

@@ -2,7 +2,7 @@
 use mathlib.Core.Path.{ap, _∙_}
 use borrow.Author.Needs.{needs}
 use mir.Facts.{toZ-ofZ}
-use Rattle.lists.specs.Signed.{signedOf}
+use Rattle.lists.specs.Signed.{signed-value}
 use Rattle.lists.proofs.signed.signed_at.Statement.{statement}
 use Rattle.lists.proofs.signed.signed_at.Tie as tie
 
@@ -13,7 +13,7 @@ signed-requires : tie.Need-signed-requires
 signed-requires c κs = search needs
 
 returns : tie.Need-returns
-returns c = toZ-ofZ (search needs) ∙ c .signed .ensures ∙ ap signedOf (c .before .word .ensures)
+returns c = toZ-ofZ (search needs) ∙ c .signed .ensures ∙ ap signed-value (c .before .word .ensures)
 
 pub signed-at-spec : {M : Type 1} → statement M
 signed-at-spec = tie.close (tie.spec word-requires signed-requires returns)

@@ -2,20 +2,20 @@
 use mathlib.Core.Path.{_≡_, sym, ap, _∙_}
 use Prim.Native.Nat.{_-_, _≤_}
 use native.Mathlib.Omega.{arith}
-use Rattle.lists.specs.Words.{firstDiff}
+use Rattle.lists.specs.Words.{first-diff}
 use Rattle.lists.proofs.words.Laws.{diff-here, diff-turn, diff-end}
 use borrow.Author.Needs.{needs}
 use Rattle.lists.proofs.words.first_difference.Statement.{statement}
 use Rattle.lists.proofs.words.first_difference.Tie as tie
 
 abbrev Inv-loop : tie.InvT-loop
-Inv-loop a b n i₀ i = (i ≤ n) × (firstDiff a b 0 n ≡ firstDiff a b i (n - i))
+Inv-loop a b n i₀ i = (i ≤ n) × (first-diff a b 0 n ≡ first-diff a b i (n - i))
 
 abbrev μ-loop : tie.MeasureT-loop
 μ-loop a b n i₀ i = n - i
 
 loop-holds : tie.Need-loop-holds Inv-loop μ-loop
-loop-holds c = (search needs, ap (firstDiff _ _ 0) (omega arith))
+loop-holds c = (search needs, ap (first-diff _ _ 0) (omega arith))
 
 word-requires : tie.Need-word-requires Inv-loop μ-loop
 word-requires c κs = search needs

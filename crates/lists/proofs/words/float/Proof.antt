@@ -1,5 +1,5 @@
 -- `lists::words::float` meets its contract.
-use Rattle.numbers.specs.Bits.{floatOf}
+use Rattle.numbers.specs.Bits.{float-of}
 use mathlib.Core.Path.{ap, _∙_}
 use borrow.Author.Needs.{needs}
 use Rattle.lists.proofs.words.float.Statement.{statement}
@@ -12,7 +12,7 @@ of-bits-requires : tie.Need-of-bits-requires
 of-bits-requires c κs = search needs
 
 returns : tie.Need-returns
-returns c = c .of-bits .ensures ∙ ap floatOf (c .before .word .ensures)
+returns c = c .of-bits .ensures ∙ ap float-of (c .before .word .ensures)
 
 pub float-spec : {M : Type 1} → statement M
 float-spec = tie.close (tie.spec word-requires of-bits-requires returns)

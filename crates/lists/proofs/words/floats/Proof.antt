@@ -3,14 +3,14 @@ use Prim.Native.Nat.{_+_, _-_}
 use native.Mathlib.Omega.{arith}
 use lib.ListN.{length}
 use Rattle.numbers.specs.laws.Arr.{FilledTo, filled-start, filled-turn, filled-done}
-use Rattle.lists.specs.Words.{floatAt}
+use Rattle.lists.specs.Words.{float-at}
 use Rattle.lists.proofs.words.Laws.{floats-out, floats-in}
 use borrow.Author.Needs.{needs}
 use Rattle.lists.proofs.words.floats.Statement.{statement}
 use Rattle.lists.proofs.words.floats.Tie as tie
 
 abbrev Inv-loop : tie.InvT-loop
-Inv-loop bytes k out₀ most i₀ out i = FilledTo (λ j. floatAt bytes (k + j)) out₀ out i
+Inv-loop bytes k out₀ most i₀ out i = FilledTo (λ j. float-at bytes (k + j)) out₀ out i
 
 abbrev μ-loop : tie.MeasureT-loop
 μ-loop bytes k out₀ most i₀ out i = length out₀ - i

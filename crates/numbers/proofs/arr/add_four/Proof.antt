@@ -2,7 +2,7 @@
 use mathlib.Core.Path.{_≡_}
 use Prim.Native.Nat.{_-_}
 use lib.ListN.{length, drop}
-use Rattle.numbers.specs.Arr.{dotFrom}
+use Rattle.numbers.specs.Arr.{dot-from}
 use Rattle.numbers.proofs.arr.Laws.{sum-again, sum-done}
 use borrow.Author.Needs.{needs}
 use Rattle.numbers.proofs.arr.add_four.Statement.{statement}
@@ -10,8 +10,8 @@ use Rattle.numbers.proofs.arr.add_four.Tie as tie
 
 abbrev Inv-loop : tie.InvT-loop
 Inv-loop a b c d x from s₀ t₀ u₀ v₀ j₀ s t u v j =
-    (dotFrom s (drop j a) (drop j x) ≡ dotFrom s₀ (drop from a) (drop from x)) × (dotFrom t (drop j b) (drop j x) ≡ dotFrom t₀ (drop from b) (drop from x))
-    × (dotFrom u (drop j c) (drop j x) ≡ dotFrom u₀ (drop from c) (drop from x)) × (dotFrom v (drop j d) (drop j x) ≡ dotFrom v₀ (drop from d) (drop from x))
+    (dot-from s (drop j a) (drop j x) ≡ dot-from s₀ (drop from a) (drop from x)) × (dot-from t (drop j b) (drop j x) ≡ dot-from t₀ (drop from b) (drop from x))
+    × (dot-from u (drop j c) (drop j x) ≡ dot-from u₀ (drop from c) (drop from x)) × (dot-from v (drop j d) (drop j x) ≡ dot-from v₀ (drop from d) (drop from x))
 
 abbrev μ-loop : tie.MeasureT-loop
 μ-loop a b c d x from s₀ t₀ u₀ v₀ j₀ s t u v j = length x - j

@@ -3,13 +3,13 @@ use mathlib.Core.Path.{_≡_}
 use Prim.Native.Nat.{_+_, _-_, _≤_}
 use borrow.Author.Needs.{needs}
 use lib.ListN.{length, drop}
-use Rattle.numbers.specs.Arr.{dotFrom}
+use Rattle.numbers.specs.Arr.{dot-from}
 use Rattle.numbers.proofs.arr.Laws.{sum-again, sum-two, sum-done}
 use Rattle.numbers.proofs.arr.add_products.Statement.{statement}
 use Rattle.numbers.proofs.arr.add_products.Tie as tie
 
 abbrev Inv-loop : tie.InvT-loop
-Inv-loop start a b from common s₀ i₀ s i = (i ≤ length a) × (dotFrom s (drop i a) (drop i b) ≡ dotFrom start (drop from a) (drop from b))
+Inv-loop start a b from common s₀ i₀ s i = (i ≤ length a) × (dot-from s (drop i a) (drop i b) ≡ dot-from start (drop from a) (drop from b))
 
 abbrev μ-loop : tie.MeasureT-loop
 μ-loop start a b from common s₀ i₀ s i = common - i

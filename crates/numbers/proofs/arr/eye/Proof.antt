@@ -5,7 +5,7 @@ use native.Mathlib.Omega.{arith}
 use borrow.Author.Tests.{ne-eqb, eq-eqb}
 use borrow.Author.Needs.{needs}
 use Rattle.numbers.specs.F64.{1ᶠ}
-use Rattle.numbers.specs.Arr.{diagOf}
+use Rattle.numbers.specs.Arr.{diag-of}
 use Rattle.numbers.specs.laws.Pick.{says-no, says-yes}
 use Rattle.numbers.specs.laws.Refusal.{failed, held, at-first, at-next, refuses, accepts}
 use Rattle.numbers.proofs.arr.Laws.{same-long, take-replicate, small, square}
@@ -58,7 +58,7 @@ returns-3 c =
     let n = c .before .before .before .before .before .before .before .before .before .args .n in
     let d = c .before .before .before .before .before .before .before .is-dimension in
     let h = c .before .before .before .before .before .before .if1 .left in
-    rw (c .before .before .diagonal-into .ensures ∙ ap (diagOf n) (take-replicate n 32 1ᶠ (small n (d .result) (d .ensures) h)))
+    rw (c .before .before .diagonal-into .ensures ∙ ap (diag-of n) (take-replicate n 32 1ᶠ (small n (d .result) (d .ensures) h)))
     (accepts _ _ _ (at-next (held _ _ (says-yes _ _ (d .ensures) h)) (held _ _ (eq-eqb _ _ (c .before .before .before .before .before .if2 .left)))) refl)
 
 pub eye-spec : {M : Type 1} → statement M

@@ -4,7 +4,7 @@ use Prim.Native.Nat.{_-_}
 use native.Mathlib.Omega.{arith}
 use lib.ListN.{length-set}
 use Rattle.numbers.specs.F64.{0ᶠ}
-use Rattle.numbers.specs.Arr.{dotFrom, rowOf}
+use Rattle.numbers.specs.Arr.{dot-from, row-of}
 use Rattle.numbers.specs.laws.Arr.{row-in, FilledTo, filled-start, filled-turn, filled-four, filled-done}
 use Rattle.numbers.specs.declared.arr.Four.{Four}
 use Rattle.numbers.proofs.arr.Laws.{block-in, multiplied}
@@ -13,7 +13,7 @@ use Rattle.numbers.proofs.arr.long_rows_into.Statement.{statement}
 use Rattle.numbers.proofs.arr.long_rows_into.Tie as tie
 
 abbrev Inv-loop : tie.InvT-loop
-Inv-loop n mat x out₀ i₀ out i = FilledTo (λ k. dotFrom 0ᶠ (rowOf n mat k) x) out₀ out i
+Inv-loop n mat x out₀ i₀ out i = FilledTo (λ k. dot-from 0ᶠ (row-of n mat k) x) out₀ out i
 
 abbrev μ-loop : tie.MeasureT-loop
 μ-loop n mat x out₀ i₀ out i = n - i

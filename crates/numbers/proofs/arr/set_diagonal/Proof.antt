@@ -5,19 +5,19 @@ use native.Mathlib.Omega.{arith}
 use borrow.Author.Needs.{needs}
 use lib.ListN.{length}
 use Rattle.numbers.specs.laws.Arr.{row-in}
-use Rattle.numbers.specs.Arr.{setDiag}
+use Rattle.numbers.specs.Arr.{set-diag}
 use Rattle.numbers.proofs.arr.Laws.{row-small, diagonal-turn, diagonal-done}
 use Rattle.numbers.proofs.arr.set_diagonal.Statement.{statement}
 use Rattle.numbers.proofs.arr.set_diagonal.Tie as tie
 
 abbrev Inv-loop : tie.InvT-loop
-Inv-loop n v out₀ i₀ out i = (i ≤ n) × (length out ≡ length out₀) × (out ≡ setDiag n v i out₀)
+Inv-loop n v out₀ i₀ out i = (i ≤ n) × (length out ≡ length out₀) × (out ≡ set-diag n v i out₀)
 
 abbrev μ-loop : tie.MeasureT-loop
 μ-loop n v out₀ i₀ out i = n - i
 
 loop-holds : tie.Need-loop-holds Inv-loop μ-loop
-unfolding setDiag
+unfolding set-diag
 loop-holds c = (search needs, refl, refl)
 
 mul-at : tie.Need-mul-at Inv-loop μ-loop

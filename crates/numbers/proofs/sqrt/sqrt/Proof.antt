@@ -3,7 +3,7 @@ use mathlib.Core.Path.{_≡_, sym, subst}
 use lib.Dec.{T}
 use lib.Ieee.{Float, binary64, fits}
 use lib.Ieee.Positive.{positive}
-use Rattle.numbers.specs.Sqrt.{sqrtOf, NearestRoot}
+use Rattle.numbers.specs.Sqrt.{sqrt-of, NearestRoot}
 use Rattle.numbers.specs.laws.Nearest.{sqrt-nearest}
 use Rattle.numbers.proofs.sqrt.Patterns.{nan-root, not-a-nan, negative-root, positive-root, normal-bits, positive-bits, other-root}
 use Rattle.numbers.proofs.sqrt.sqrt.Statement.{statement}
@@ -12,8 +12,8 @@ use Rattle.numbers.proofs.sqrt.sqrt.Tie as tie
 float-fits : (c : tie.Start) → T (fits binary64 (c .args .x))
 float-fits c = subst T (sym (c .good .0 .1)) tt
 
--- what is equal to `sqrtOf` is the nearest root
-both : (x r : Float) → T (fits binary64 x) → r ≡ sqrtOf x → (r ≡ sqrtOf x) × (T (positive x) → NearestRoot x r)
+-- what is equal to `sqrt-of` is the nearest root
+both : (x r : Float) → T (fits binary64 x) → r ≡ sqrt-of x → (r ≡ sqrt-of x) × (T (positive x) → NearestRoot x r)
 both x r f e = (e, λ p. subst (NearestRoot x) (sym e) (sqrt-nearest x f p))
 
 returns : tie.Need-returns

@@ -9,14 +9,14 @@ use lib.ListN.{length}
 use Rattle.numbers.specs.F64.{_⊖_, _⊗_}
 use Rattle.numbers.specs.Pick.{pick}
 use Rattle.numbers.specs.laws.Pick.{hit, skip}
-use Rattle.oracles.specs.Matrix.{entry}
+use Rattle.oracles.specs.Matrix.{nth}
 use Rattle.oracles.specs.laws.Loop.{VectorOf, swept, sweep-zero, sweep-turn, sweep-left, sweep-done}
 use Rattle.oracles.specs.laws.Ell.{row-lowered}
 use Rattle.oracles.proofs.ell.lower_row.Statement.{statement}
 use Rattle.oracles.proofs.ell.lower_row.Tie as tie
 
 abbrev Inv-loop : tie.InvT-loop
-Inv-loop row₀ r-qg gt i j₀ row j = (j ≤ i + 1) × VectorOf (length row₀) (swept (λ k. pick (leb k i) (entry row₀ k ⊖ r-qg ⊗ entry gt k) (entry row₀ k)) (λ k. entry row₀ k) j) row
+Inv-loop row₀ r-qg gt i j₀ row j = (j ≤ i + 1) × VectorOf (length row₀) (swept (λ k. pick (leb k i) (nth row₀ k ⊖ r-qg ⊗ nth gt k) (nth row₀ k)) (λ k. nth row₀ k) j) row
 
 abbrev μ-loop : tie.MeasureT-loop
 μ-loop row₀ r-qg gt i j₀ row j = i + 1 - j

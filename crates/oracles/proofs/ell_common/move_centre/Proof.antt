@@ -5,14 +5,14 @@ use native.Mathlib.Omega.{arith}
 use borrow.Author.Needs.{needs}
 use lib.ListN.{length}
 use Rattle.numbers.specs.F64.{_⊖_, _⊗_}
-use Rattle.oracles.specs.Matrix.{entry}
-use Rattle.oracles.specs.EllCommon.{centreOf}
+use Rattle.oracles.specs.Matrix.{nth}
+use Rattle.oracles.specs.EllCommon.{centre-of}
 use Rattle.oracles.specs.laws.Loop.{VectorOf, swept, sweep-zero, sweep-turn, sweep-left, sweep-done}
 use Rattle.oracles.proofs.ell_common.move_centre.Statement.{statement}
 use Rattle.oracles.proofs.ell_common.move_centre.Tie as tie
 
 abbrev Inv-loop : tie.InvT-loop
-Inv-loop xc₀ step dir i₀ xc i = (i ≤ length dir) × VectorOf (length xc₀) (swept (λ k. entry xc₀ k ⊖ step ⊗ entry dir k) (λ k. entry xc₀ k) i) xc
+Inv-loop xc₀ step dir i₀ xc i = (i ≤ length dir) × VectorOf (length xc₀) (swept (λ k. nth xc₀ k ⊖ step ⊗ nth dir k) (λ k. nth xc₀ k) i) xc
 
 abbrev μ-loop : tie.MeasureT-loop
 μ-loop xc₀ step dir i₀ xc i = length dir - i
@@ -53,7 +53,7 @@ same-length : tie.Need-same-length Inv-loop μ-loop
 same-length c = search needs
 
 returns : tie.Need-returns Inv-loop μ-loop
-unfolding centreOf
+unfolding centre-of
 returns c =
     let l = c .before .loop in
     sweep-done _ _ _ (l .i) (l .xc) (l .inv .1) (λ k b g. absurd (omega arith))

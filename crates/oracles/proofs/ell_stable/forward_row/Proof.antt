@@ -4,7 +4,7 @@ use Prim.Native.Nat.{_-_, _≤_}
 use native.Mathlib.Omega.{arith}
 use lib.ListN.{length}
 use Rattle.numbers.specs.F64.{_⊖_, _⊗_}
-use Rattle.oracles.specs.Matrix.{entry, total}
+use Rattle.oracles.specs.Matrix.{nth, total}
 use Rattle.oracles.specs.laws.Matrix.{total-turn, total-at}
 use Rattle.oracles.specs.laws.Loop.{VectorOf, swept, sweep-zero, sweep-turn, sweep-done}
 use borrow.Author.Needs.{needs}
@@ -12,7 +12,7 @@ use Rattle.oracles.proofs.ell_stable.forward_row.Statement.{statement}
 use Rattle.oracles.proofs.ell_stable.forward_row.Tie as tie
 
 abbrev Inv-loop : tie.InvT-loop
-Inv-loop row₀ column w start s₀ j₀ row s j = (j ≤ length row₀) × VectorOf (length row₀) (swept (λ k. entry column k ⊗ entry w k) (λ k. entry row₀ k) j) row × (s ≡ total _⊖_ start (λ k. entry column k ⊗ entry w k) j)
+Inv-loop row₀ column w start s₀ j₀ row s j = (j ≤ length row₀) × VectorOf (length row₀) (swept (λ k. nth column k ⊗ nth w k) (λ k. nth row₀ k) j) row × (s ≡ total _⊖_ start (λ k. nth column k ⊗ nth w k) j)
 
 abbrev μ-loop : tie.MeasureT-loop
 μ-loop row₀ column w start s₀ j₀ row s j = length row₀ - j

@@ -7,14 +7,14 @@ use lib.Ieee.{nan}
 use lib.ListN.{length, length-set}
 use lib.Seq.{getD-set-same}
 use Rattle.numbers.specs.F64.{_⊗_, _⊕_, 0ᶠ}
-use Rattle.oracles.specs.Matrix.{entry, total}
+use Rattle.oracles.specs.Matrix.{nth, total}
 use Rattle.oracles.specs.laws.Matrix.{total-turn, total-at}
 use Rattle.oracles.specs.laws.Loop.{VectorOf, swept, sweep-zero, sweep-turn, sweep-done}
 use Rattle.oracles.proofs.ell_stable.omega_into.Statement.{statement}
 use Rattle.oracles.proofs.ell_stable.omega_into.Tie as tie
 
 abbrev Inv-loop : tie.InvT-loop
-Inv-loop w z gg₀ omega₀ i₀ gg omega i = (i ≤ length w) × VectorOf (length gg₀) (swept (λ k. entry z k ⊗ entry w k) (λ k. entry gg₀ k) i) gg × (omega ≡ total _⊕_ 0ᶠ (λ k. entry z k ⊗ entry w k) i)
+Inv-loop w z gg₀ omega₀ i₀ gg omega i = (i ≤ length w) × VectorOf (length gg₀) (swept (λ k. nth z k ⊗ nth w k) (λ k. nth gg₀ k) i) gg × (omega ≡ total _⊕_ 0ᶠ (λ k. nth z k ⊗ nth w k) i)
 
 abbrev μ-loop : tie.MeasureT-loop
 μ-loop w z gg₀ omega₀ i₀ gg omega i = length w - i

@@ -4,14 +4,14 @@ use Prim.Native.Nat.{_-_}
 use native.Mathlib.Omega.{arith}
 use borrow.Author.Needs.{needs}
 use Rattle.numbers.specs.F64.{_⊗_}
-use Rattle.oracles.specs.Matrix.{entry, at}
+use Rattle.oracles.specs.Matrix.{nth, at}
 use Rattle.oracles.specs.laws.Matrix.{row-small, place-in}
 use Rattle.oracles.specs.laws.Loop.{VectorOf, swept, sweep-zero, sweep-turn, sweep-done}
 use Rattle.oracles.proofs.ell_stable.scale_into.Statement.{statement}
 use Rattle.oracles.proofs.ell_stable.scale_into.Tie as tie
 
 abbrev Inv-loop : tie.InvT-loop
-Inv-loop n mq w z₀ i₀ z i = VectorOf n (swept (λ k. entry w k ⊗ at n mq k k) (λ k. entry z₀ k) i) z
+Inv-loop n mq w z₀ i₀ z i = VectorOf n (swept (λ k. nth w k ⊗ at n mq k k) (λ k. nth z₀ k) i) z
 
 abbrev μ-loop : tie.MeasureT-loop
 μ-loop n mq w z₀ i₀ z i = n - i

@@ -8,7 +8,7 @@ use lib.Dec.{ltb}
 use Rattle.numbers.specs.F64.{_⊖_}
 use Rattle.numbers.specs.Pick.{pick}
 use Rattle.numbers.specs.laws.Pick.{hit, skip}
-use Rattle.oracles.specs.Matrix.{entry, at}
+use Rattle.oracles.specs.Matrix.{nth, at}
 use Rattle.oracles.specs.laws.Matrix.{row-small, place-in}
 use Rattle.oracles.specs.laws.Loop.{VectorOf, swept, sweep-start, sweep-left, sweep-turn, sweep-done}
 use Rattle.oracles.specs.laws.EllStable.{column-taken}
@@ -16,7 +16,7 @@ use Rattle.oracles.proofs.ell_stable.take_column.Statement.{statement}
 use Rattle.oracles.proofs.ell_stable.take_column.Tie as tie
 
 abbrev Inv-loop : tie.InvT-loop
-Inv-loop n mq v₀ j l₀ v l = (j < l) × VectorOf n (swept (λ k. pick (ltb j k) (entry v₀ k ⊖ at n mq k j) (entry v₀ k)) (λ k. entry v₀ k) l) v
+Inv-loop n mq v₀ j l₀ v l = (j < l) × VectorOf n (swept (λ k. pick (ltb j k) (nth v₀ k ⊖ at n mq k j) (nth v₀ k)) (λ k. nth v₀ k) l) v
 
 abbrev μ-loop : tie.MeasureT-loop
 μ-loop n mq v₀ j l₀ v l = n - l

@@ -6,7 +6,7 @@ use borrow.Author.Needs.{needs}
 use borrow.Author.Tests.{eq-eqb, ne-eqb}
 use lib.Dec.{eqb}
 use lib.ListN.{length, length-set}
-use Rattle.oracles.specs.Matrix.{entry}
+use Rattle.oracles.specs.Matrix.{nth}
 use Rattle.oracles.specs.laws.Loop.{VectorOf, swept, sweep-start, sweep-left, sweep-turn, sweep-done}
 use Rattle.oracles.proofs.ell_stable.Laws.{updated-from, row-done}
 use Rattle.oracles.proofs.ell_stable.update_row.Statement.{statement}
@@ -14,7 +14,7 @@ use Rattle.oracles.proofs.ell_stable.update_row.Tie as tie
 use Rattle.numbers.specs.laws.Pick.{hit, skip}
 
 abbrev Inv-loop : tie.InvT-loop
-Inv-loop row₀ ratio beta2 v l₀ row l = (0 < l) × VectorOf (length v) (swept (updated-from beta2 v row₀) (λ k. entry row₀ k) l) row
+Inv-loop row₀ ratio beta2 v l₀ row l = (0 < l) × VectorOf (length v) (swept (updated-from beta2 v row₀) (λ k. nth row₀ k) l) row
 
 abbrev μ-loop : tie.MeasureT-loop
 μ-loop row₀ ratio beta2 v l₀ row l = length v - l

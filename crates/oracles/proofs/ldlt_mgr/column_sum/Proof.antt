@@ -2,13 +2,13 @@
 use Prim.Native.Nat.{_+_, _-_}
 use borrow.Author.Needs.{needs}
 use Rattle.numbers.specs.F64.{_⊕_, _⊗_, 0ᶠ}
-use Rattle.oracles.specs.Matrix.{entry, at}
+use Rattle.oracles.specs.Matrix.{nth, at}
 use Rattle.oracles.specs.laws.Matrix.{SummedFrom, from-start, from-turn, from-done}
 use Rattle.oracles.proofs.ldlt_mgr.column_sum.Statement.{statement}
 use Rattle.oracles.proofs.ldlt_mgr.column_sum.Tie as tie
 
 abbrev Inv-loop : tie.InvT-loop
-Inv-loop m storage wit i end s₀ k₀ s k = SummedFrom _⊕_ 0ᶠ (λ k. at m storage k i ⊗ entry wit k) (i + 1) end s k
+Inv-loop m storage wit i end s₀ k₀ s k = SummedFrom _⊕_ 0ᶠ (λ k. at m storage k i ⊗ nth wit k) (i + 1) end s k
 
 abbrev μ-loop : tie.MeasureT-loop
 μ-loop m storage wit i end s₀ k₀ s k = end - k

@@ -5,7 +5,7 @@ use native.Mathlib.Omega.{arith}
 use borrow.Author.Needs.{needs}
 use lib.ListN.{length}
 use Rattle.numbers.specs.F64.{_⊖_, _⊗_}
-use Rattle.oracles.specs.Matrix.{entry, at, total}
+use Rattle.oracles.specs.Matrix.{nth, at, total}
 use Rattle.oracles.specs.LdltMgr.{get-elem}
 use Rattle.oracles.specs.laws.Matrix.{total-turn, total-at}
 use Rattle.oracles.proofs.ldlt_mgr.Laws.{small-f, place-f}
@@ -13,7 +13,7 @@ use Rattle.oracles.proofs.ldlt_mgr.get_elem.Statement.{statement}
 use Rattle.oracles.proofs.ldlt_mgr.get_elem.Tie as tie
 
 abbrev Inv-loop : tie.InvT-loop
-Inv-loop m mat-b mat-f xc i j s₀ k₀ s k = (k ≤ length xc) × (s ≡ total _⊖_ (at m mat-b i j) (λ k. entry mat-f (k * (m * m) + (i * m + j)) ⊗ entry xc k) k)
+Inv-loop m mat-b mat-f xc i j s₀ k₀ s k = (k ≤ length xc) × (s ≡ total _⊖_ (at m mat-b i j) (λ k. nth mat-f (k * (m * m) + (i * m + j)) ⊗ nth xc k) k)
 
 abbrev μ-loop : tie.MeasureT-loop
 μ-loop m mat-b mat-f xc i j s₀ k₀ s k = length xc - k

@@ -2,7 +2,7 @@
 use Prim.Native.Nat.{_-_}
 use borrow.Author.Needs.{needs}
 use Rattle.numbers.specs.F64.{_⊕_, 0ᶠ}
-use Rattle.oracles.specs.LdltMgr.{quad-term, quadOf}
+use Rattle.oracles.specs.LdltMgr.{quad-term, quad-of}
 use Rattle.oracles.specs.laws.Matrix.{SummedFrom, from-start, from-turn, from-done}
 use Rattle.oracles.proofs.ldlt_mgr.quad.Statement.{statement}
 use Rattle.oracles.proofs.ldlt_mgr.quad.Tie as tie
@@ -31,7 +31,7 @@ loop-again c =
     from-turn _ _ _ _ _ (l .result) (l .i) _ (l .inv) (search needs) (c .quad-row .ensures)
 
 returns : tie.Need-returns Inv-loop μ-loop
-unfolding quadOf
+unfolding quad-of
 returns c = let l = c .before .loop in from-done _ _ _ _ _ (l .result) (l .i) (l .inv) (search needs)
 
 pub quad-spec : {M : Type 1} → statement M

@@ -2,14 +2,14 @@
 use Prim.Native.Nat.{_+_, _-_}
 use borrow.Author.Needs.{needs}
 use Rattle.numbers.specs.F64.{_⊕_, _⊗_, 0ᶠ}
-use Rattle.oracles.specs.Matrix.{entry, at}
+use Rattle.oracles.specs.Matrix.{nth, at}
 use Rattle.oracles.specs.LdltMgr.{quad-term}
 use Rattle.oracles.specs.laws.Matrix.{SummedFrom, from-start, from-turn, from-done}
 use Rattle.oracles.proofs.ldlt_mgr.quad_row.Statement.{statement}
 use Rattle.oracles.proofs.ldlt_mgr.quad_row.Tie as tie
 
 abbrev Inv-loop : tie.InvT-loop
-Inv-loop m wit mat end i s₀ j₀ s j = SummedFrom _⊕_ 0ᶠ (λ k. at m mat i k ⊗ entry wit k) (i + 1) end s j
+Inv-loop m wit mat end i s₀ j₀ s j = SummedFrom _⊕_ 0ᶠ (λ k. at m mat i k ⊗ nth wit k) (i + 1) end s j
 
 abbrev μ-loop : tie.MeasureT-loop
 μ-loop m wit mat end i s₀ j₀ s j = end - j

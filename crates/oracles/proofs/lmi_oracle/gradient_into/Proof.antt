@@ -6,14 +6,14 @@ use native.Mathlib.Omega.{arith}
 use borrow.Author.Needs.{needs}
 use Rattle.numbers.specs.F64.{_⊗_, 1ᶠ}
 use Rattle.numbers.specs.laws.Arr.{row-in, FilledTo, filled-start, filled-turn, filled-done}
-use Rattle.oracles.specs.LdltMgr.{quadOf}
-use Rattle.oracles.specs.LmiOracle.{matOf}
+use Rattle.oracles.specs.LdltMgr.{quad-of}
+use Rattle.oracles.specs.LmiOracle.{mat-of}
 use Rattle.oracles.proofs.lmi_oracle.Laws.{end-small, part-long, quad-is, gradient-is}
 use Rattle.oracles.proofs.lmi_oracle.gradient_into.Statement.{statement}
 use Rattle.oracles.proofs.lmi_oracle.gradient_into.Tie as tie
 
 abbrev Inv-loop : tie.InvT-loop
-Inv-loop m n pos wit mat-f grad₀ size k₀ grad k = FilledTo (λ k. 1ᶠ ⊗ quadOf m pos wit (matOf m mat-f k)) grad₀ grad k
+Inv-loop m n pos wit mat-f grad₀ size k₀ grad k = FilledTo (λ k. 1ᶠ ⊗ quad-of m pos wit (mat-of m mat-f k)) grad₀ grad k
 
 abbrev μ-loop : tie.MeasureT-loop
 μ-loop m n pos wit mat-f grad₀ size k₀ grad k = n - k

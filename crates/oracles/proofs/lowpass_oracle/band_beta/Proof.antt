@@ -12,7 +12,7 @@ use Rattle.numbers.specs.F64.{_⊖_}
 use Rattle.numbers.specs.declared.cut.CutChoice.the-variants.{Single}
 use Rattle.numbers.specs.laws.Pick.{hit, skip}
 use Rattle.oracles.specs.declared.scan.Upper.{Upper}
-use Rattle.oracles.specs.declared.scan.Upper.the-variants.{Absent, At}
+use Rattle.oracles.specs.declared.scan.Upper.the-variants.{Absent, Limit}
 use Rattle.oracles.proofs.scan.Upper as B
 use Rattle.oracles.specs.Scan.{band-beta}
 use Rattle.oracles.proofs.lowpass_oracle.band_beta.Statement.{statement}
@@ -21,7 +21,7 @@ use Rattle.oracles.proofs.lowpass_oracle.band_beta.Tie as tie
 -- a limit with the key 0 is absent
 single : (v : Float) (over : Bool) (lower : Float) (upper : Upper) → OneOf (0 ∷ []) (tagOf B.the-type upper) → Single (lower ⊖ v) ≡ band-beta v over lower upper
 single v over lower Absent k = refl
-single v over lower (At u) k = let z : _≡_ {A = ℕ} 1 0 = k in absurd (omega arith)
+single v over lower (Limit u) k = let z : _≡_ {A = ℕ} 1 0 = k in absurd (omega arith)
 
 enum-told : tie.Need-enum-told
 enum-told c = search needs

@@ -6,12 +6,12 @@ use Rattle.oracles.specs.Scan.{none}
 use Rattle.oracles.specs.LowpassOracle.{fresh-cur}
 use Rattle.oracles.specs.declared.round_robin.RoundRobin.{RoundRobin}
 use Rattle.oracles.specs.declared.round_robin.CursorAnswer.{CursorAnswer}
-use Rattle.oracles.specs.declared.round_robin.CursorAnswer.the-variants.{At, Refused}
+use Rattle.oracles.specs.declared.round_robin.CursorAnswer.the-variants.{Accepted, Refused}
 use borrow.Author.Needs.{needs}
 use Rattle.oracles.proofs.lowpass_oracle.fresh_cur.Statement.{statement}
 use Rattle.oracles.proofs.lowpass_oracle.fresh_cur.Tie as tie
 
-at-fresh : (a : CursorAnswer) (rr : RoundRobin) (z : ℤ) → a ≡ At rr → z ≡ rr .cur → z ≡ fresh-cur a
+at-fresh : (a : CursorAnswer) (rr : RoundRobin) (z : ℤ) → a ≡ Accepted rr → z ≡ rr .cur → z ≡ fresh-cur a
 at-fresh a rr z e h = rw e h
 
 at-none : (a : CursorAnswer) (why : Refusal) → a ≡ Refused why → none ≡ fresh-cur a

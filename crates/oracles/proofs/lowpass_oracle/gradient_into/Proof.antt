@@ -9,7 +9,7 @@ use lib.Dec.{eqb}
 use lib.ListN.{length, take, drop, length-drop}
 use lib.Seq.{length-take-le}
 use lib.Ieee.{Float, neg}
-use Rattle.numbers.specs.Arr.{isDimension, rowOf, copy-from-tests, copy-from-answer}
+use Rattle.numbers.specs.Arr.{is-dimension, row-of, copy-from-tests, copy-from-answer}
 use Rattle.numbers.specs.laws.Refusal.{held, at-next, accepts}
 use Rattle.numbers.specs.declared.arr.Written.{Written}
 use Rattle.numbers.specs.laws.Pick.{hit, skip}
@@ -19,10 +19,10 @@ use Rattle.oracles.proofs.lowpass_oracle.gradient_into.Statement.{state
 use Rattle.oracles.proofs.lowpass_oracle.gradient_into.Tie as tie
 
 -- the part that is lent is the row
-row-is : (n row : ℕ) (table : List Float) → take (row * n + n - row * n) (drop (row * n) table) ≡ rowOf n table row
+row-is : (n row : ℕ) (table : List Float) → take (row * n + n - row * n) (drop (row * n) table) ≡ row-of n table row
 row-is n row table = let e : row * n + n - row * n ≡ n = omega arith in rw e
 
-row-long : (n row : ℕ) (table : List Float) → row * n + n ≤ length table → length (rowOf n table row) ≡ n
+row-long : (n row : ℕ) (table : List Float) → row * n + n ≤ length table → length (row-of n table row) ≡ n
 row-long n row table h = length-take-le n (drop (row * n) table) (rw (length-drop (row * n) table) (omega arith))
 
 copied : (n row : ℕ) (over : Bool) (table grad grad′ : List Float) {r : Written}
@@ -30,9 +30,9 @@ copied : (n row : ℕ) (over : Bool) (table grad grad′ : List Float) {r : Writ
     → 2 ≤ n → n ≤ 32 → row * n + n ≤ length table → length grad ≡ n → over ≡ true → grad′ ≡ band-gradient n table row over
 unfolding band-gradient
 copied n row over table grad grad′ e two most h long o =
-    let f : isDimension n ≡ true = rw (le-leb 2 n two, le-leb n 32 most) in
-    let q : (eqb (length grad) n && eqb (length (rowOf n table row)) n) ≡ true = rw (eq-eqb (length grad) n long, eq-eqb (length (rowOf n table row)) n (row-long n row table h)) in
-    hit over _ _ _ o (ap (λ (p : Written × List Float). p .1) (rw (row-is n row table) at e ∙ sym (accepts _ _ (copy-from-tests n grad (rowOf n table row)) (at-next (held _ _ f) (held _ _ q)) refl)))
+    let f : is-dimension n ≡ true = rw (le-leb 2 n two, le-leb n 32 most) in
+    let q : (eqb (length grad) n && eqb (length (row-of n table row)) n) ≡ true = rw (eq-eqb (length grad) n long, eq-eqb (length (row-of n table row)) n (row-long n row table h)) in
+    hit over _ _ _ o (ap (λ (p : Written × List Float). p .1) (rw (row-is n row table) at e ∙ sym (accepts _ _ (copy-from-tests n grad (row-of n table row)) (at-next (held _ _ f) (held _ _ q)) refl)))
 
 negated : (n row : ℕ) (over : Bool) (table grad′ : List Float) → grad′ ≡ map neg (take (row * n + n - row * n) (drop (row * n) table)) → over ≡ false → grad′ ≡ band-gradient n table row over
 unfolding band-gradient

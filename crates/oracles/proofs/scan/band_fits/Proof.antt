@@ -9,23 +9,23 @@ use lib.Signed.{leZ}
 use mir.Syntax.{w32}
 use mir.Val.{SFits, toZ, ofZ}
 use mir.Facts.{toZ-ofZ}
-use Rattle.oracles.specs.RoundRobin.{isBand}
-use Rattle.oracles.specs.Scan.{isRows, band-fits}
+use Rattle.oracles.specs.RoundRobin.{is-band}
+use Rattle.oracles.specs.Scan.{is-rows, band-fits}
 use Rattle.oracles.proofs.Signed.{read, pos-fits}
 use Rattle.oracles.proofs.scan.band_fits.Statement.{statement}
 use Rattle.oracles.proofs.scan.band_fits.Tie as tie
 use Rattle.numbers.specs.laws.Pick.{and-parts}
 
-module _ (rows : ℕ) (lo hi : ℤ) {t : Bool} (e : t ≡ isRows rows) where
+module _ (rows : ℕ) (lo hi : ℤ) {t : Bool} (e : t ≡ is-rows rows) where
   too-many : not t ≡ true → false ≡ band-fits rows lo hi
   too-many h = rw (sym e ∙ not-true t h)
 
   rows-fit : not t ≡ false → SFits w32 (pos rows)
   rows-fit h = pos-fits rows (leb-true rows 1024 (and-parts (leb 1 rows) (leb rows 1024) (sym e ∙ not-false t h) .1))
 
-  tests : not t ≡ false → SFits w32 lo → SFits w32 hi → {u : Bool} → u ≡ isBand (read lo) (read hi) → (u && leZ (read hi) (toZ w32 (ofZ w32 (pos rows)))) ≡ band-fits rows lo hi
+  tests : not t ≡ false → SFits w32 lo → SFits w32 hi → {u : Bool} → u ≡ is-band (read lo) (read hi) → (u && leZ (read hi) (toZ w32 (ofZ w32 (pos rows)))) ≡ band-fits rows lo hi
   tests h fl fh {u} q =
-      let b : u ≡ isBand lo hi = q ∙ (λ i. isBand (toZ-ofZ fl i) (toZ-ofZ fh i)) in
+      let b : u ≡ is-band lo hi = q ∙ (λ i. is-band (toZ-ofZ fl i) (toZ-ofZ fh i)) in
       rw (toZ-ofZ (rows-fit h), toZ-ofZ fh, b, sym e ∙ not-false t h)
 
 is-rows-requires : tie.Need-is-rows-requires

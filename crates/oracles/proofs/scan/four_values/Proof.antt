@@ -5,27 +5,27 @@ use Prim.Native.Nat.{ℕ, _+_, _-_, _*_}
 use native.Mathlib.Omega.{arith}
 use lib.Ieee.{Float}
 use lib.ListN.{take, drop}
-use Rattle.numbers.specs.Arr.{dotOf, fourOf}
+use Rattle.numbers.specs.Arr.{dot-of, four-of}
 use Rattle.numbers.specs.laws.Arr.{row-part}
 use Rattle.numbers.specs.declared.arr.Four.{Four}
-use Rattle.oracles.specs.Scan.{valueOf}
-use Rattle.oracles.specs.laws.ScanRun.{valuesOf}
+use Rattle.oracles.specs.Scan.{value-of}
+use Rattle.oracles.specs.laws.ScanRun.{four-values}
 use borrow.Author.Needs.{needs}
 use Rattle.oracles.proofs.scan.four_values.Statement.{statement}
 use Rattle.oracles.proofs.scan.four_values.Tie as tie
 
 -- four rows, each from its part of the table
 values : (n : ℕ) (table x : List Float) (i : ℕ) {r : Four}
-    → r ≡ fourOf (take (i * n + n - i * n) (drop (i * n) table)) (take (i * n + n + n - (i * n + n)) (drop (i * n + n) table))
+    → r ≡ four-of (take (i * n + n - i * n) (drop (i * n) table)) (take (i * n + n + n - (i * n + n)) (drop (i * n + n) table))
     (take (i * n + n + n + n - (i * n + n + n)) (drop (i * n + n + n) table)) (take (i * n + n + n + n + n - (i * n + n + n + n)) (drop (i * n + n + n + n) table)) x
-    → r ≡ valuesOf n table x i
-unfolding valueOf
+    → r ≡ four-values n table x i
+unfolding value-of
 values n table x i e =
     let p = row-part n i (i * n) (i * n + n) table refl refl in
     let q = row-part n (i + 1) (i * n + n) (i * n + n + n) table (omega arith) refl in
     let u = row-part n (i + 2) (i * n + n + n) (i * n + n + n + n) table (omega arith) refl in
     let w = row-part n (i + 3) (i * n + n + n + n) (i * n + n + n + n + n) table (omega arith) refl in
-    e ∙ (λ j. record { a = dotOf (p j) x; b = dotOf (q j) x; c = dotOf (u j) x; d = dotOf (w j) x })
+    e ∙ (λ j. record { a = dot-of (p j) x; b = dot-of (q j) x; c = dot-of (u j) x; d = dot-of (w j) x })
 
 mul-a : tie.Need-mul-a
 mul-a c = search needs

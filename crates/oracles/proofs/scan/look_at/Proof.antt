@@ -4,7 +4,7 @@ use mathlib.Core.Logic.{_⊎_, inl, inr}
 use Prim.Native.Nat.{ℕ, _*_}
 use native.Mathlib.Omega.{arith}
 use mir.Facts.{toZ-ofZ}
-use Rattle.oracles.specs.laws.ScanRun.{runOf}
+use Rattle.oracles.specs.laws.ScanRun.{scan-run}
 use Rattle.oracles.proofs.scan.Run.{as-judged, run-one}
 use Rattle.oracles.proofs.scan.look_at.Statement.{statement}
 use Rattle.oracles.proofs.scan.look_at.Tie as tie
@@ -24,7 +24,7 @@ returns : tie.Need-returns
 returns c =
     let s = c .before .before .before .before in
     let a = s .args in
-    rw (toZ-ofZ (s .fits .kmax)) at (c .look-at-four .ensures) ∙ ap (λ (m : ℕ). runOf (a .n) (a .table .now) (a .x .now) (a .lower) (a .limit) m (a .row) (a .fmax) (a .kmax)) (sym (c .before .if1 .taken))
+    rw (toZ-ofZ (s .fits .kmax)) at (c .look-at-four .ensures) ∙ ap (λ (m : ℕ). scan-run (a .n) (a .table .now) (a .x .now) (a .lower) (a .limit) m (a .row) (a .fmax) (a .kmax)) (sym (c .before .if1 .taken))
 
 row-value-requires : tie.Need-row-value-requires
 row-value-requires c κs =
@@ -42,7 +42,7 @@ returns-2 c =
     let a = s .args in
     run-one (a .n) (a .table .now) (a .x .now) (a .lower) (a .limit) (a .row) (a .fmax) (a .kmax)
     (as-judged (a .n) (a .table .now) (a .x .now) (a .lower) (a .limit) (a .fmax) refl (v .row-value .ensures) (toZ-ofZ (s .fits .kmax)) (c .test-row .ensures))
-    ∙ ap (λ (m : ℕ). runOf (a .n) (a .table .now) (a .x .now) (a .lower) (a .limit) m (a .row) (a .fmax) (a .kmax)) (sym (one (a .many) (s .pre .0) (v .before .if1 .left)))
+    ∙ ap (λ (m : ℕ). scan-run (a .n) (a .table .now) (a .x .now) (a .lower) (a .limit) m (a .row) (a .fmax) (a .kmax)) (sym (one (a .many) (s .pre .0) (v .before .if1 .left)))
 
 pub look-at-spec : {M : Type 1} → statement M
 look-at-spec =

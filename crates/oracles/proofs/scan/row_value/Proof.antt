@@ -4,17 +4,17 @@ use mathlib.Core.List.{List}
 use Prim.Native.Nat.{ℕ, _+_, _-_, _*_}
 use lib.Ieee.{Float}
 use lib.ListN.{take, drop}
-use Rattle.numbers.specs.Arr.{dotOf}
+use Rattle.numbers.specs.Arr.{dot-of}
 use Rattle.numbers.specs.laws.Arr.{row-part}
-use Rattle.oracles.specs.Scan.{valueOf}
+use Rattle.oracles.specs.Scan.{value-of}
 use borrow.Author.Needs.{needs}
 use Rattle.oracles.proofs.scan.row_value.Statement.{statement}
 use Rattle.oracles.proofs.scan.row_value.Tie as tie
 
 -- the part from i × n to i × n + n is row i
-row-is : (n : ℕ) (table x : List Float) (i : ℕ) → dotOf (take (i * n + n - i * n) (drop (i * n) table)) x ≡ valueOf n table x i
-unfolding valueOf
-row-is n table x i = ap (λ (l : List Float). dotOf l x) (row-part n i (i * n) (i * n + n) table refl refl)
+row-is : (n : ℕ) (table x : List Float) (i : ℕ) → dot-of (take (i * n + n - i * n) (drop (i * n) table)) x ≡ value-of n table x i
+unfolding value-of
+row-is n table x i = ap (λ (l : List Float). dot-of l x) (row-part n i (i * n) (i * n + n) table refl refl)
 
 mul-at : tie.Need-mul-at
 mul-at c = search needs

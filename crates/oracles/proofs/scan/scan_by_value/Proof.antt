@@ -7,7 +7,7 @@ use mir.Val.{SFits}
 use mir.Facts.{toZ-ofZ}
 use lib.Ieee.{Float}
 use mathlib.Core.List.{List}
-use Rattle.oracles.specs.Scan.{band-fits, scanOf, scan-band-answer}
+use Rattle.oracles.specs.Scan.{band-fits, scan-of, scan-band-answer}
 use Rattle.oracles.specs.declared.scan.Upper.{Upper}
 use Rattle.oracles.specs.declared.scan.Scan.{Scan}
 use Rattle.oracles.specs.declared.scan.ScanAnswer.{ScanAnswer}
@@ -28,7 +28,7 @@ band-read rows c fl fh e = e ∙ (λ i. band-fits rows (toZ-ofZ fl i) (toZ-ofZ f
 
 -- the cursor that is made of the scan's last row
 ends : (n rows : ℕ) (table x : List Float) (c : RoundRobin) (lower : Float) (upper : Upper) → Scannable n rows table x c
-    → (s : Scan) → s ≡ scanOf n table x c lower upper → SFits w32 (s .last) → SFits w32 (c .lo) → SFits w32 (c .hi)
+    → (s : Scan) → s ≡ scan-of n table x c lower upper → SFits w32 (s .last) → SFits w32 (c .lo) → SFits w32 (c .hi)
     → _≡_ {A = ScanAnswer × RoundRobin} (Scanned s, record { cur = read (s .last); lo = read (c .lo); hi = read (c .hi) }) (scan-band-answer n rows table x c lower upper)
 ends n rows table x c lower upper S s e f fl fh =
     rw (toZ-ofZ f, toZ-ofZ fl, toZ-ofZ fh) (rw e (scanned n rows table x c lower upper S))

@@ -9,7 +9,7 @@ use mir.Facts.{toZ-ofZ}
 use types.Run.{OneOf}
 use denote.Enum.Declared.{tagOf}
 use Rattle.oracles.specs.RoundRobin.{moved}
-use Rattle.oracles.specs.Scan.{scanOf, scan-band-answer}
+use Rattle.oracles.specs.Scan.{scan-of, scan-band-answer}
 use Rattle.oracles.specs.declared.round_robin.RoundRobin.{RoundRobin}
 use Rattle.oracles.specs.declared.scan.Upper.{Upper}
 use Rattle.oracles.specs.declared.scan.Scan.{Scan}
@@ -29,7 +29,7 @@ the-scan s (Refused why) = s
 module _ (n rows : ℕ) (table x : List Float) (c : RoundRobin) (lower : Float) (upper : Upper) (S : Scannable n rows table x c) {a : ScanAnswer} {d : RoundRobin}
     (e : _≡_ {A = ScanAnswer × RoundRobin} (a, d) (scan-band-answer n rows table x c lower upper)) where
   abbrev s : Scan
-  s = scanOf n table x c lower upper
+  s = scan-of n table x c lower upper
 
   both : _≡_ {A = ScanAnswer × RoundRobin} (a, d) (Scanned s, moved c (s .last))
   both = e ∙ sym (scanned n rows table x c lower upper S)

@@ -7,9 +7,9 @@ use mir.Syntax.{w32}
 use mir.Val.{toZ}
 use mir.Facts.{toZ-ofZ}
 use lib.IntN.{ℤ}
-use Rattle.oracles.specs.Scan.{scanFrom}
+use Rattle.oracles.specs.Scan.{scan-from}
 use Rattle.oracles.specs.laws.ScanRun.{Going}
-use Rattle.oracles.specs.declared.scan.Upper.the-variants.{At}
+use Rattle.oracles.specs.declared.scan.Upper.the-variants.{Limit}
 use Rattle.oracles.proofs.Signed.{cur-fits}
 use Rattle.oracles.proofs.scan.Turn.{clear, row-there, legal-there, row-before-past, rows-small, rows-in, ends, still, goes-on}
 use Rattle.oracles.proofs.scan.scan_rest.Statement.{statement}
@@ -17,7 +17,7 @@ use Rattle.oracles.proofs.scan.scan_rest.Tie as tie
 
 abbrev Inv-loop : tie.InvT-loop
 Inv-loop n table x count lower limit peak peak-row rr₀ fmax₀ kmax₀ left₀ rr fmax kmax left =
-    Going n table rr left × (scanFrom n table x lower (At limit) left rr fmax (toZ w32 kmax) ≡ scanFrom n table x lower (At limit) left₀ rr₀ fmax₀ (toZ w32 kmax₀))
+    Going n table rr left × (scan-from n table x lower (Limit limit) left rr fmax (toZ w32 kmax) ≡ scan-from n table x lower (Limit limit) left₀ rr₀ fmax₀ (toZ w32 kmax₀))
 
 abbrev μ-loop : tie.MeasureT-loop
 μ-loop n table x count lower limit peak peak-row rr₀ fmax₀ kmax₀ left₀ rr fmax kmax left = left
@@ -100,7 +100,7 @@ returns c =
     let st = i .before .before .before .before in
     let a = st .args in
     ends (a .x .now) (a .lower) (a .limit) (l .fmax) (toZ w32 (l .kmax)) (l .inv .0) (l .inv .1) (i .loop-test .taken) (s .step .ensures) (r .row-at .ensures) (p .band-past .ensures) (m .rows-together .ensures .1) (m .rows-together .ensures .2) (k .look-at .ensures) (sym (b .is-broken .ensures) ∙ c .if1 .taken)
-    ∙ ap (λ (k : ℤ). scanFrom (a .n) (a .table .now) (a .x .now) (a .lower) (At (a .limit)) (a .count) (a .start) (a .peak) k) (toZ-ofZ (st .fits .peak-row))
+    ∙ ap (λ (k : ℤ). scan-from (a .n) (a .table .now) (a .x .now) (a .lower) (Limit (a .limit)) (a .count) (a .start) (a .peak) k) (toZ-ofZ (st .fits .peak-row))
 
 moved-requires : tie.Need-moved-requires Inv-loop μ-loop
 moved-requires c κs = tt
@@ -141,7 +141,7 @@ returns-2 c =
     let a = st .args in
     rw (toZ-ofZ (cur-fits _ (l .inv .0 .legal)))
     (clear (a .x .now) (a .lower) (a .limit) (l .fmax) (toZ w32 (l .kmax)) (l .inv .0) (l .inv .1) (e .loop-test .left)
-    ∙ ap (λ (k : ℤ). scanFrom (a .n) (a .table .now) (a .x .now) (a .lower) (At (a .limit)) (a .count) (a .start) (a .peak) k) (toZ-ofZ (st .fits .peak-row)))
+    ∙ ap (λ (k : ℤ). scan-from (a .n) (a .table .now) (a .x .now) (a .lower) (Limit (a .limit)) (a .count) (a .start) (a .peak) k) (toZ-ofZ (st .fits .peak-row)))
 
 pub scan-rest-spec : {M : Type 1} → statement M
 scan-rest-spec =

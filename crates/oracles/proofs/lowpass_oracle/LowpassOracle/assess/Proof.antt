@@ -1,7 +1,7 @@
 -- `oracles::lowpass_oracle::LowpassOracle::assess` meets its contract. Assumes nothing.
 use mathlib.Core.Path.{sym, subst}
 use borrow.Author.Needs.{needs}
-use Rattle.oracles.specs.declared.scan.Upper.the-variants.{At}
+use Rattle.oracles.specs.declared.scan.Upper.the-variants.{Limit}
 use Rattle.oracles.specs.declared.lowpass_oracle.LowpassOracle.{LowpassOracle}
 use Rattle.oracles.specs.laws.Scan.{Scannable}
 use Rattle.oracles.proofs.lowpass_oracle.Steps.{nothing-of, least, most, row-fits, pass-passes, pass-breaks}
@@ -35,7 +35,7 @@ gradient-into-requires : tie.Need-gradient-into-requires
 gradient-into-requires c κs =
     let sr = c .before .before .before .before .before .before .before .before in
     let st = sr .before .before .before .before .before in
-    (least (st .pre .0), most (st .pre .0), row-fits (st .pre .0) (st .args .self .«lp_sq») (At (st .args .self .«up_sq»)) (sr .scan-ready .result .scan) (sr .scan-ready .ensures .0) _ _ _ (c .before .before .viol .given .1), st .pre .3)
+    (least (st .pre .0), most (st .pre .0), row-fits (st .pre .0) (st .args .self .«lp_sq») (Limit (st .args .self .«up_sq»)) (sr .scan-ready .result .scan) (sr .scan-ready .ensures .0) _ _ _ (c .before .before .viol .given .1), st .pre .3)
 
 band-beta-requires : tie.Need-band-beta-requires
 band-beta-requires c κs = tt

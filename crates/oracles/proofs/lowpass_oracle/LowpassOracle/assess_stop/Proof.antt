@@ -3,7 +3,7 @@ use mathlib.Core.Path.{sym, subst}
 use lib.Ieee
 use borrow.Author.Needs.{needs}
 use Rattle.numbers.specs.F64.{0ᶠ}
-use Rattle.oracles.specs.declared.scan.Upper.the-variants.{At}
+use Rattle.oracles.specs.declared.scan.Upper.the-variants.{Limit}
 use Rattle.oracles.specs.declared.lowpass_oracle.LowpassOracle.{LowpassOracle}
 use Rattle.oracles.specs.laws.Scan.{Scannable}
 use Rattle.oracles.proofs.lowpass_oracle.Steps.{nothing-of, least, most, row-fits, stop-passes, stop-breaks}
@@ -33,7 +33,7 @@ gradient-into-requires : tie.Need-gradient-into-requires
 gradient-into-requires c κs =
     let sr = c .before .before .before .before .before .before in
     let st = sr .before .before .before .before .before in
-    (least (st .pre .0), most (st .pre .0), row-fits (st .pre .0) 0ᶠ (At (st .args .self .«sp_sq»)) (sr .scan-ready .result .scan) (sr .scan-ready .ensures .0) _ _ _ (c .before .before .viol .given .1), st .pre .2)
+    (least (st .pre .0), most (st .pre .0), row-fits (st .pre .0) 0ᶠ (Limit (st .args .self .«sp_sq»)) (sr .scan-ready .result .scan) (sr .scan-ready .ensures .0) _ _ _ (c .before .before .viol .given .1), st .pre .2)
 
 band-beta-requires : tie.Need-band-beta-requires
 band-beta-requires c κs = tt

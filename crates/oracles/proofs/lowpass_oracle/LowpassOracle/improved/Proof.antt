@@ -17,7 +17,7 @@ use Rattle.numbers.specs.declared.cut.CutChoice.the-variants.{Parallel}
 use Rattle.numbers.specs.declared.refusal.Refusal.the-variants.{NoStopValue}
 use Rattle.numbers.specs.laws.Pick.{hit, skip}
 use Rattle.oracles.specs.Scan.{band-gradient}
-use Rattle.oracles.specs.LowpassOracle.{improvedOf}
+use Rattle.oracles.specs.LowpassOracle.{improved-of}
 use Rattle.oracles.specs.declared.lowpass_oracle.LowpassOracle.{LowpassOracle}
 use Rattle.oracles.specs.declared.lowpass_oracle.AssessedOptim.{AssessedOptim}
 use Rattle.oracles.specs.declared.lowpass_oracle.OptimVerdict.the-variants.{Improved, Refused}
@@ -31,13 +31,13 @@ not-below (pos n) h = tt
 not-below (negsuc n) h = absurd (true≢false h)
 
 module _ (o : LowpassOracle) (gamma : Float) (o′ : LowpassOracle) (n : ℕ) (table grad : List Float) (f : SFits w32 (o′ .kmax)) where
-  refused : ltZ (read (o′ .kmax)) (pos 0) ≡ true → _≡_ {A = AssessedOptim × List Float} (record { oracle = o; gamma = gamma; verdict = Refused NoStopValue }, grad) (improvedOf o gamma o′ n table grad)
-  unfolding improvedOf
+  refused : ltZ (read (o′ .kmax)) (pos 0) ≡ true → _≡_ {A = AssessedOptim × List Float} (record { oracle = o; gamma = gamma; verdict = Refused NoStopValue }, grad) (improved-of o gamma o′ n table grad)
+  unfolding improved-of
   refused h = hit _ _ _ _ (rw (toZ-ofZ f) at h) refl
 
   improved : ltZ (read (o′ .kmax)) (pos 0) ≡ false → (grad′ : List Float) → grad′ ≡ band-gradient n table (natAbs (read (o′ .kmax))) true
-      → _≡_ {A = AssessedOptim × List Float} (record { oracle = o′; gamma = o′ .fmax; verdict = Improved (Parallel 0ᶠ (o′ .fmax)) }, grad′) (improvedOf o gamma o′ n table grad)
-  unfolding improvedOf band-gradient pick
+      → _≡_ {A = AssessedOptim × List Float} (record { oracle = o′; gamma = o′ .fmax; verdict = Improved (Parallel 0ᶠ (o′ .fmax)) }, grad′) (improved-of o gamma o′ n table grad)
+  unfolding improved-of band-gradient pick
   improved h grad′ e = skip _ _ _ _ (rw (toZ-ofZ f) at h) (rw (e, toZ-ofZ f))
 
 returns : tie.Need-returns

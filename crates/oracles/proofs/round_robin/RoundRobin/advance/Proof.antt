@@ -5,10 +5,10 @@ use lib.Signed.{ltZ}
 use mir.Syntax.{w32}
 use mir.Val.{SFits}
 use mir.Facts.{toZ-ofZ}
-use Rattle.oracles.specs.RoundRobin.{isBand, isAt, advanced, advance-answer}
+use Rattle.oracles.specs.RoundRobin.{is-band, is-at, advanced, advance-answer}
 use Rattle.oracles.specs.laws.RoundRobin.{legal-of}
 use Rattle.oracles.specs.declared.round_robin.RoundRobin.{RoundRobin}
-use Rattle.oracles.specs.declared.round_robin.CursorAnswer.the-variants.{At, Refused}
+use Rattle.oracles.specs.declared.round_robin.CursorAnswer.the-variants.{Accepted, Refused}
 use Rattle.numbers.specs.declared.refusal.Refusal.the-variants.{Band, Cursor}
 use Rattle.numbers.specs.laws.Pick.{and-parts, says-no, says-yes}
 use Rattle.numbers.specs.laws.Refusal.{failed, held, at-first, at-next, refuses, accepts}
@@ -17,7 +17,7 @@ use Rattle.oracles.proofs.round_robin.RoundRobin.advance.Statement.{sta
 use Rattle.oracles.proofs.round_robin.RoundRobin.advance.Tie as tie
 
 -- lo and hi fit, and are read back as they are
-module _ (self : RoundRobin) (fl : SFits w32 (self .lo)) (fh : SFits w32 (self .hi)) {t : Bool} (e : t ≡ isBand (read (self .lo)) (read (self .hi))) where
+module _ (self : RoundRobin) (fl : SFits w32 (self .lo)) (fh : SFits w32 (self .hi)) {t : Bool} (e : t ≡ is-band (read (self .lo)) (read (self .hi))) where
   is-lo : read (self .lo) ≡ self .lo
   is-lo = toZ-ofZ fl
 
@@ -28,23 +28,23 @@ module _ (self : RoundRobin) (fl : SFits w32 (self .lo)) (fh : SFits w32 (self .
   abbrev tested : Bool
   tested = t && ltZ (read (self .lo)) (read (self .hi))
 
-  whole : tested ≡ (isBand (self .lo) (self .hi) && ltZ (self .lo) (self .hi))
-  whole = λ i. (e ∙ (λ j. isBand (is-lo j) (is-hi j))) i && ltZ (is-lo i) (is-hi i)
+  whole : tested ≡ (is-band (self .lo) (self .hi) && ltZ (self .lo) (self .hi))
+  whole = λ i. (e ∙ (λ j. is-band (is-lo j) (is-hi j))) i && ltZ (is-lo i) (is-hi i)
 
-  band : not tested ≡ false → isBand (self .lo) (self .hi) ≡ true
-  band h = and-parts (isBand (self .lo) (self .hi)) (ltZ (self .lo) (self .hi)) (says-yes tested _ whole h) .0
+  band : not tested ≡ false → is-band (self .lo) (self .hi) ≡ true
+  band h = and-parts (is-band (self .lo) (self .hi)) (ltZ (self .lo) (self .hi)) (says-yes tested _ whole h) .0
 
   no-band : not tested ≡ true → Refused Band ≡ advance-answer self
   unfolding advance-answer
   no-band h = refuses _ _ _ (at-first _ (failed (says-no tested _ whole h))) refl
 
-  no-cursor : not tested ≡ false → {u : Bool} → u ≡ isAt self → not u ≡ true → Refused Cursor ≡ advance-answer self
+  no-cursor : not tested ≡ false → {u : Bool} → u ≡ is-at self → not u ≡ true → Refused Cursor ≡ advance-answer self
   unfolding advance-answer
   no-cursor h a k = refuses _ _ _ (at-next (held _ _ (says-yes tested _ whole h)) (failed (says-no _ _ a k))) refl
 
-  goes : not tested ≡ false → {u : Bool} → u ≡ isAt self → not u ≡ false → (r : RoundRobin) → r ≡ advanced self → At r ≡ advance-answer self
+  goes : not tested ≡ false → {u : Bool} → u ≡ is-at self → not u ≡ false → (r : RoundRobin) → r ≡ advanced self → Accepted r ≡ advance-answer self
   unfolding advance-answer
-  goes h a k r q = accepts _ _ _ (at-next (held _ _ (says-yes tested _ whole h)) (held _ _ (says-yes _ _ a k))) (ap At q)
+  goes h a k r q = accepts _ _ _ (at-next (held _ _ (says-yes tested _ whole h)) (held _ _ (says-yes _ _ a k))) (ap Accepted q)
 
 is-band-requires : tie.Need-is-band-requires
 is-band-requires c κs = tt

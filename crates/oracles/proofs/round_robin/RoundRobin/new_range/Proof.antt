@@ -6,8 +6,8 @@ use lib.Signed.{leZ}
 use mir.Syntax.{w32}
 use mir.Val.{SFits}
 use mir.Facts.{toZ-ofZ}
-use Rattle.oracles.specs.RoundRobin.{isBand, new-range-answer}
-use Rattle.oracles.specs.declared.round_robin.CursorAnswer.the-variants.{At, Refused}
+use Rattle.oracles.specs.RoundRobin.{is-band, new-range-answer}
+use Rattle.oracles.specs.declared.round_robin.CursorAnswer.the-variants.{Accepted, Refused}
 use Rattle.numbers.specs.declared.refusal.Refusal.the-variants.{Band}
 use Rattle.numbers.specs.laws.Pick.{and-parts, says-no, says-yes}
 use Rattle.numbers.specs.laws.Refusal.{failed, held, refuses, accepts}
@@ -19,9 +19,9 @@ is-band-requires : tie.Need-is-band-requires
 is-band-requires c κs = tt
 
 -- both numbers fit, and are read back as they are
-module _ {lo hi : ℤ} (fl : SFits w32 lo) (fh : SFits w32 hi) {t : Bool} (e : t ≡ isBand (read lo) (read hi)) where
-  same : t ≡ isBand lo hi
-  same = e ∙ (λ i. isBand (toZ-ofZ fl i) (toZ-ofZ fh i))
+module _ {lo hi : ℤ} (fl : SFits w32 lo) (fh : SFits w32 hi) {t : Bool} (e : t ≡ is-band (read lo) (read hi)) where
+  same : t ≡ is-band lo hi
+  same = e ∙ (λ i. is-band (toZ-ofZ fl i) (toZ-ofZ fh i))
 
   before-fits : not t ≡ false → SFits w32 (read lo -ℤ pos 1)
   before-fits h = rw (toZ-ofZ fl) (pred-fits lo (and-parts (leZ (pos 0) lo) (leZ lo hi) (and-parts (leZ (pos 0) lo && leZ lo hi) (leZ hi (pos 1024)) (says-yes t _ same h) .0) .0) fl)
@@ -30,7 +30,7 @@ module _ {lo hi : ℤ} (fl : SFits w32 lo) (fh : SFits w32 hi) {t : Bool} (e : t
   unfolding new-range-answer
   refused h = refuses _ _ _ (failed (says-no t _ same h)) refl
 
-  made : not t ≡ false → At (record { cur = read (read lo -ℤ pos 1); lo = read lo; hi = read hi }) ≡ new-range-answer lo hi
+  made : not t ≡ false → Accepted (record { cur = read (read lo -ℤ pos 1); lo = read lo; hi = read hi }) ≡ new-range-answer lo hi
   unfolding new-range-answer
   made h = accepts _ _ _ (held _ _ (says-yes t _ same h)) (rw (toZ-ofZ (before-fits h), toZ-ofZ fl, toZ-ofZ fh))
 

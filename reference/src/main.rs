@@ -21,17 +21,17 @@ use std::io::{self, BufReader, BufWriter, ErrorKind};
 use std::process::ExitCode;
 
 const USAGE: &str = "usage:
-  oracle gen LAYER --seed S --count N [--only OP[,OP..]]   write a list to standard output
-  oracle gate LAYER                                        write the list that the gate replays
-  oracle check-sqrt                                        check the roots of a list
-  oracle count                                             count a list's cases and answers
-  oracle show                                              print a list as text
-  oracle filterrun                                         run a job as the program does
-  oracle compare-runs --program PATH --seed S --count N    compare a program's texts with the Rust's
-  oracle job-to-text                                       a job or answer record as plain text
-  oracle job-from-text                                     and back
-  oracle example lowpass --n N [--rows R] ..               a real filter's job, see examples/README.md
-  oracle answer                                            run a job and write its answer record
+  reference gen LAYER --seed S --count N [--only OP[,OP..]]   write a list to standard output
+  reference gate LAYER                                        write the list that the gate replays
+  reference check-sqrt                                        check the roots of a list
+  reference count                                             count a list's cases and answers
+  reference show                                              print a list as text
+  reference filterrun                                         run a job as the program does
+  reference compare-runs --program PATH --seed S --count N    compare a program's texts with the Rust's
+  reference job-to-text                                       a job or answer record as plain text
+  reference job-from-text                                     and back
+  reference example lowpass --n N [--rows R] ..               a real filter's job, see examples/README.md
+  reference answer                                            run a job and write its answer record
 layers: numbers, oracles, drivers";
 
 fn main() -> ExitCode {

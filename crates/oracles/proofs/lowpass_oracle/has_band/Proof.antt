@@ -1,8 +1,8 @@
--- `oracles::lowpass_oracle::is_of` meets its contract. Assumes nothing.
+-- `oracles::lowpass_oracle::has_band` meets its contract. Assumes nothing.
 use mathlib.Core.Bool.{_&&_}
 use Rattle.oracles.proofs.Signed.{eq-bits}
-use Rattle.oracles.proofs.lowpass_oracle.is_of.Statement.{statement}
-use Rattle.oracles.proofs.lowpass_oracle.is_of.Tie as tie
+use Rattle.oracles.proofs.lowpass_oracle.has_band.Statement.{statement}
+use Rattle.oracles.proofs.lowpass_oracle.has_band.Tie as tie
 
 returns : tie.Need-returns
 returns c =
@@ -10,5 +10,5 @@ returns c =
     let g = c .struct-told2 .given in
     λ i. eq-bits (s .args .rr .lo) (s .args .lo) (record { sfits = g .1 .0 .1 }) (s .fits .lo) i && eq-bits (s .args .rr .hi) (s .args .hi) (record { sfits = g .1 .1 .0 .1 }) (s .fits .hi) i
 
-pub is-of-spec : {M : Type 1} → statement M
-is-of-spec = tie.close (tie.spec returns)
+pub has-band-spec : {M : Type 1} → statement M
+has-band-spec = tie.close (tie.spec returns)
