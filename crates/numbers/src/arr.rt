@@ -74,10 +74,7 @@ pub fn dot(n: usize, a: &[f64], b: &[f64]) -> Number
     if !is_dimension(n) {
         return Number::Refused(Refusal::Dimension);
     }
-    if a.len() != n {
-        return Number::Refused(Refusal::Length);
-    }
-    if b.len() != n {
+    if !((a.len() == n) & (b.len() == n)) {
         return Number::Refused(Refusal::Length);
     }
     Number::Value(dot_zip(a, b))
@@ -236,13 +233,7 @@ pub fn dot_mv_into(n: usize, mat: &[f64], x: &[f64], out: &mut [f64]) -> Written
     if !is_dimension(n) {
         return Written::Refused(Refusal::Dimension);
     }
-    if mat.len() != n * n {
-        return Written::Refused(Refusal::Length);
-    }
-    if x.len() != n {
-        return Written::Refused(Refusal::Length);
-    }
-    if out.len() != n {
+    if !((mat.len() == n * n) & (x.len() == n) & (out.len() == n)) {
         return Written::Refused(Refusal::Length);
     }
     rows_into(n, mat, x, out);
@@ -266,10 +257,7 @@ pub fn copy_from(n: usize, dst: &mut [f64], src: &[f64]) -> Written
     if !is_dimension(n) {
         return Written::Refused(Refusal::Dimension);
     }
-    if dst.len() != n {
-        return Written::Refused(Refusal::Length);
-    }
-    if src.len() != n {
+    if !((dst.len() == n) & (src.len() == n)) {
         return Written::Refused(Refusal::Length);
     }
     copy_all(dst, src);
@@ -314,7 +302,7 @@ pub fn eye(n: usize, out: &mut [f64]) -> Written
     if !is_dimension(n) {
         return Written::Refused(Refusal::Dimension);
     }
-    if out.len() != n * n {
+    if !(out.len() == n * n) {
         return Written::Refused(Refusal::Length);
     }
     let ones = [1.0f64; 32];
@@ -328,10 +316,7 @@ pub fn from_diag(n: usize, v: &[f64], out: &mut [f64]) -> Written
     if !is_dimension(n) {
         return Written::Refused(Refusal::Dimension);
     }
-    if v.len() != n {
-        return Written::Refused(Refusal::Length);
-    }
-    if out.len() != n * n {
+    if !((v.len() == n) & (out.len() == n * n)) {
         return Written::Refused(Refusal::Length);
     }
     diagonal_into(n, v, out);

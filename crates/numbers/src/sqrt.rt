@@ -115,8 +115,8 @@ fn guess(x: f64, bits: u64) -> f64
     requires { ⌜ bits < 0x7ff0_0000_0000_0000 ⌝ }
 {
     let y = f64::from_bits(0x5fe4_0000_0000_0000 - bits / 2);
-    let large = f64::from_bits(0x21b7_a000_0000_0000 + bits / 2);
     let g0 = x * y;
+    let large = g0 * 2e8;
     let r1 = 1.68191 - g0 * (0.70395 * y);
     let g1 = g0 * r1;
     let h1 = 0.5 * y * r1;

@@ -1,10 +1,8 @@
 -- `numbers::arr::copy_from` meets its contract. Assumes nothing.
-use mathlib.Core.Path.{refl}
-use borrow.Author.Tests.{ne-eqb, eq-eqb}
+use mathlib.Core.Path.{refl, sym, _∙_}
 use borrow.Author.Needs.{needs}
-use Rattle.numbers.specs.laws.Pick.{says-no, says-yes}
-use Rattle.numbers.specs.laws.Refusal.{failed, held, at-first, at-next, refuses, accepts}
-use Rattle.numbers.proofs.arr.Laws.{no-left, no-right, both}
+use Rattle.numbers.specs.laws.Refusal.{refuses, accepts}
+use Rattle.numbers.proofs.arr.Sized.{no-dimension, no-length, all-fit, two-fit}
 use Rattle.numbers.proofs.arr.copy_from.Statement.{statement}
 use Rattle.numbers.proofs.arr.copy_from.Tie as tie
 
@@ -12,42 +10,23 @@ is-dimension-requires : tie.Need-is-dimension-requires
 is-dimension-requires c κs = search needs
 
 returns : tie.Need-returns
-returns c =
-    let d = c .before .is-dimension in
-    refuses _ _ _ (at-first _ (failed (says-no _ _ (d .ensures) (c .if1 .taken)))) refl
+returns c = refuses _ _ _ (no-dimension _ _ _ (c .before .is-dimension .ensures) (c .if1 .taken)) refl
 
 returns-2 : tie.Need-returns-2
-returns-2 c =
-    let d = c .before .before .is-dimension in
-    refuses _ _ _ (at-next (held _ _ (says-yes _ _ (d .ensures) (c .before .if1 .left))) (failed (no-left _ _ (ne-eqb _ _ (c .if2 .taken))))) refl
-
-returns-3 : tie.Need-returns-3
-returns-3 c =
-    let d = c .before .before .before .is-dimension in
-    refuses _ _ _ (at-next (held _ _ (says-yes _ _ (d .ensures) (c .before .before .if1 .left))) (failed (no-right _ _ (eq-eqb _ _ (c .before .if2 .left)) (ne-eqb _ _ (c .if3 .taken))))) refl
+returns-2 c = refuses _ _ _ (no-length _ _ _ (c .before .before .is-dimension .ensures) (c .before .if1 .left) (c .if2 .taken)) refl
 
 copy-all-requires : tie.Need-copy-all-requires
-copy-all-requires c κs = search needs
+copy-all-requires c κs = let e = two-fit _ _ _ _ (c .before .if2 .left) in e .0 ∙ sym (e .1)
 
 same-length : tie.Need-same-length
 same-length c = search needs
 
-returns-4 : tie.Need-returns-4
-returns-4 c =
+returns-3 : tie.Need-returns-3
+returns-3 c =
     let e = c .before .before .before .before in
-    let d = e .before .before .before .is-dimension in
-    let known = says-yes _ _ (d .ensures) (e .before .before .if1 .left) in
-    let fit = both _ _ (eq-eqb _ _ (e .before .if2 .left)) (eq-eqb _ _ (e .if3 .left)) in
-    rw (c .before .before .copy-all .ensures) (accepts _ _ _ (at-next (held _ _ known) (held _ _ fit)) refl)
+    rw (c .before .before .copy-all .ensures) (accepts _ _ _ (all-fit _ _ _ (e .before .before .is-dimension .ensures) (e .before .if1 .left) (e .if2 .left)) refl)
 
 pub copy-from-spec : {M : Type 1} → statement M
 copy-from-spec =
     tie.close
-    (tie.spec
-    is-dimension-requires
-    returns
-    returns-2
-    returns-3
-    copy-all-requires
-    same-length
-    returns-4)
+    (tie.spec is-dimension-requires returns returns-2 copy-all-requires same-length returns-3)

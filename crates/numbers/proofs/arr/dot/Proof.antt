@@ -1,11 +1,9 @@
 -- `numbers::arr::dot` meets its contract. Assumes nothing.
 use mathlib.Core.Path.{refl, ap, _∙_}
-use borrow.Author.Tests.{ne-eqb, eq-eqb}
 use borrow.Author.Needs.{needs}
-use Rattle.numbers.specs.laws.Pick.{says-no, says-yes}
-use Rattle.numbers.specs.laws.Refusal.{failed, held, at-first, at-next, refuses, accepts}
 use Rattle.numbers.specs.declared.arr.Number.the-variants.{Value}
-use Rattle.numbers.proofs.arr.Laws.{no-left, no-right, both}
+use Rattle.numbers.specs.laws.Refusal.{refuses, accepts}
+use Rattle.numbers.proofs.arr.Sized.{no-dimension, no-length, all-fit}
 use Rattle.numbers.proofs.arr.dot.Statement.{statement}
 use Rattle.numbers.proofs.arr.dot.Tie as tie
 
@@ -13,32 +11,18 @@ is-dimension-requires : tie.Need-is-dimension-requires
 is-dimension-requires c κs = search needs
 
 returns : tie.Need-returns
-returns c =
-    let d = c .before .is-dimension in
-    refuses _ _ _ (at-first _ (failed (says-no _ _ (d .ensures) (c .if1 .taken)))) refl
+returns c = refuses _ _ _ (no-dimension _ _ _ (c .before .is-dimension .ensures) (c .if1 .taken)) refl
 
 returns-2 : tie.Need-returns-2
-returns-2 c =
-    let d = c .before .before .is-dimension in
-    refuses _ _ _ (at-next (held _ _ (says-yes _ _ (d .ensures) (c .before .if1 .left))) (failed (no-left _ _ (ne-eqb _ _ (c .if2 .taken))))) refl
-
-returns-3 : tie.Need-returns-3
-returns-3 c =
-    let d = c .before .before .before .is-dimension in
-    refuses _ _ _ (at-next (held _ _ (says-yes _ _ (d .ensures) (c .before .before .if1 .left))) (failed (no-right _ _ (eq-eqb _ _ (c .before .if2 .left)) (ne-eqb _ _ (c .if3 .taken))))) refl
+returns-2 c = refuses _ _ _ (no-length _ _ _ (c .before .before .is-dimension .ensures) (c .before .if1 .left) (c .if2 .taken)) refl
 
 dot-zip-requires : tie.Need-dot-zip-requires
 dot-zip-requires c κs = search needs
 
-returns-4 : tie.Need-returns-4
-returns-4 c =
+returns-3 : tie.Need-returns-3
+returns-3 c =
     let e = c .before in
-    let d = e .before .before .before .is-dimension in
-    let known = says-yes _ _ (d .ensures) (e .before .before .if1 .left) in
-    let fit = both _ _ (eq-eqb _ _ (e .before .if2 .left)) (eq-eqb _ _ (e .if3 .left)) in
-    ap Value (c .dot-zip .ensures) ∙ accepts _ _ _ (at-next (held _ _ known) (held _ _ fit)) refl
+    ap Value (c .dot-zip .ensures) ∙ accepts _ _ _ (all-fit _ _ _ (e .before .before .is-dimension .ensures) (e .before .if1 .left) (e .if2 .left)) refl
 
 pub dot-spec : {M : Type 1} → statement M
-dot-spec =
-    tie.close
-    (tie.spec is-dimension-requires returns returns-2 returns-3 dot-zip-requires returns-4)
+dot-spec = tie.close (tie.spec is-dimension-requires returns returns-2 dot-zip-requires returns-3)

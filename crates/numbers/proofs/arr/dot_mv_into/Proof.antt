@@ -1,12 +1,14 @@
 -- `numbers::arr::dot_mv_into` meets its contract. Assumes nothing.
 use mathlib.Core.Path.{refl}
 use native.Mathlib.Omega.{arith}
-use borrow.Author.Tests.{ne-eqb, eq-eqb}
+use mathlib.Core.Bool.{and-eq-true-iff}
+use borrow.Author.Tests.{not-false, eqb-true}
 use borrow.Author.Needs.{needs}
 use Rattle.numbers.specs.laws.Arr.{dimension-least, dimension-most}
-use Rattle.numbers.specs.laws.Pick.{says-no, says-yes}
-use Rattle.numbers.specs.laws.Refusal.{failed, held, at-first, at-next, refuses, accepts}
-use Rattle.numbers.proofs.arr.Laws.{small, square, no-left, no-right, both}
+use Rattle.numbers.specs.laws.Pick.{says-yes}
+use Rattle.numbers.proofs.arr.Laws.{small, square}
+use Rattle.numbers.specs.laws.Refusal.{refuses, accepts}
+use Rattle.numbers.proofs.arr.Sized.{no-dimension, no-length, all-fit}
 use Rattle.numbers.proofs.arr.dot_mv_into.Statement.{statement}
 use Rattle.numbers.proofs.arr.dot_mv_into.Tie as tie
 
@@ -14,9 +16,7 @@ is-dimension-requires : tie.Need-is-dimension-requires
 is-dimension-requires c κs = search needs
 
 returns : tie.Need-returns
-returns c =
-    let d = c .before .is-dimension in
-    refuses _ _ _ (at-first _ (failed (says-no _ _ (d .ensures) (c .if1 .taken)))) refl
+returns c = refuses _ _ _ (no-dimension _ _ _ (c .before .is-dimension .ensures) (c .if1 .taken)) refl
 
 mul-if2 : tie.Need-mul-if2
 mul-if2 c =
@@ -25,37 +25,23 @@ mul-if2 c =
     omega (arith, square n (small n (d .result) (d .ensures) (c .if1 .left)))
 
 returns-2 : tie.Need-returns-2
-returns-2 c =
-    let d = c .before .before .is-dimension in
-    refuses _ _ _ (at-next (held _ _ (says-yes _ _ (d .ensures) (c .before .if1 .left))) (failed (no-left _ _ (no-left _ _ (ne-eqb _ _ (c .if2 .taken)))))) refl
-
-returns-3 : tie.Need-returns-3
-returns-3 c =
-    let d = c .before .before .before .is-dimension in
-    refuses _ _ _ (at-next (held _ _ (says-yes _ _ (d .ensures) (c .before .before .if1 .left))) (failed (no-left _ _ (no-right _ _ (eq-eqb _ _ (c .before .if2 .left)) (ne-eqb _ _ (c .if3 .taken)))))) refl
-
-returns-4 : tie.Need-returns-4
-returns-4 c =
-    let d = c .before .before .before .before .is-dimension in
-    refuses _ _ _ (at-next (held _ _ (says-yes _ _ (d .ensures) (c .before .before .before .if1 .left))) (failed (no-right _ _ (both _ _ (eq-eqb _ _ (c .before .before .if2 .left)) (eq-eqb _ _ (c .before .if3 .left))) (ne-eqb _ _ (c .if4 .taken))))) refl
+returns-2 c = refuses _ _ _ (no-length _ _ _ (c .before .before .is-dimension .ensures) (c .before .if1 .left) (c .if2 .taken)) refl
 
 rows-into-requires : tie.Need-rows-into-requires
 rows-into-requires c κs =
-    let n = c .before .before .before .before .before .before .before .before .before .args .n in
-    let d = c .before .before .before .before .before .is-dimension in
-    let known = says-yes _ _ (d .ensures) (c .before .before .before .before .if1 .left) in
-    (dimension-least n known, dimension-most n known, search needs, search needs, search needs)
+    let n = c .before .before .before .before .before .before .before .args .n in
+    let known = says-yes _ _ (c .before .before .before .is-dimension .ensures) (c .before .before .if1 .left) in
+    let p = and-eq-true-iff _ _ .0 (not-false _ (c .before .if2 .left)) in
+    let q = and-eq-true-iff _ _ .0 (p .0) in
+    (dimension-least n known, dimension-most n known, eqb-true _ _ (q .0), eqb-true _ _ (q .1), eqb-true _ _ (p .1))
 
 same-length : tie.Need-same-length
 same-length c = search needs
 
-returns-5 : tie.Need-returns-5
-returns-5 c =
+returns-3 : tie.Need-returns-3
+returns-3 c =
     let e = c .before .before .before .before in
-    let d = e .before .before .before .before .is-dimension in
-    let known = says-yes _ _ (d .ensures) (e .before .before .before .if1 .left) in
-    let fit = both _ _ (both _ _ (eq-eqb _ _ (e .before .before .if2 .left)) (eq-eqb _ _ (e .before .if3 .left))) (eq-eqb _ _ (e .if4 .left)) in
-    rw (c .before .before .rows-into .ensures) (accepts _ _ _ (at-next (held _ _ known) (held _ _ fit)) refl)
+    rw (c .before .before .rows-into .ensures) (accepts _ _ _ (all-fit _ _ _ (e .before .before .is-dimension .ensures) (e .before .if1 .left) (e .if2 .left)) refl)
 
 pub dot-mv-into-spec : {M : Type 1} → statement M
 dot-mv-into-spec =
@@ -65,8 +51,6 @@ dot-mv-into-spec =
     returns
     mul-if2
     returns-2
-    returns-3
-    returns-4
     rows-into-requires
     same-length
-    returns-5)
+    returns-3)

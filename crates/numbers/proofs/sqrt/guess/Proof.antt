@@ -11,14 +11,8 @@ sub-y c = search needs
 float-from-bits-y : tie.Need-float-from-bits-y
 float-from-bits-y c = no-nan _ (omega arith)
 
-add-large : tie.Need-add-large
-add-large c = search needs
-
-float-from-bits-large : tie.Need-float-from-bits-large
-float-from-bits-large c = no-nan _ (omega arith)
-
 returns : tie.Need-returns
 returns c = search needs
 
 pub guess-spec : {M : Type 1} → statement M
-guess-spec = tie.close (tie.spec sub-y float-from-bits-y add-large float-from-bits-large returns)
+guess-spec = tie.close (tie.spec sub-y float-from-bits-y returns)
