@@ -3,7 +3,7 @@ use lib.Ieee.{Float}
 use Rattle.numbers.specs.F64.{_⊕_, _⊖_, _⊗_, _⊘_, 1ᶠ, 2ᶠ}
 use Rattle.numbers.specs.Sqrt.{sqrt-of}
 use Rattle.numbers.specs.declared.cut.Params.{Params}
-use Rattle.numbers.specs.declared.ell_calc.EllCalcCore.{EllCalcCore}
+use Rattle.numbers.specs.declared.ell_calc_core.EllCalcCore.{EllCalcCore}
 
 -- `EllCalcCore::new`: the six numbers of dimension n
 unfoldable pub core-new : Float → EllCalcCore

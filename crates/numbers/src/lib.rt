@@ -3,6 +3,8 @@ pub mod arr;
 pub mod bits;
 pub mod cut;
 pub mod ell_calc;
+pub mod ell_calc_core;
+mod mv;
 pub mod numbered;
 pub mod refusal;
 pub mod sqrt;

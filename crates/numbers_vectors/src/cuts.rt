@@ -9,8 +9,8 @@ use numbers::cut::CutAnswer;
 use numbers::cut::CutChoice;
 use numbers::cut::Params;
 use numbers::ell_calc::EllCalc;
-use numbers::ell_calc::EllCalcCore;
 use numbers::ell_calc::NewEllCalc;
+use numbers::ell_calc_core::EllCalcCore;
 use numbers::sqrt::sqrt;
 ghost use Prim.Native.Nat.{_≤_};
 

@@ -1,8 +1,8 @@
--- `numbers::arr::four_rows` meets its contract. Assumes nothing.
+-- `numbers::mv::four_rows` meets its contract. Assumes nothing.
 use Rattle.numbers.proofs.arr.Laws.{four-rows}
 use borrow.Author.Needs.{needs}
-use Rattle.numbers.proofs.arr.four_rows.Statement.{statement}
-use Rattle.numbers.proofs.arr.four_rows.Tie as tie
+use Rattle.numbers.proofs.mv.four_rows.Statement.{statement}
+use Rattle.numbers.proofs.mv.four_rows.Tie as tie
 
 mul-a : tie.Need-mul-a
 mul-a c = search needs

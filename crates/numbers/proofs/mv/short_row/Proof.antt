@@ -1,8 +1,8 @@
--- `numbers::arr::short_row` meets its contract. Assumes nothing.
+-- `numbers::mv::short_row` meets its contract. Assumes nothing.
 use Rattle.numbers.proofs.arr.Laws.{short-two, short-three}
 use borrow.Author.Needs.{needs}
-use Rattle.numbers.proofs.arr.short_row.Statement.{statement}
-use Rattle.numbers.proofs.arr.short_row.Tie as tie
+use Rattle.numbers.proofs.mv.short_row.Statement.{statement}
+use Rattle.numbers.proofs.mv.short_row.Tie as tie
 
 shared-slice-read-s : tie.Need-shared-slice-read-s
 shared-slice-read-s c = search needs

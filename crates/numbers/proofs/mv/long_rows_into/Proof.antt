@@ -1,4 +1,4 @@
--- `numbers::arr::long_rows_into` meets its contract. The invariant: the loop has written the elements below i, each from its row. Assumes nothing.
+-- `numbers::mv::long_rows_into` meets its contract. The invariant: the loop has written the elements below i, each from its row. Assumes nothing.
 use mathlib.Core.Path.{ap, _∙_}
 use Prim.Native.Nat.{_-_}
 use native.Mathlib.Omega.{arith}
@@ -9,8 +9,8 @@ use Rattle.numbers.specs.laws.Arr.{row-in, FilledTo, filled-start, fille
 use Rattle.numbers.specs.declared.arr.Four.{Four}
 use Rattle.numbers.proofs.arr.Laws.{block-in, multiplied}
 use borrow.Author.Needs.{needs}
-use Rattle.numbers.proofs.arr.long_rows_into.Statement.{statement}
-use Rattle.numbers.proofs.arr.long_rows_into.Tie as tie
+use Rattle.numbers.proofs.mv.long_rows_into.Statement.{statement}
+use Rattle.numbers.proofs.mv.long_rows_into.Tie as tie
 
 abbrev Inv-loop : tie.InvT-loop
 Inv-loop n mat x out₀ i₀ out i = FilledTo (λ k. dot-from 0ᶠ (row-of n mat k) x) out₀ out i

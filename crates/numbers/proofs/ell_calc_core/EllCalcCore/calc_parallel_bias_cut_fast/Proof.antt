@@ -1,9 +1,9 @@
--- `numbers::ell_calc::EllCalcCore::calc_parallel_bias_cut_fast` meets its contract. Assumes nothing.
+-- `numbers::ell_calc_core::EllCalcCore::calc_parallel_bias_cut_fast` meets its contract. Assumes nothing.
 use Rattle.numbers.specs.EllCalcCore.{core-parallel-bias-cut-fast}
-use Rattle.numbers.proofs.ell_calc.EllCalcCore.calc_parallel_bias_cut_fast.Statement.{
+use Rattle.numbers.proofs.ell_calc_core.EllCalcCore.calc_parallel_bias_cut_fast.Statement.{
   statement,
 }
-use Rattle.numbers.proofs.ell_calc.EllCalcCore.calc_parallel_bias_cut_fast.Tie as tie
+use Rattle.numbers.proofs.ell_calc_core.EllCalcCore.calc_parallel_bias_cut_fast.Tie as tie
 
 sqrt-requires : tie.Need-sqrt-requires
 sqrt-requires c κs = tt

@@ -1,7 +1,7 @@
--- `numbers::ell_calc::EllCalcCore::calc_central_cut` meets its contract. Assumes nothing.
+-- `numbers::ell_calc_core::EllCalcCore::calc_central_cut` meets its contract. Assumes nothing.
 use Rattle.numbers.specs.EllCalcCore.{core-central-cut}
-use Rattle.numbers.proofs.ell_calc.EllCalcCore.calc_central_cut.Statement.{statement}
-use Rattle.numbers.proofs.ell_calc.EllCalcCore.calc_central_cut.Tie as tie
+use Rattle.numbers.proofs.ell_calc_core.EllCalcCore.calc_central_cut.Statement.{statement}
+use Rattle.numbers.proofs.ell_calc_core.EllCalcCore.calc_central_cut.Tie as tie
 
 sqrt-requires : tie.Need-sqrt-requires
 sqrt-requires c κs = tt

@@ -1,11 +1,11 @@
--- `numbers::arr::short_rows_into` meets its contract. Assumes nothing.
+-- `numbers::mv::short_rows_into` meets its contract. Assumes nothing.
 use native.Mathlib.Omega.{arith}
 use lib.ListN.{length-set}
 use Rattle.numbers.specs.laws.Arr.{row-in}
 use Rattle.numbers.proofs.arr.Laws.{short-all-two, short-all-three}
 use borrow.Author.Needs.{needs}
-use Rattle.numbers.proofs.arr.short_rows_into.Statement.{statement}
-use Rattle.numbers.proofs.arr.short_rows_into.Tie as tie
+use Rattle.numbers.proofs.mv.short_rows_into.Statement.{statement}
+use Rattle.numbers.proofs.mv.short_rows_into.Tie as tie
 
 mul-two : tie.Need-mul-two
 mul-two c = search needs

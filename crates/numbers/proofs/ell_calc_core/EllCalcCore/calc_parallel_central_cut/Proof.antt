@@ -1,9 +1,9 @@
--- `numbers::ell_calc::EllCalcCore::calc_parallel_central_cut` meets its contract. Assumes nothing.
+-- `numbers::ell_calc_core::EllCalcCore::calc_parallel_central_cut` meets its contract. Assumes nothing.
 use Rattle.numbers.specs.EllCalcCore.{core-parallel-central-cut}
-use Rattle.numbers.proofs.ell_calc.EllCalcCore.calc_parallel_central_cut.Statement.{
+use Rattle.numbers.proofs.ell_calc_core.EllCalcCore.calc_parallel_central_cut.Statement.{
   statement,
 }
-use Rattle.numbers.proofs.ell_calc.EllCalcCore.calc_parallel_central_cut.Tie as tie
+use Rattle.numbers.proofs.ell_calc_core.EllCalcCore.calc_parallel_central_cut.Tie as tie
 
 sqrt-requires : tie.Need-sqrt-requires
 sqrt-requires c κs = tt

@@ -1,4 +1,4 @@
--- `numbers::arr::one_row` meets its contract. Assumes nothing.
+-- `numbers::mv::one_row` meets its contract. Assumes nothing.
 use mathlib.Core.Path.{refl, ap, _∙_}
 use mathlib.Core.List.{List}
 use lib.Ieee.{Float}
@@ -6,8 +6,8 @@ use Rattle.numbers.specs.F64.{0ᶠ}
 use Rattle.numbers.specs.Arr.{dot-from}
 use Rattle.numbers.specs.laws.Arr.{row-part}
 use borrow.Author.Needs.{needs}
-use Rattle.numbers.proofs.arr.one_row.Statement.{statement}
-use Rattle.numbers.proofs.arr.one_row.Tie as tie
+use Rattle.numbers.proofs.mv.one_row.Statement.{statement}
+use Rattle.numbers.proofs.mv.one_row.Tie as tie
 
 mul-at : tie.Need-mul-at
 mul-at c = search needs
