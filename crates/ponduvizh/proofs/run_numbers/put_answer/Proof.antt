@@ -1,8 +1,8 @@
--- `ponduvizh::runs::put_answer` meets its contract. Assumes nothing.
-use Rattle.ponduvizh.specs.ToldRuns.{answer-of}
+-- `ponduvizh::run_numbers::put_answer` meets its contract. Assumes nothing.
+use Rattle.ponduvizh.specs.ExportedRuns.{answer-of}
 use borrow.Author.Needs.{needs}
-use Rattle.ponduvizh.proofs.runs.put_answer.Statement.{statement}
-use Rattle.ponduvizh.proofs.runs.put_answer.Tie as tie
+use Rattle.ponduvizh.proofs.run_numbers.put_answer.Statement.{statement}
+use Rattle.ponduvizh.proofs.run_numbers.put_answer.Tie as tie
 
 flag-requires : tie.Need-flag-requires
 flag-requires c κs = tt

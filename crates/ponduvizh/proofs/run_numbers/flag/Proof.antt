@@ -1,7 +1,7 @@
--- `ponduvizh::runs::flag` meets its contract. Assumes nothing.
+-- `ponduvizh::run_numbers::flag` meets its contract. Assumes nothing.
 use mathlib.Core.Path.{refl}
-use Rattle.ponduvizh.proofs.runs.flag.Statement.{statement}
-use Rattle.ponduvizh.proofs.runs.flag.Tie as tie
+use Rattle.ponduvizh.proofs.run_numbers.flag.Statement.{statement}
+use Rattle.ponduvizh.proofs.run_numbers.flag.Tie as tie
 use Rattle.numbers.specs.laws.Pick.{hit, skip}
 
 returns : tie.Need-returns

@@ -1,8 +1,8 @@
--- `ponduvizh::runs::put_state` meets its contract. Assumes nothing.
-use Rattle.ponduvizh.proofs.runs.Laws.{state-law}
+-- `ponduvizh::run_numbers::put_state` meets its contract. Assumes nothing.
+use Rattle.ponduvizh.proofs.run_numbers.Laws.{state-law}
 use borrow.Author.Needs.{needs}
-use Rattle.ponduvizh.proofs.runs.put_state.Statement.{statement}
-use Rattle.ponduvizh.proofs.runs.put_state.Tie as tie
+use Rattle.ponduvizh.proofs.run_numbers.put_state.Statement.{statement}
+use Rattle.ponduvizh.proofs.run_numbers.put_state.Tie as tie
 
 put-answer-requires : tie.Need-put-answer-requires
 put-answer-requires c κs = tt

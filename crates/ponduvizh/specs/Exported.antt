@@ -39,11 +39,11 @@ abbrev pub value-or : Number → Float → Float
 value-or (Value x) old = x
 value-or (NoNumber why) old = old
 
-abbrev pub number-told : Number → Float → ℕ × Float
-number-told a old = (value-number a, value-or a old)
+abbrev pub number-exported : Number → Float → ℕ × Float
+number-exported a old = (value-number a, value-or a old)
 
-abbrev pub written-told : Written × List Float → ℕ × List Float
-written-told a = (written-number (a .0), a .1)
+abbrev pub written-exported : Written × List Float → ℕ × List Float
+written-exported a = (written-number (a .0), a .1)
 
 -- the rows of the leading block that is not positive definite; 0 where there is none
 abbrev pub factored-end : Factored → ℕ → ℕ
@@ -51,8 +51,8 @@ factored-end Definite old = 0
 factored-end (Stopped p) old = p .end
 factored-end (NotFactored why) old = old
 
-abbrev pub factored-told : Factored × List Float → ℕ → ℕ × ℕ × List Float
-factored-told a old = (factored-number (a .0), factored-end (a .0) old, a .1)
+abbrev pub factored-exported : Factored × List Float → ℕ → ℕ × ℕ × List Float
+factored-exported a old = (factored-number (a .0), factored-end (a .0) old, a .1)
 
 -- ---- updates
 
@@ -69,7 +69,7 @@ status-or (Status status) old = status-number status
 status-or (NotUpdated why) old = old
 
 -- what an update leaves: its number, its status, kappa and tsq, and the slices
-pub record Left (Buffers : Type 0) : Type 0 where
+pub record UpdateEnd (Buffers : Type 0) : Type 0 where
   pub code : ℕ
   pub status : ℕ
   pub kappa : Float
@@ -77,26 +77,26 @@ pub record Left (Buffers : Type 0) : Type 0 where
   pub buffers : Buffers
 
 -- after the update of an ellipsoid that was made
-abbrev pub ell-left : EllUpdate × EllBuffers → ℕ → Left EllBuffers
-ell-left u status =
+abbrev pub ell-end : EllUpdate × EllBuffers → ℕ → UpdateEnd EllBuffers
+ell-end u status =
     record { code = update-number (u .0 .answer); status = status-or (u .0 .answer) status; kappa = u .0 .ell .kappa; tsq = u .0 .ell .tsq; buffers = u .1 }
 
-unfoldable pub ell-made : Ell → CutStrategy → List Float → CutChoice → Float → ℕ → EllBuffers → Left EllBuffers
-ell-made e strategy grad beta tsq status b = ell-left (ell-update-answer (with-tsq e (e .kappa) tsq) strategy grad beta b) status
+unfoldable pub ell-made : Ell → CutStrategy → List Float → CutChoice → Float → ℕ → EllBuffers → UpdateEnd EllBuffers
+ell-made e strategy grad beta tsq status b = ell-end (ell-update-answer (with-tsq e (e .kappa) tsq) strategy grad beta b) status
 
 -- the ellipsoid of n and kappa is made first; refusal 1 where it cannot be
-unfoldable pub ell-told : NewEll → CutStrategy → List Float → CutChoice → Float → Float → ℕ → EllBuffers → Left EllBuffers
-ell-told (Made e) strategy grad beta kappa tsq status b = ell-made e strategy grad beta tsq status b
-ell-told (NotMade why) strategy grad beta kappa tsq status b = record { code = refusal-number why; status = status; kappa = kappa; tsq = tsq; buffers = b }
+unfoldable pub ell-exported : NewEll → CutStrategy → List Float → CutChoice → Float → Float → ℕ → EllBuffers → UpdateEnd EllBuffers
+ell-exported (Made e) strategy grad beta kappa tsq status b = ell-made e strategy grad beta tsq status b
+ell-exported (NotMade why) strategy grad beta kappa tsq status b = record { code = refusal-number why; status = status; kappa = kappa; tsq = tsq; buffers = b }
 
 -- the same of `EllStable`
-abbrev pub stable-left : EllStableUpdate × StableBuffers → ℕ → Left StableBuffers
-stable-left u status =
+abbrev pub stable-end : EllStableUpdate × StableBuffers → ℕ → UpdateEnd StableBuffers
+stable-end u status =
     record { code = update-number (u .0 .answer); status = status-or (u .0 .answer) status; kappa = u .0 .ell .kappa; tsq = u .0 .ell .tsq; buffers = u .1 }
 
-unfoldable pub stable-made : EllStable → CutStrategy → List Float → CutChoice → Float → ℕ → StableBuffers → Left StableBuffers
-stable-made e strategy grad beta tsq status b = stable-left (stable-update-answer (with-stable-tsq e (e .kappa) tsq) strategy grad beta b) status
+unfoldable pub stable-made : EllStable → CutStrategy → List Float → CutChoice → Float → ℕ → StableBuffers → UpdateEnd StableBuffers
+stable-made e strategy grad beta tsq status b = stable-end (stable-update-answer (with-stable-tsq e (e .kappa) tsq) strategy grad beta b) status
 
-unfoldable pub stable-told : NewEllStable → CutStrategy → List Float → CutChoice → Float → Float → ℕ → StableBuffers → Left StableBuffers
-stable-told (MadeStable e) strategy grad beta kappa tsq status b = stable-made e strategy grad beta tsq status b
-stable-told (NotMadeStable why) strategy grad beta kappa tsq status b = record { code = refusal-number why; status = status; kappa = kappa; tsq = tsq; buffers = b }
+unfoldable pub stable-exported : NewEllStable → CutStrategy → List Float → CutChoice → Float → Float → ℕ → StableBuffers → UpdateEnd StableBuffers
+stable-exported (MadeStable e) strategy grad beta kappa tsq status b = stable-made e strategy grad beta tsq status b
+stable-exported (NotMadeStable why) strategy grad beta kappa tsq status b = record { code = refusal-number why; status = status; kappa = kappa; tsq = tsq; buffers = b }

@@ -33,21 +33,21 @@ value-of Nothing = 0ᶠ
 value-of (Broken row value over) = value
 
 -- the side and the row; the value and the largest one before it; the row of that
-pub record ScanLeft : Type 0 where
+pub record ScanNumbers : Type 0 where
   pub found : List ℕ
   pub values : List Float
   pub kmax : ℤ
 
-unfoldable pub scan-left : Scan → ScanLeft
-scan-left s = record { found = side-of (s .viol) ∷ row-of (s .viol) ∷ []; values = value-of (s .viol) ∷ s .fmax ∷ []; kmax = s .kmax }
+unfoldable pub scan-numbers : Scan → ScanNumbers
+scan-numbers s = record { found = side-of (s .viol) ∷ row-of (s .viol) ∷ []; values = value-of (s .viol) ∷ s .fmax ∷ []; kmax = s .kmax }
 
-abbrev pub scan-said : ScanAnswer → ScanLeft → ScanLeft
-scan-said (Scanned s) old = scan-left s
-scan-said (Refused why) old = old
+abbrev pub scan-numbers-or : ScanAnswer → ScanNumbers → ScanNumbers
+scan-numbers-or (Scanned s) old = scan-numbers s
+scan-numbers-or (Refused why) old = old
 
-abbrev pub scan-told : ScanAnswer → ScanLeft → ℕ × ScanLeft
-scan-told a l = (scan-number a, scan-said a l)
+abbrev pub scan-exported : ScanAnswer → ScanNumbers → ℕ × ScanNumbers
+scan-exported a l = (scan-number a, scan-numbers-or a l)
 
 -- and where the cursor stands
-unfoldable pub scan-ended : ScanAnswer × RoundRobin → ScanLeft → (ℕ × ScanLeft) × ℤ
-scan-ended a l = (scan-told (a .0) l, a .1 .cur)
+unfoldable pub scan-end : ScanAnswer × RoundRobin → ScanNumbers → (ℕ × ScanNumbers) × ℤ
+scan-end a l = (scan-exported (a .0) l, a .1 .cur)

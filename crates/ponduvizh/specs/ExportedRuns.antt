@@ -12,7 +12,7 @@ use Rattle.oracles.specs.declared.ell.NewEll.{NewEll}
 use Rattle.oracles.specs.declared.ell.NewEll.the-variants.{Made, Refused as NotMade}
 use Rattle.oracles.specs.declared.lowpass_oracle.LowpassOracle.{LowpassOracle}
 use Rattle.drivers.specs.CuttingPlane.{State, OptimLeft, feas-answer, optim-answer}
-use Rattle.drivers.specs.Numbered.{feas-number, optim-number, job-number}
+use Rattle.drivers.specs.Numbered.{optim-number, job-number}
 use Rattle.drivers.specs.Job.{job-oracle}
 use Rattle.drivers.specs.declared.answer.Answer.{Answer}
 use Rattle.drivers.specs.declared.cutting_plane.Options.{Options}
@@ -45,53 +45,61 @@ pub record RunNumbers : Type 0 where
   pub marks : List ℤ
   pub values : List Float
 
+abbrev pub run-numbers : List ℕ → List ℤ → List Float → RunNumbers
+run-numbers answer marks values = record { answer = answer; marks = marks; values = values }
+
 unfoldable pub numbers-after : Answer → LowpassOracle → Ell → RunNumbers
 numbers-after a o e = record { answer = answer-of a o; marks = marks-of o; values = values-of o e }
 
--- a run that is refused tells nothing, and what is lent for it stays as it was; one that is halted tells how far it came
-abbrev pub feas-said : FeasAnswer → LowpassOracle → Ell → RunNumbers → RunNumbers
-feas-said (Ended a) o e old = numbers-after a o e
-feas-said (NotRun why) o e old = old
+-- an answer of `cutting_plane_feas` as one of `cutting_plane_optim`: it is never halted
+abbrev pub as-optim : FeasAnswer → OptimAnswer
+as-optim (Ended a) = EndedOptim a
+as-optim (NotRun why) = NotRunOptim why
 
-abbrev pub optim-said : OptimAnswer → LowpassOracle → Ell → RunNumbers → RunNumbers
-optim-said (EndedOptim a) o e old = numbers-after a o e
-optim-said (Halted a) o e old = numbers-after a o e
-optim-said (NotRunOptim why) o e old = old
+-- a run that is refused leaves the numbers as they were; one that is halted says how far it came
+abbrev pub numbers-by : OptimAnswer → LowpassOracle → Ell → RunNumbers → RunNumbers
+numbers-by (EndedOptim a) o e old = numbers-after a o e
+numbers-by (Halted a) o e old = numbers-after a o e
+numbers-by (NotRunOptim why) o e old = old
 
--- what a run leaves: its number and what it tells, and the slices
-pub record RunLeft : Type 0 where
+-- what a run leaves: its number, what it says in numbers, and the slices
+pub record RunEnd : Type 0 where
   pub code : ℕ
   pub numbers : RunNumbers
   pub buffers : EllBuffers
   pub grad : List Float
   pub best : List Float
 
+abbrev pub run-end : ℕ → RunNumbers → EllBuffers → List Float → List Float → RunEnd
+run-end code numbers buffers grad best = record { code = code; numbers = numbers; buffers = buffers; grad = grad; best = best }
+
 -- with another number
-abbrev pub coded : ℕ → RunLeft → RunLeft
-coded code l = record { code = code; numbers = l .numbers; buffers = l .buffers; grad = l .grad; best = l .best }
+abbrev pub coded : ℕ → RunEnd → RunEnd
+coded code l = run-end code (l .numbers) (l .buffers) (l .grad) (l .best)
 
-abbrev pub run-left : ℕ → RunNumbers → State → List Float → RunLeft
-run-left code told s best = record { code = code; numbers = told; buffers = s .buffers; grad = s .grad; best = best }
+-- after a run with this answer
+abbrev pub end-of : OptimAnswer → State → List Float → RunNumbers → RunEnd
+end-of a s best old = run-end (optim-number a) (numbers-by a (s .oracle) (s .ell) old) (s .buffers) (s .grad) best
 
-unfoldable pub feas-left : FeasAnswer × State × List Float → RunNumbers → RunLeft
-feas-left r old = run-left (feas-number (r .0)) (feas-said (r .0) (r .1 .oracle) (r .1 .ell) old) (r .1) (r .2)
+unfoldable pub feas-end : FeasAnswer × State × List Float → RunNumbers → RunEnd
+feas-end r old = end-of (as-optim (r .0)) (r .1) (r .2) old
 
 -- with gamma
-unfoldable pub optim-left-told : OptimLeft → RunNumbers → RunLeft × Float
-optim-left-told r old = (run-left (optim-number (r .answer)) (optim-said (r .answer) (r .space .oracle) (r .space .ell) old) (r .space) (r .best), r .gamma)
+unfoldable pub optim-end : OptimLeft → RunNumbers → RunEnd × Float
+optim-end r old = (end-of (r .answer) (r .space) (r .best) old, r .gamma)
 
 -- the ellipsoid of n and kappa is made first; refusal 1 where it cannot be
-unfoldable pub feas-told : NewEll → LowpassOracle → Options → ℕ → List Float → RunLeft → RunLeft
-feas-told (Made e) o options rows table l = feas-left (feas-answer options rows table (record { oracle = o; ell = e; buffers = l .buffers; grad = l .grad }) (l .best)) (l .numbers)
-feas-told (NotMade why) o options rows table l = coded (refusal-number why) l
+unfoldable pub feas-exported : NewEll → LowpassOracle → Options → ℕ → List Float → RunEnd → RunEnd
+feas-exported (Made e) o options rows table l = feas-end (feas-answer options rows table (record { oracle = o; ell = e; buffers = l .buffers; grad = l .grad }) (l .best)) (l .numbers)
+feas-exported (NotMade why) o options rows table l = coded (refusal-number why) l
 
-unfoldable pub optim-told : NewEll → LowpassOracle → Options → ℕ → List Float → Float → RunLeft → RunLeft × Float
-optim-told (Made e) o options rows table gamma l =
-    optim-left-told (optim-answer options rows table (record { oracle = o; ell = e; buffers = l .buffers; grad = l .grad; gamma = gamma; found = false; best = l .best })) (l .numbers)
-optim-told (NotMade why) o options rows table gamma l = (coded (refusal-number why) l, gamma)
+unfoldable pub optim-exported : NewEll → LowpassOracle → Options → ℕ → List Float → Float → RunEnd → RunEnd × Float
+optim-exported (Made e) o options rows table gamma l =
+    optim-end (optim-answer options rows table (record { oracle = o; ell = e; buffers = l .buffers; grad = l .grad; gamma = gamma; found = false; best = l .best })) (l .numbers)
+optim-exported (NotMade why) o options rows table gamma l = (coded (refusal-number why) l, gamma)
 
 -- ---- a job that was read: n, the rows and the step limit; nwpass and nwstop; the marks; lp_sq, up_sq, sp_sq, kappa and the tolerance
-pub record JobLeft : Type 0 where
+pub record JobNumbers : Type 0 where
   pub sizes : List ℕ
   pub bands : List ℤ
   pub marks : List ℤ
@@ -103,8 +111,11 @@ bands-of j = j .nwpass ∷ j .nwstop ∷ []
 abbrev pub numbers-of : Job → List Float
 numbers-of j = j .«lp_sq» ∷ j .«up_sq» ∷ j .«sp_sq» ∷ j .kappa ∷ j .options .tolerance ∷ []
 
-unfoldable pub job-left : Job → JobLeft
-job-left j =
+abbrev pub numbers-read : List ℕ → List ℤ → List ℤ → List Float → JobNumbers
+numbers-read sizes bands marks numbers = record { sizes = sizes; bands = bands; marks = marks; numbers = numbers }
+
+unfoldable pub job-numbers : Job → JobNumbers
+job-numbers j =
     record {
       sizes = j .n ∷ j .rows ∷ j .options .«max_iters» ∷ [];
       bands = bands-of j;
@@ -117,12 +128,12 @@ abbrev pub place-or : JobAnswer → ℕ → ℕ
 place-or (Read j) old = old
 place-or (NotRead why at) old = at
 
-abbrev pub job-said : JobAnswer → JobLeft → JobLeft
-job-said (Read j) old = job-left j
-job-said (NotRead why at) old = old
+abbrev pub job-numbers-or : JobAnswer → JobNumbers → JobNumbers
+job-numbers-or (Read j) old = job-numbers j
+job-numbers-or (NotRead why at) old = old
 
-abbrev pub job-told : JobAnswer → ℕ → JobLeft → ℕ × ℕ × JobLeft
-job-told a place l = (job-number a, place-or a place, job-said a l)
+abbrev pub job-exported : JobAnswer → ℕ → JobNumbers → ℕ × ℕ × JobNumbers
+job-exported a place l = (job-number a, place-or a place, job-numbers-or a l)
 
-unfoldable pub read-told : JobAnswer × List Float × List Float × List Float → ℕ → JobLeft → (ℕ × ℕ × JobLeft) × List Float × List Float × List Float
-read-told r place l = (job-told (r .0) place l, r .1, r .2, r .3)
+unfoldable pub read-exported : JobAnswer × List Float × List Float × List Float → ℕ → JobNumbers → (ℕ × ℕ × JobNumbers) × List Float × List Float × List Float
+read-exported r place l = (job-exported (r .0) place l, r .1, r .2, r .3)
