@@ -76,10 +76,13 @@ pub record UpdateEnd (Buffers : Type 0) : Type 0 where
   pub tsq : Float
   pub buffers : Buffers
 
+abbrev pub update-end : {Buffers : Type 0} → ℕ → ℕ → Float → Float → Buffers → UpdateEnd Buffers
+update-end code status kappa tsq buffers = record { code = code; status = status; kappa = kappa; tsq = tsq; buffers = buffers }
+
 -- after the update of an ellipsoid that was made
 abbrev pub ell-end : EllUpdate × EllBuffers → ℕ → UpdateEnd EllBuffers
 ell-end u status =
-    record { code = update-number (u .0 .answer); status = status-or (u .0 .answer) status; kappa = u .0 .ell .kappa; tsq = u .0 .ell .tsq; buffers = u .1 }
+    update-end (update-number (u .0 .answer)) (status-or (u .0 .answer) status) (u .0 .ell .kappa) (u .0 .ell .tsq) (u .1)
 
 unfoldable pub ell-made : Ell → CutStrategy → List Float → CutChoice → Float → ℕ → EllBuffers → UpdateEnd EllBuffers
 ell-made e strategy grad beta tsq status b = ell-end (ell-update-answer (with-tsq e (e .kappa) tsq) strategy grad beta b) status
@@ -87,16 +90,16 @@ ell-made e strategy grad beta tsq status b = ell-end (ell-update-answer (with-ts
 -- the ellipsoid of n and kappa is made first; refusal 1 where it cannot be
 unfoldable pub ell-exported : NewEll → CutStrategy → List Float → CutChoice → Float → Float → ℕ → EllBuffers → UpdateEnd EllBuffers
 ell-exported (Made e) strategy grad beta kappa tsq status b = ell-made e strategy grad beta tsq status b
-ell-exported (NotMade why) strategy grad beta kappa tsq status b = record { code = refusal-number why; status = status; kappa = kappa; tsq = tsq; buffers = b }
+ell-exported (NotMade why) strategy grad beta kappa tsq status b = update-end (refusal-number why) status kappa tsq b
 
 -- the same of `EllStable`
 abbrev pub stable-end : EllStableUpdate × StableBuffers → ℕ → UpdateEnd StableBuffers
 stable-end u status =
-    record { code = update-number (u .0 .answer); status = status-or (u .0 .answer) status; kappa = u .0 .ell .kappa; tsq = u .0 .ell .tsq; buffers = u .1 }
+    update-end (update-number (u .0 .answer)) (status-or (u .0 .answer) status) (u .0 .ell .kappa) (u .0 .ell .tsq) (u .1)
 
 unfoldable pub stable-made : EllStable → CutStrategy → List Float → CutChoice → Float → ℕ → StableBuffers → UpdateEnd StableBuffers
 stable-made e strategy grad beta tsq status b = stable-end (stable-update-answer (with-stable-tsq e (e .kappa) tsq) strategy grad beta b) status
 
 unfoldable pub stable-exported : NewEllStable → CutStrategy → List Float → CutChoice → Float → Float → ℕ → StableBuffers → UpdateEnd StableBuffers
 stable-exported (MadeStable e) strategy grad beta kappa tsq status b = stable-made e strategy grad beta tsq status b
-stable-exported (NotMadeStable why) strategy grad beta kappa tsq status b = record { code = refusal-number why; status = status; kappa = kappa; tsq = tsq; buffers = b }
+stable-exported (NotMadeStable why) strategy grad beta kappa tsq status b = update-end (refusal-number why) status kappa tsq b

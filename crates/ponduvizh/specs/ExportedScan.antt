@@ -38,8 +38,11 @@ pub record ScanNumbers : Type 0 where
   pub values : List Float
   pub kmax : ℤ
 
+abbrev pub numbers-found : List ℕ → List Float → ℤ → ScanNumbers
+numbers-found found values kmax = record { found = found; values = values; kmax = kmax }
+
 unfoldable pub scan-numbers : Scan → ScanNumbers
-scan-numbers s = record { found = side-of (s .viol) ∷ row-of (s .viol) ∷ []; values = value-of (s .viol) ∷ s .fmax ∷ []; kmax = s .kmax }
+scan-numbers s = numbers-found (side-of (s .viol) ∷ row-of (s .viol) ∷ []) (value-of (s .viol) ∷ s .fmax ∷ []) (s .kmax)
 
 abbrev pub scan-numbers-or : ScanAnswer → ScanNumbers → ScanNumbers
 scan-numbers-or (Scanned s) old = scan-numbers s
