@@ -1,7 +1,4 @@
 // Operation 153: whether an answer belongs to a job.
-use crate::answers::Bytes;
-use crate::answers::push_floats;
-use crate::answers::push_words;
 use crate::state::is_state;
 use crate::state::oracle_of;
 use crate::state::state_told;
@@ -10,6 +7,9 @@ use drivers::belongs::Belonging;
 use drivers::belongs::belongs;
 use drivers::cutting_plane::Options;
 use drivers::job::Job;
+use lists::pushes::Bytes;
+use lists::pushes::push_floats;
+use lists::pushes::push_words;
 use lists::rooms::Room;
 use lists::rooms::fill;
 use lists::rooms::front;
@@ -64,7 +64,7 @@ fn put_belonging(got: &mut Bytes, belonging: Belonging) -> usize {
         Belonging::No => 0,
         Belonging::Refused(_) => 0,
     };
-    push_words(got, 0, &[belonging.number() as u64, yes])
+    push_words(got, 0, &[belonging.number() as u64, yes], 0, 2)
 }
 
 // The gradient is at the front of `a`.

@@ -1,8 +1,4 @@
 // Operations 70, 71, 140 and 141: the drivers.
-use crate::answers::Bytes;
-use crate::answers::push;
-use crate::answers::push_float;
-use crate::answers::push_floats;
 use crate::places::Places;
 use crate::places::are_numbers;
 use crate::places::options_of;
@@ -16,6 +12,10 @@ use drivers::cutting_plane::FeasAnswer;
 use drivers::cutting_plane::OptimAnswer;
 use drivers::cutting_plane::cutting_plane_feas;
 use drivers::cutting_plane::cutting_plane_optim;
+use lists::pushes::Bytes;
+use lists::pushes::push;
+use lists::pushes::push_float;
+use lists::pushes::push_floats;
 use lists::rooms::Room;
 use lists::rooms::fill;
 use lists::rooms::front;

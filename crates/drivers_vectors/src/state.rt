@@ -1,6 +1,6 @@
 // The oracle of a case, and its state in an answer.
-use crate::answers::Bytes;
-use crate::answers::push_words;
+use lists::pushes::Bytes;
+use lists::pushes::push_words;
 use lists::rooms::plus;
 use lists::signed::all_signed;
 use lists::signed::signed_at;
@@ -114,7 +114,7 @@ pub(crate) fn push_state(got: &mut Bytes, k: usize, oracle: LowpassOracle) -> us
         oracle.more_alt as u64,
         to_bits(oracle.sp_sq),
     ];
-    push_words(got, k, &words)
+    push_words(got, k, &words, 0, words.len())
 }
 
 // Lo and hi of its cursors.
@@ -130,5 +130,5 @@ pub(crate) fn push_bands(got: &mut Bytes, k: usize, oracle: LowpassOracle) -> us
         word_of(rr3.lo),
         word_of(rr3.hi),
     ];
-    push_words(got, k, &words)
+    push_words(got, k, &words, 0, words.len())
 }

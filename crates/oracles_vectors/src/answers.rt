@@ -1,16 +1,13 @@
 // An answer's words, one after the other: each `push` writes from place k on and gives the next place. An operation is `told` if it gives each slice's length and each refusal's number.
+use lists::pushes::Bytes;
+use lists::pushes::push;
+use lists::pushes::push_floats;
+use lists::pushes::push_words;
 use lists::rooms::Room;
-use lists::rooms::part;
 use lists::tally::Replayed;
-use lists::words::put;
-use lists::words::put_floats;
 use numbers::bits::of_bits;
 use numbers::bits::to_bits;
 use numbers::cut::CutChoice;
-use std::num::wrapping_add_usize;
-
-// The words of any answer.
-pub(crate) type Bytes = [u8; 524288];
 
 // What a call said: 0 or a refusal's number, and the first `len` of the words.
 pub(crate) struct Said {
@@ -53,39 +50,6 @@ pub(crate) fn beta1_word(beta: CutChoice) -> u64 {
         CutChoice::Single(_) => u64::MAX,
         CutChoice::Parallel(_, b1) => to_bits(b1),
     }
-}
-
-pub(crate) fn push(got: &mut Bytes, k: usize, w: u64) -> usize {
-    put(got, k, w);
-    wrapping_add_usize(k, 1)
-}
-
-pub(crate) fn push_float(got: &mut Bytes, k: usize, x: f64) -> usize {
-    push(got, k, to_bits(x))
-}
-
-// The words `from` to `to` − 1.
-pub(crate) fn push_words(
-    got: &mut Bytes,
-    k: usize,
-    words: &[u64],
-    from: usize,
-    to: usize,
-) -> usize {
-    let mut at = k;
-    let mut i = from;
-    while i < words.len() && i < to {
-        at = push(got, at, words[i]);
-        i += 1;
-    }
-    at
-}
-
-// The first `len` of the floats.
-pub(crate) fn push_floats(got: &mut Bytes, k: usize, xs: &[f64], len: usize) -> usize {
-    let ys = part(xs, 0, len);
-    put_floats(got, k, ys);
-    wrapping_add_usize(k, ys.len())
 }
 
 pub(crate) fn push_room(got: &mut Bytes, k: usize, s: &Room, len: usize) -> usize {

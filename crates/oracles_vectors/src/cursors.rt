@@ -1,9 +1,9 @@
 // Operations 40, 110 and 111: cursors.
-use crate::answers::Bytes;
 use crate::answers::Said;
 use crate::answers::put_answer;
 use crate::answers::said_word;
 use crate::answers::said_words;
+use lists::pushes::Bytes;
 use lists::signed::all_signed;
 use lists::signed::signed_at;
 use lists::signed::word_of;

@@ -1,14 +1,14 @@
 // Operations 60, 61 and 119 to 122: the ellipsoids.
-use crate::answers::Bytes;
 use crate::answers::Said;
 use crate::answers::choice_of;
-use crate::answers::push_float;
-use crate::answers::push_floats;
 use crate::answers::push_room;
 use crate::answers::put_answer;
 use crate::answers::put_said;
 use crate::answers::said_word;
 use crate::answers::said_words;
+use lists::pushes::Bytes;
+use lists::pushes::push_float;
+use lists::pushes::push_floats;
 use lists::rooms::Room;
 use lists::rooms::fill;
 use lists::rooms::front;

@@ -1,9 +1,9 @@
 // Operations 50 to 52 and 115 to 117: factor, witness and quadratic form.
-use crate::answers::Bytes;
 use crate::answers::Said;
 use crate::answers::put_answer;
 use crate::answers::said_word;
 use crate::answers::said_words;
+use lists::pushes::Bytes;
 use lists::rooms::Room;
 use lists::rooms::fill;
 use lists::rooms::front;

@@ -1,11 +1,11 @@
 // Operations 53 and 118: the LMI oracle.
-use crate::answers::Bytes;
 use crate::answers::Said;
 use crate::answers::beta0_word;
-use crate::answers::push_floats;
-use crate::answers::push_words;
 use crate::answers::put_said;
 use crate::answers::said_words;
+use lists::pushes::Bytes;
+use lists::pushes::push_floats;
+use lists::pushes::push_words;
 use lists::rooms::Room;
 use lists::rooms::fill;
 use lists::rooms::front;

@@ -1,15 +1,15 @@
 // Operations 42, 43, 113 and 114: the lowpass oracle.
-use crate::answers::Bytes;
 use crate::answers::Said;
 use crate::answers::beta0_word;
 use crate::answers::beta1_word;
-use crate::answers::push;
-use crate::answers::push_floats;
-use crate::answers::push_words;
 use crate::answers::put_said;
 use crate::answers::said_word;
 use crate::answers::said_words;
 use crate::cursors::cursor_at;
+use lists::pushes::Bytes;
+use lists::pushes::push;
+use lists::pushes::push_floats;
+use lists::pushes::push_words;
 use lists::rooms::Room;
 use lists::rooms::fill;
 use lists::rooms::front;

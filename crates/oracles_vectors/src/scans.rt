@@ -1,10 +1,10 @@
 // Operations 41 and 112: the scan of one band.
-use crate::answers::Bytes;
 use crate::answers::Said;
 use crate::answers::put_answer;
 use crate::answers::said_word;
 use crate::answers::said_words;
 use crate::cursors::cursor_at;
+use lists::pushes::Bytes;
 use lists::rooms::part;
 use lists::rooms::plus;
 use lists::rooms::times;
