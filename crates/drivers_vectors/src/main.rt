@@ -3,6 +3,7 @@ mod belonging;
 mod packed;
 mod places;
 mod records;
+mod run_words;
 mod runs;
 mod state;
 mod texts;

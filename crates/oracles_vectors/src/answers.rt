@@ -1,4 +1,4 @@
-// An answer's words, one after the other: each `push` writes from place k on and gives the next place. An operation is `told` if it gives each slice's length and each refusal's number.
+// An answer's words, one after the other: each `push` writes from place k on and gives the next place. An operation has `any` lengths if it gives each slice's length and each refusal's number.
 use lists::pushes::Bytes;
 use lists::pushes::push;
 use lists::pushes::push_floats;
@@ -9,15 +9,15 @@ use numbers::bits::of_bits;
 use numbers::bits::to_bits;
 use numbers::cut::CutChoice;
 
-// What a call said: 0 or a refusal's number, and the first `len` of the words.
-pub(crate) struct Said {
+// What a call answered: 0 or a refusal's number, and the first `len` of the words.
+pub(crate) struct Answered {
     pub(crate) number: u8,
     pub(crate) words: [u64; 7],
     pub(crate) len: usize,
 }
 
-pub(crate) fn said_words(number: u8, words: [u64; 7], len: usize) -> Said {
-    Said {
+pub(crate) fn answered_words(number: u8, words: [u64; 7], len: usize) -> Answered {
+    Answered {
         number: number,
         words: words,
         len: len,
@@ -25,8 +25,8 @@ pub(crate) fn said_words(number: u8, words: [u64; 7], len: usize) -> Said {
 }
 
 // One word, and zeros.
-pub(crate) fn said_word(number: u8, word: u64, len: usize) -> Said {
-    said_words(number, [word, 0, 0, 0, 0, 0, 0], len)
+pub(crate) fn answered_word(number: u8, word: u64, len: usize) -> Answered {
+    answered_words(number, [word, 0, 0, 0, 0, 0, 0], len)
 }
 
 // The bounds of a cut; all ones stand for an absent beta1.
@@ -56,27 +56,27 @@ pub(crate) fn push_room(got: &mut Bytes, k: usize, s: &Room, len: usize) -> usiz
     push_floats(got, k, s, len)
 }
 
-pub(crate) fn put_said(got: &mut Bytes, told: bool, said: Said) -> usize {
-    let words = said.words;
-    let k = if told {
-        push(got, 0, said.number as u64)
+pub(crate) fn put_answered(got: &mut Bytes, any: bool, answered: Answered) -> usize {
+    let words = answered.words;
+    let k = if any {
+        push(got, 0, answered.number as u64)
     } else {
         0
     };
-    push_words(got, k, &words, 0, said.len)
+    push_words(got, k, &words, 0, answered.len)
 }
 
 // An answer that ends with a slice.
 pub(crate) fn put_answer(
     got: &mut Bytes,
-    told: bool,
-    said: Said,
+    any: bool,
+    answered: Answered,
     rest: &[f64],
     len: usize,
 ) -> Replayed {
-    if !told & (said.number > 0) {
-        return Replayed::Refused(said.number);
+    if !any & (answered.number > 0) {
+        return Replayed::Refused(answered.number);
     }
-    let k = put_said(got, told, said);
+    let k = put_answered(got, any, answered);
     Replayed::Words(push_floats(got, k, rest, len))
 }

@@ -1,10 +1,12 @@
 // Replays a list of the Rust's answers (docs/LISTS.md) through the public functions of `oracles`, case by case from standard input.
 mod answers;
 mod cursors;
+mod ell_places;
 mod ellipsoids;
 mod ldlt;
 mod lmi;
 mod lowpass;
+mod oracle_state;
 mod scans;
 mod verdicts;
 
