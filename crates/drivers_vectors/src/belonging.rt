@@ -1,15 +1,15 @@
 // Operation 153: whether an answer belongs to a job.
-use crate::answers::Bytes;
-use crate::answers::push_floats;
-use crate::answers::push_words;
 use crate::state::is_state;
 use crate::state::oracle_of;
-use crate::state::state_told;
+use crate::state::state_any;
 use drivers::answer::Answer;
 use drivers::belongs::Belonging;
 use drivers::belongs::belongs;
 use drivers::cutting_plane::Options;
 use drivers::job::Job;
+use lists::pushes::Bytes;
+use lists::pushes::push_floats;
+use lists::pushes::push_words;
 use lists::rooms::Room;
 use lists::rooms::fill;
 use lists::rooms::front;
@@ -26,30 +26,30 @@ fn is_over(rr: RoundRobin, lo: i32, hi: i32) -> bool {
 }
 
 // A case can tell cursors of other bands than its groups', which no job has: −1, which is refused by the same number, stands for them. Wrong bands that a job can have stay.
-fn nwpass_of(inputs: &[u8], told: LowpassOracle) -> i32 {
-    let first = is_over(told.rr1, 0, told.nwpass);
-    let second = is_over(told.rr2, told.nwpass, told.nwstop);
-    let third = is_over(told.rr3, told.nwstop, signed_at(inputs, 1));
+fn nwpass_of(inputs: &[u8], any: LowpassOracle) -> i32 {
+    let first = is_over(any.rr1, 0, any.nwpass);
+    let second = is_over(any.rr2, any.nwpass, any.nwstop);
+    let third = is_over(any.rr3, any.nwstop, signed_at(inputs, 1));
     if first & second & third {
-        return told.nwpass;
+        return any.nwpass;
     }
     -1
 }
 
 // A job with its numbers in words 0, 1 and 6 on; kappa and the options are not asked for.
 fn job_of(inputs: &[u8]) -> Job {
-    let told = oracle_of(inputs, state_told(6));
-    let rr1 = told.rr1;
-    let rr2 = told.rr2;
-    let rr3 = told.rr3;
+    let any = oracle_of(inputs, state_any(6));
+    let rr1 = any.rr1;
+    let rr2 = any.rr2;
+    let rr3 = any.rr3;
     Job {
         n: word(inputs, 0) as usize,
         rows: word(inputs, 1) as usize,
-        nwpass: nwpass_of(inputs, told),
-        nwstop: told.nwstop,
-        lp_sq: told.lp_sq,
-        up_sq: told.up_sq,
-        sp_sq: told.sp_sq,
+        nwpass: nwpass_of(inputs, any),
+        nwstop: any.nwstop,
+        lp_sq: any.lp_sq,
+        up_sq: any.up_sq,
+        sp_sq: any.sp_sq,
         cur1: rr1.cur,
         cur2: rr2.cur,
         cur3: rr3.cur,
@@ -64,7 +64,7 @@ fn put_belonging(got: &mut Bytes, belonging: Belonging) -> usize {
         Belonging::No => 0,
         Belonging::Refused(_) => 0,
     };
-    push_words(got, 0, &[belonging.number() as u64, yes])
+    push_words(got, 0, &[belonging.number() as u64, yes], 0, 2)
 }
 
 // The gradient is at the front of `a`.
@@ -98,7 +98,7 @@ pub(crate) fn replay_belongs(
     if (plus(grad_at, lg) != ins) | (found > 1) {
         return Replayed::Unfit;
     }
-    if !is_state(inputs, state_told(6)) {
+    if !is_state(inputs, state_any(6)) {
         return Replayed::Unfit;
     }
     fill(a, inputs, true, grad_at, lg);

@@ -1,14 +1,13 @@
 // Replays a list of the Rust's answers (docs/LISTS.md) through the public functions of `drivers`, case by case from standard input.
-mod answers;
 mod belonging;
 mod packed;
 mod places;
 mod records;
+mod run_words;
 mod runs;
 mod state;
 mod texts;
 
-use crate::answers::Bytes;
 use crate::belonging::replay_belongs;
 use crate::records::replay_default;
 use crate::records::replay_read_answer;
@@ -18,13 +17,13 @@ use crate::runs::replay_run;
 use crate::texts::replay_text;
 use lists::case::Case;
 use lists::case::Next;
-use lists::case::next_case;
+use lists::pushes::Bytes;
 use lists::rooms::Room;
 use lists::rooms::fill;
 use lists::tally::Replayed;
-use lists::tally::damaged;
 use lists::tally::judge;
 use lists::tally::print_totals;
+use lists::tally::take_case;
 
 // Makes the case's call, and puts its answer's words to the front of `got`. `floats` has the inputs as floats; the other rooms are for slices that a call writes.
 fn replay(
@@ -66,23 +65,14 @@ fn replay_next(
     e: &mut Room,
     table: &mut [u64; 515],
 ) -> bool {
-    match next_case(inputs, expected) {
-        Next::Case(case) => {
-            fill(floats, inputs, true, 0, case.ins);
-            let replayed = replay(case, inputs, floats, got, a, b, c, d, e);
-            judge(table, position, case, expected, replayed, got);
-            true
-        }
-        Next::End => false,
-        Next::CutShort => {
-            damaged(table, position, false);
-            false
-        }
-        Next::TooLong => {
-            damaged(table, position, true);
-            false
-        }
-    }
+    let next = take_case(table, position, inputs, expected);
+    let Next::Case(case) = next else {
+        return false;
+    };
+    fill(floats, inputs, true, 0, case.ins);
+    let replayed = replay(case, inputs, floats, got, a, b, c, d, e);
+    judge(table, position, case, expected, replayed, got);
+    true
 }
 
 // A proved loop has to end, so the position bounds it.

@@ -1,5 +1,5 @@
 // Bytes that stand eight to a word, the last word filled with zeros.
-use crate::answers::Bytes;
+use lists::pushes::Bytes;
 
 // How many words hold so many bytes.
 pub(crate) fn words_of(len: usize) -> usize {

@@ -1,8 +1,8 @@
 // Where the words of a driver's case stand.
 use crate::state::State;
 use crate::state::is_state;
-use crate::state::state_right;
-use crate::state::state_told;
+use crate::state::state_any;
+use crate::state::state_legal;
 use drivers::cutting_plane::Options;
 use lists::rooms::plus;
 use lists::rooms::times;
@@ -12,7 +12,7 @@ use std::num::wrapping_add_usize;
 
 // Of each slice where it begins and how long it is; where the state, gamma if there is one, kappa and tsq, and the options stand, and where the case ends.
 pub(crate) struct Places {
-    pub(crate) told: bool,
+    pub(crate) any: bool,
     pub(crate) is_optim: bool,
     pub(crate) state: State,
     pub(crate) gamma: usize,
@@ -33,8 +33,8 @@ pub(crate) struct Places {
     pub(crate) end: usize,
 }
 
-// Operations 70 and 71: lengths follow from n and the rows, and the scratch and x_best are not told.
-pub(crate) fn places_right(inputs: &[u8], is_optim: bool) -> Places {
+// Operations 70 and 71: lengths follow from n and the rows, and the scratch and x_best are not given.
+pub(crate) fn places_legal(inputs: &[u8], is_optim: bool) -> Places {
     let n = word(inputs, 0) as usize;
     let table_len = times(word(inputs, 1) as usize, n);
     let cursors = plus(7, table_len);
@@ -45,9 +45,9 @@ pub(crate) fn places_right(inputs: &[u8], is_optim: bool) -> Places {
     let size = times(n, n);
     let options = plus(mq, size);
     Places {
-        told: false,
+        any: false,
         is_optim: is_optim,
-        state: state_right(cursors),
+        state: state_legal(cursors),
         gamma: gamma,
         kappa: kappa,
         options: options,
@@ -68,7 +68,7 @@ pub(crate) fn places_right(inputs: &[u8], is_optim: bool) -> Places {
 }
 
 // Operations 140 and 141: words 2 to 7 have the lengths, and gamma stands after the options.
-pub(crate) fn places_told(inputs: &[u8], is_optim: bool) -> Places {
+pub(crate) fn places_any(inputs: &[u8], is_optim: bool) -> Places {
     let table = if is_optim { 33 } else { 32 };
     let table_len = word(inputs, 2) as usize;
     let xc_len = word(inputs, 3) as usize;
@@ -82,9 +82,9 @@ pub(crate) fn places_told(inputs: &[u8], is_optim: bool) -> Places {
     let grad_t = plus(grad, grad_len);
     let best = plus(grad_t, grad_t_len);
     Places {
-        told: true,
+        any: true,
         is_optim: is_optim,
-        state: state_told(8),
+        state: state_any(8),
         gamma: 32,
         kappa: 28,
         options: 30,

@@ -1,7 +1,4 @@
 // Operations 142 and 150 to 152: the values of `Options`, the readers and the writer.
-use crate::answers::Bytes;
-use crate::answers::push_floats;
-use crate::answers::push_words;
 use crate::packed::bytes_at;
 use crate::packed::lent;
 use crate::packed::pad;
@@ -19,6 +16,9 @@ use drivers::cutting_plane::Options;
 use drivers::job::Job;
 use drivers::job::JobAnswer;
 use drivers::job::read_job;
+use lists::pushes::Bytes;
+use lists::pushes::push_floats;
+use lists::pushes::push_words;
 use lists::rooms::Room;
 use lists::rooms::fill;
 use lists::rooms::front;
@@ -43,16 +43,16 @@ fn push_job(got: &mut Bytes, number: u64, job: Job) -> usize {
         to_bits(job.lp_sq),
         to_bits(job.up_sq),
     ];
-    let k = push_words(got, 0, &words);
+    let k = push_words(got, 0, &words, 0, words.len());
     let k = push_state(got, k, oracle);
     let k = push_bands(got, k, oracle);
-    let k = push_words(got, k, &[to_bits(job.kappa)]);
+    let k = push_words(got, k, &[to_bits(job.kappa)], 0, 1);
     push_options(got, k, options)
 }
 
 fn push_options(got: &mut Bytes, k: usize, options: Options) -> usize {
     let words = [options.max_iters as u64, to_bits(options.tolerance)];
-    push_words(got, k, &words)
+    push_words(got, k, &words, 0, words.len())
 }
 
 // Operation 142 has no inputs.
@@ -78,7 +78,7 @@ fn put_job(
     let number = answer.number() as u64;
     match answer {
         JobAnswer::Read(job) => push_job(got, number, job),
-        JobAnswer::Refused(_, place) => push_words(got, 0, &[number, place as u64]),
+        JobAnswer::Refused(_, place) => push_words(got, 0, &[number, place as u64], 0, 2),
     }
 }
 
@@ -116,9 +116,9 @@ fn put_answer(got: &mut Bytes, n: usize, bytes: &[u8], a: &mut [f64], lp: usize)
     match read {
         AnswerRead::Read(answer) => {
             let words = [number, 0, answer.found as u64, answer.steps as u64];
-            push_words(got, 0, &words)
+            push_words(got, 0, &words, 0, words.len())
         }
-        AnswerRead::Refused(_, place) => push_words(got, 0, &[number, place as u64]),
+        AnswerRead::Refused(_, place) => push_words(got, 0, &[number, place as u64], 0, 2),
     }
 }
 
@@ -150,7 +150,7 @@ fn put_written(got: &mut Bytes, written: AnswerWritten) -> usize {
         AnswerWritten::Bytes(count) => count as u64,
         AnswerWritten::Refused(_) => 0,
     };
-    push_words(got, 0, &[written.number() as u64, count])
+    push_words(got, 0, &[written.number() as u64, count], 0, 2)
 }
 
 pub(crate) fn replay_write_answer(

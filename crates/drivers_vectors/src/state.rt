@@ -1,6 +1,6 @@
 // The oracle of a case, and its state in an answer.
-use crate::answers::Bytes;
-use crate::answers::push_words;
+use lists::pushes::Bytes;
+use lists::pushes::push_words;
 use lists::rooms::plus;
 use lists::signed::all_signed;
 use lists::signed::signed_at;
@@ -12,9 +12,9 @@ use oracles::lowpass_oracle::LowpassOracle;
 use oracles::round_robin::RoundRobin;
 use std::num::wrapping_add_usize;
 
-// Where nwpass and the limits begin, the cursors, and what follows them; where sp_sq stands. Cursors that are told have a lo and a hi of their own.
+// Where nwpass and the limits begin, the cursors, and what follows them; where sp_sq stands. Cursors that are given have a lo and a hi of their own.
 pub(crate) struct State {
-    told: bool,
+    any: bool,
     limits: usize,
     cursors: usize,
     rest: usize,
@@ -22,9 +22,9 @@ pub(crate) struct State {
 }
 
 // Operations 70 and 71: the state stands after the table.
-pub(crate) fn state_right(cursors: usize) -> State {
+pub(crate) fn state_legal(cursors: usize) -> State {
     State {
-        told: false,
+        any: false,
         limits: 2,
         cursors: cursors,
         rest: plus(cursors, 3),
@@ -33,9 +33,9 @@ pub(crate) fn state_right(cursors: usize) -> State {
 }
 
 // The others: nwpass to more_alt in one piece of twenty words.
-pub(crate) fn state_told(limits: usize) -> State {
+pub(crate) fn state_any(limits: usize) -> State {
     State {
-        told: true,
+        any: true,
         limits: limits,
         cursors: plus(limits, 5),
         rest: plus(limits, 14),
@@ -61,7 +61,7 @@ pub(crate) fn is_state(inputs: &[u8], p: State) -> bool {
 
 // Cursor i of a band that begins at lo and ends at hi, unless the case says otherwise.
 fn cursor_of(inputs: &[u8], p: State, i: usize, lo: i32, hi: i32) -> RoundRobin {
-    if !p.told {
+    if !p.any {
         return RoundRobin {
             cur: signed_at(inputs, wrapping_add_usize(p.cursors, i)),
             lo: lo,
@@ -114,7 +114,7 @@ pub(crate) fn push_state(got: &mut Bytes, k: usize, oracle: LowpassOracle) -> us
         oracle.more_alt as u64,
         to_bits(oracle.sp_sq),
     ];
-    push_words(got, k, &words)
+    push_words(got, k, &words, 0, words.len())
 }
 
 // Lo and hi of its cursors.
@@ -130,5 +130,5 @@ pub(crate) fn push_bands(got: &mut Bytes, k: usize, oracle: LowpassOracle) -> us
         word_of(rr3.lo),
         word_of(rr3.hi),
     ];
-    push_words(got, k, &words)
+    push_words(got, k, &words, 0, words.len())
 }

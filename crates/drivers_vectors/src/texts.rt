@@ -1,6 +1,4 @@
 // Operation 160: all that `filterrun` prints for a job.
-use crate::answers::Bytes;
-use crate::answers::push;
 use crate::packed::bytes_at;
 use crate::packed::pad;
 use crate::packed::put_bytes;
@@ -9,6 +7,8 @@ use drivers::trace::Opened;
 use drivers::trace::Run;
 use drivers::trace::Text;
 use drivers::trace::open;
+use lists::pushes::Bytes;
+use lists::pushes::push;
 use lists::rooms::Room;
 use lists::rooms::front;
 use lists::rooms::part;

@@ -3,3 +3,4 @@ pub mod Case
 pub mod Tally
 pub mod Rooms
 pub mod Signed
+pub mod Pushes

@@ -29,5 +29,5 @@ part-of s at len = pick (leb (at + len) (length s)) (take len (drop at s)) []
 -- the floats from word `at` on, or zeros, at the front of s; s as it was where they do not fit
 unfoldable pub filled-of : List Float → List ℕ → Bool → ℕ → ℕ → List Float
 unfolding floats-at
-filled-of s bytes told at len =
-    pick (leb len (length s)) (pick told (floats-at bytes at (take len s)) (replicate len 0ᶠ) ++ drop len s) s
+filled-of s bytes given at len =
+    pick (leb len (length s)) (pick given (floats-at bytes at (take len s)) (replicate len 0ᶠ) ++ drop len s) s

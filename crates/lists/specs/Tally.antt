@@ -6,6 +6,8 @@ use lib.Dec.{ltb, leb, eqb}
 use lib.ListN.{getD, set}
 use Rattle.numbers.specs.Pick.{pick}
 use Rattle.lists.specs.Words.{first-diff}
+use Rattle.lists.specs.declared.case.Next.{Next}
+use Rattle.lists.specs.declared.case.Next.the-variants.{Case, End, CutShort, TooLong}
 use Rattle.lists.specs.declared.tally.Replayed.{Replayed}
 use Rattle.lists.specs.declared.tally.Replayed.the-variants.{Words, Refused, Unfit, Unknown}
 use Rattle.lists.specs.declared.tally.Verdict.{Verdict}
@@ -46,6 +48,13 @@ tallied table op v = pick (leb 256 op) (bumped table 514) (counted table op v)
 -- a damaged list counts as one case that differs, of no operation
 abbrev pub damaged-of : List ℕ → List ℕ
 damaged-of table = bumped table 513
+
+-- the counts after the next case was read
+abbrev pub taken-of : Next → List ℕ → List ℕ
+taken-of (Case c) table = table
+taken-of End table = table
+taken-of CutShort table = damaged-of table
+taken-of TooLong table = damaged-of table
 
 abbrev pub none-differ : List ℕ → Bool
 none-differ table = eqb (getD table 513 0) 0

@@ -59,13 +59,13 @@ pub fn front(s: &mut [f64], len: usize) -> &mut [f64]
 }
 
 // The floats from word `at` on; zeros where the case does not say them.
-pub fn fill(s: &mut [f64], inputs: &[u8], told: bool, at: usize, len: usize)
-    ensures { λ _. ⌜ now (s .exit) ≡ filled-of (now (s .entry)) (now (inputs .entry)) told at len ⌝ }
+pub fn fill(s: &mut [f64], inputs: &[u8], given: bool, at: usize, len: usize)
+    ensures { λ _. ⌜ now (s .exit) ≡ filled-of (now (s .entry)) (now (inputs .entry)) given at len ⌝ }
 {
     if s.len() < len {
         return;
     }
-    if told {
+    if given {
         floats(inputs, at, &mut s[..len]);
         return;
     }

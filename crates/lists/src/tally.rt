@@ -1,5 +1,7 @@
 // Which cases agree, counted for each operation.
 use crate::case::Case;
+use crate::case::Next;
+use crate::case::next_case;
 use crate::print::print_damage;
 use crate::print::print_difference;
 use crate::print::print_operation;
@@ -7,7 +9,8 @@ use crate::print::print_sum;
 use crate::words::first_difference;
 ghost use mathlib.Core.Path.{_≡_};
 ghost use Prim.Native.Nat.{_<_, min};
-ghost use Rattle.lists.specs.Tally.{verdict-of, more, bumped, tallied, damaged-of, none-differ};
+ghost use Rattle.lists.specs.Tally.{verdict-of, more, bumped, tallied, damaged-of, taken-of, none-differ};
+ghost use Rattle.lists.specs.Case.{Whole};
 
 // What came of a case: so many words of output; a call that said no, by its number; inputs that are not what the operation takes; an operation that the program does not have.
 pub enum Replayed {
@@ -23,7 +26,7 @@ pub enum Verdict {
     Unknown,
 }
 
-fn shorter(a: usize, b: usize) -> usize
+pub(crate) fn shorter(a: usize, b: usize) -> usize
     ensures { λ r. ⌜ r ≡ min a b ⌝ }
 {
     if a < b { a } else { b }
@@ -127,6 +130,29 @@ pub fn judge(
         print_difference(position, case, place_of(v), expected, replayed, got);
     }
     count(table, case.op, v);
+}
+
+// Reads the next case; a list that breaks off, or has too long a case, is counted as damaged.
+pub fn take_case(
+    table: &mut [u64; 515],
+    position: u64,
+    inputs: &mut [u8],
+    expected: &mut [u8],
+) -> Next
+    ensures { λ r. ⌜ (now (table .exit) ≡ taken-of r (now (table .entry))) × Whole r ⌝ }
+{
+    let next = next_case(inputs, expected);
+    match next {
+        Next::Case(_) => {}
+        Next::End => {}
+        Next::CutShort => {
+            damaged(table, position, false);
+        }
+        Next::TooLong => {
+            damaged(table, position, true);
+        }
+    }
+    next
 }
 
 // A list that breaks off, or has too long a case, there: counted as one case that differs, of no operation.

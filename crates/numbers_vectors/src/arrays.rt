@@ -1,5 +1,7 @@
-// Operations 2 to 5 and 100 to 104: vectors and matrices. Those from 100 on are `told`: the case gives each slice's length and the output slice
+// Operations 2 to 5 and 100 to 104: vectors and matrices. Those from 100 on have any lengths: the case gives each slice's length and the output slice
 // before the call, and the answer begins with the refusal's number, 0 for none.
+use lists::rooms::front;
+use lists::rooms::plus;
 use lists::tally::Replayed;
 use lists::words::floats;
 use lists::words::put;
@@ -15,23 +17,62 @@ use numbers::arr::from_diag;
 use numbers::bits::to_bits;
 use std::num::wrapping_add_usize;
 
+// n, where the slices begin, and the length of each; the last is the output, which the case gives only where lengths are any.
+struct Places {
+    n: usize,
+    from: usize,
+    a: usize,
+    b: usize,
+    out: usize,
+    any: bool,
+}
+
+fn slices_at(n: usize, from: usize, a: usize, b: usize, out: usize, any: bool) -> Places {
+    Places {
+        n,
+        from,
+        a,
+        b,
+        out,
+        any,
+    }
+}
+
 // n², or 0 where no case holds so large a matrix: a call with that n says no before it looks at one.
 fn square(n: usize) -> usize {
     if n < 256 { n * n } else { 0 }
 }
 
-// How many input words the output slice takes.
-fn told_words(told: bool, length: usize) -> usize {
-    if told { length } else { 0 }
+fn places_of(op: u64, inputs: &[u8]) -> Places {
+    let n = word(inputs, 0) as usize;
+    let l1 = word(inputs, 1) as usize;
+    let l2 = word(inputs, 2) as usize;
+    let l3 = word(inputs, 3) as usize;
+    match op {
+        2 => slices_at(n, 1, n, n, 0, false),
+        3 => slices_at(n, 1, square(n), n, n, false),
+        4 => slices_at(n, 1, 0, 0, square(n), false),
+        5 => slices_at(n, 1, n, 0, square(n), false),
+        100 | 102 => slices_at(n, 3, l1, l2, 0, true),
+        101 => slices_at(n, 4, l1, l2, l3, true),
+        103 => slices_at(n, 2, 0, 0, l1, true),
+        _ => slices_at(n, 3, l1, 0, l2, true),
+    }
 }
 
-fn put_number(x: Number, told: bool, got: &mut [u8]) -> Replayed {
+// Whether a case has just the words before the slices, and the slices.
+fn is_exact(ins: usize, p: Places) -> bool {
+    let inputs = plus(plus(p.from, p.a), p.b);
+    plus(inputs, if p.any { p.out } else { 0 }) == ins
+}
+
+fn put_number(x: Number, any: bool, got: &mut [u8]) -> Replayed {
     let number = x.number();
     let value = match x {
         Number::Value(v) => to_bits(v),
         Number::Refused(_) => 0,
     };
-    if told {
+    if any {
         put(got, 0, number as u64);
         put(got, 1, value);
         return Replayed::Words(2);
@@ -44,9 +85,9 @@ fn put_number(x: Number, told: bool, got: &mut [u8]) -> Replayed {
 }
 
 // `out` as the call left it.
-fn put_written(w: Written, told: bool, out: &[f64], got: &mut [u8]) -> Replayed {
+fn put_written(w: Written, any: bool, out: &[f64], got: &mut [u8]) -> Replayed {
     let number = w.number();
-    if told {
+    if any {
         put(got, 0, number as u64);
         put_floats(got, 1, out);
         return Replayed::Words(wrapping_add_usize(1, out.len()));
@@ -58,227 +99,36 @@ fn put_written(w: Written, told: bool, out: &[f64], got: &mut [u8]) -> Replayed 
     Replayed::Words(out.len())
 }
 
-// The calls. The slices stand one after the other from word `from` on; an `out` that is not told is overwritten, whatever it was.
-
-fn call_dot(
-    n: usize,
-    from: usize,
-    told: bool,
-    inputs: &[u8],
+fn call(
+    op: u64,
+    p: Places,
     a: &mut [f64],
     b: &mut [f64],
-    got: &mut [u8],
-) -> Replayed {
-    floats(inputs, from, a);
-    floats(inputs, wrapping_add_usize(from, a.len()), b);
-    put_number(dot(n, a, b), told, got)
-}
-
-fn call_mv(
-    n: usize,
-    from: usize,
-    told: bool,
-    inputs: &[u8],
-    mat: &mut [f64],
-    x: &mut [f64],
     out: &mut [f64],
     got: &mut [u8],
 ) -> Replayed {
-    floats(inputs, from, mat);
-    let at = wrapping_add_usize(from, mat.len());
-    floats(inputs, at, x);
-    floats(inputs, wrapping_add_usize(at, x.len()), out);
-    let w = dot_mv_into(n, mat, x, out);
-    put_written(w, told, out, got)
+    match op {
+        2 | 100 => put_number(dot(p.n, a, b), p.any, got),
+        3 | 101 => {
+            let w = dot_mv_into(p.n, a, b, out);
+            put_written(w, p.any, out, got)
+        }
+        4 | 103 => {
+            let w = eye(p.n, out);
+            put_written(w, p.any, out, got)
+        }
+        102 => {
+            let w = copy_from(p.n, a, b);
+            put_written(w, true, a, got)
+        }
+        _ => {
+            let w = from_diag(p.n, a, out);
+            put_written(w, p.any, out, got)
+        }
+    }
 }
 
-fn call_copy(
-    n: usize,
-    from: usize,
-    inputs: &[u8],
-    dst: &mut [f64],
-    src: &mut [f64],
-    got: &mut [u8],
-) -> Replayed {
-    floats(inputs, from, dst);
-    floats(inputs, wrapping_add_usize(from, dst.len()), src);
-    let w = copy_from(n, dst, src);
-    put_written(w, true, dst, got)
-}
-
-fn call_eye(
-    n: usize,
-    from: usize,
-    told: bool,
-    inputs: &[u8],
-    out: &mut [f64],
-    got: &mut [u8],
-) -> Replayed {
-    floats(inputs, from, out);
-    let w = eye(n, out);
-    put_written(w, told, out, got)
-}
-
-fn call_diag(
-    n: usize,
-    from: usize,
-    told: bool,
-    inputs: &[u8],
-    v: &mut [f64],
-    out: &mut [f64],
-    got: &mut [u8],
-) -> Replayed {
-    floats(inputs, from, v);
-    floats(inputs, wrapping_add_usize(from, v.len()), out);
-    let w = from_diag(n, v, out);
-    put_written(w, told, out, got)
-}
-
-// The same with the lengths, where they are those of the case.
-
-// Whether a case has just the words before the slices, and the slices.
-fn is_exact(ins: usize, from: usize, la: usize, lb: usize, lc: usize) -> bool {
-    if ins < from {
-        return false;
-    }
-    let slices = ins - from;
-    if slices < la {
-        return false;
-    }
-    let others = slices - la;
-    if others < lb {
-        return false;
-    }
-    others - lb == lc
-}
-
-fn replay_dot(
-    ins: usize,
-    n: usize,
-    from: usize,
-    told: bool,
-    la: usize,
-    lb: usize,
-    inputs: &[u8],
-    got: &mut [u8],
-    a: &mut [f64],
-    b: &mut [f64],
-) -> Replayed {
-    if !is_exact(ins, from, la, lb, 0) {
-        return Replayed::Unfit;
-    }
-    if a.len() < la {
-        return Replayed::Unfit;
-    }
-    if b.len() < lb {
-        return Replayed::Unfit;
-    }
-    call_dot(n, from, told, inputs, &mut a[..la], &mut b[..lb], got)
-}
-
-fn replay_mv(
-    ins: usize,
-    n: usize,
-    from: usize,
-    told: bool,
-    lm: usize,
-    lx: usize,
-    lo: usize,
-    inputs: &[u8],
-    got: &mut [u8],
-    a: &mut [f64],
-    b: &mut [f64],
-    c: &mut [f64],
-) -> Replayed {
-    if !is_exact(ins, from, lm, lx, told_words(told, lo)) {
-        return Replayed::Unfit;
-    }
-    if a.len() < lm {
-        return Replayed::Unfit;
-    }
-    if b.len() < lx {
-        return Replayed::Unfit;
-    }
-    if c.len() < lo {
-        return Replayed::Unfit;
-    }
-    call_mv(
-        n,
-        from,
-        told,
-        inputs,
-        &mut a[..lm],
-        &mut b[..lx],
-        &mut c[..lo],
-        got,
-    )
-}
-
-fn replay_copy(
-    ins: usize,
-    n: usize,
-    ld: usize,
-    ls: usize,
-    inputs: &[u8],
-    got: &mut [u8],
-    a: &mut [f64],
-    b: &mut [f64],
-) -> Replayed {
-    if !is_exact(ins, 3, ld, ls, 0) {
-        return Replayed::Unfit;
-    }
-    if a.len() < ld {
-        return Replayed::Unfit;
-    }
-    if b.len() < ls {
-        return Replayed::Unfit;
-    }
-    call_copy(n, 3, inputs, &mut a[..ld], &mut b[..ls], got)
-}
-
-fn replay_eye(
-    ins: usize,
-    n: usize,
-    from: usize,
-    told: bool,
-    lo: usize,
-    inputs: &[u8],
-    got: &mut [u8],
-    c: &mut [f64],
-) -> Replayed {
-    if !is_exact(ins, from, told_words(told, lo), 0, 0) {
-        return Replayed::Unfit;
-    }
-    if c.len() < lo {
-        return Replayed::Unfit;
-    }
-    call_eye(n, from, told, inputs, &mut c[..lo], got)
-}
-
-fn replay_diag(
-    ins: usize,
-    n: usize,
-    from: usize,
-    told: bool,
-    lv: usize,
-    lo: usize,
-    inputs: &[u8],
-    got: &mut [u8],
-    a: &mut [f64],
-    c: &mut [f64],
-) -> Replayed {
-    if !is_exact(ins, from, lv, told_words(told, lo), 0) {
-        return Replayed::Unfit;
-    }
-    if a.len() < lv {
-        return Replayed::Unfit;
-    }
-    if c.len() < lo {
-        return Replayed::Unfit;
-    }
-    call_diag(n, from, told, inputs, &mut a[..lv], &mut c[..lo], got)
-}
-
+// The slices stand one after the other; an output that is not given is overwritten, whatever it was.
 pub(crate) fn replay_array(
     op: u64,
     ins: usize,
@@ -288,20 +138,16 @@ pub(crate) fn replay_array(
     b: &mut [f64],
     c: &mut [f64],
 ) -> Replayed {
-    let n = word(inputs, 0) as usize;
-    let l1 = word(inputs, 1) as usize;
-    let l2 = word(inputs, 2) as usize;
-    let l3 = word(inputs, 3) as usize;
-    match op {
-        2 => replay_dot(ins, n, 1, false, n, n, inputs, got, a, b),
-        3 => replay_mv(ins, n, 1, false, square(n), n, n, inputs, got, a, b, c),
-        4 => replay_eye(ins, n, 1, false, square(n), inputs, got, c),
-        5 => replay_diag(ins, n, 1, false, n, square(n), inputs, got, a, c),
-        100 => replay_dot(ins, n, 3, true, l1, l2, inputs, got, a, b),
-        101 => replay_mv(ins, n, 4, true, l1, l2, l3, inputs, got, a, b, c),
-        102 => replay_copy(ins, n, l1, l2, inputs, got, a, b),
-        103 => replay_eye(ins, n, 2, true, l1, inputs, got, c),
-        104 => replay_diag(ins, n, 3, true, l1, l2, inputs, got, a, c),
-        _ => Replayed::Unknown,
+    let p = places_of(op, inputs);
+    if !is_exact(ins, p) {
+        return Replayed::Unfit;
     }
+    let x = front(a, p.a);
+    let y = front(b, p.b);
+    let out = front(c, p.out);
+    let at = wrapping_add_usize(p.from, p.a);
+    floats(inputs, p.from, x);
+    floats(inputs, at, y);
+    floats(inputs, wrapping_add_usize(at, p.b), out);
+    call(op, p, x, y, out, got)
 }

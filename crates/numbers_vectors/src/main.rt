@@ -9,11 +9,10 @@ use crate::cuts::replay_new;
 use crate::cuts::replay_root;
 use lists::case::Case;
 use lists::case::Next;
-use lists::case::next_case;
 use lists::tally::Replayed;
-use lists::tally::damaged;
 use lists::tally::judge;
 use lists::tally::print_totals;
+use lists::tally::take_case;
 
 // Makes the case's call, and puts its answer's words to the front of `got`.
 fn replay(
@@ -47,22 +46,13 @@ fn replay_next(
     c: &mut [f64],
     table: &mut [u64; 515],
 ) -> bool {
-    match next_case(inputs, expected) {
-        Next::Case(case) => {
-            let replayed = replay(case, inputs, got, a, b, c);
-            judge(table, position, case, expected, replayed, got);
-            true
-        }
-        Next::End => false,
-        Next::CutShort => {
-            damaged(table, position, false);
-            false
-        }
-        Next::TooLong => {
-            damaged(table, position, true);
-            false
-        }
-    }
+    let next = take_case(table, position, inputs, expected);
+    let Next::Case(case) = next else {
+        return false;
+    };
+    let replayed = replay(case, inputs, got, a, b, c);
+    judge(table, position, case, expected, replayed, got);
+    true
 }
 
 // A proved loop has to end, so the position bounds it.

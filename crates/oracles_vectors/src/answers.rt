@@ -1,26 +1,23 @@
-// An answer's words, one after the other: each `push` writes from place k on and gives the next place. An operation is `told` if it gives each slice's length and each refusal's number.
+// An answer's words, one after the other: each `push` writes from place k on and gives the next place. An operation has `any` lengths if it gives each slice's length and each refusal's number.
+use lists::pushes::Bytes;
+use lists::pushes::push;
+use lists::pushes::push_floats;
+use lists::pushes::push_words;
 use lists::rooms::Room;
-use lists::rooms::part;
 use lists::tally::Replayed;
-use lists::words::put;
-use lists::words::put_floats;
 use numbers::bits::of_bits;
 use numbers::bits::to_bits;
 use numbers::cut::CutChoice;
-use std::num::wrapping_add_usize;
 
-// The words of any answer.
-pub(crate) type Bytes = [u8; 524288];
-
-// What a call said: 0 or a refusal's number, and the first `len` of the words.
-pub(crate) struct Said {
+// What a call answered: 0 or a refusal's number, and the first `len` of the words.
+pub(crate) struct Answered {
     pub(crate) number: u8,
     pub(crate) words: [u64; 7],
     pub(crate) len: usize,
 }
 
-pub(crate) fn said_words(number: u8, words: [u64; 7], len: usize) -> Said {
-    Said {
+pub(crate) fn answered_words(number: u8, words: [u64; 7], len: usize) -> Answered {
+    Answered {
         number: number,
         words: words,
         len: len,
@@ -28,8 +25,8 @@ pub(crate) fn said_words(number: u8, words: [u64; 7], len: usize) -> Said {
 }
 
 // One word, and zeros.
-pub(crate) fn said_word(number: u8, word: u64, len: usize) -> Said {
-    said_words(number, [word, 0, 0, 0, 0, 0, 0], len)
+pub(crate) fn answered_word(number: u8, word: u64, len: usize) -> Answered {
+    answered_words(number, [word, 0, 0, 0, 0, 0, 0], len)
 }
 
 // The bounds of a cut; all ones stand for an absent beta1.
@@ -55,64 +52,31 @@ pub(crate) fn beta1_word(beta: CutChoice) -> u64 {
     }
 }
 
-pub(crate) fn push(got: &mut Bytes, k: usize, w: u64) -> usize {
-    put(got, k, w);
-    wrapping_add_usize(k, 1)
-}
-
-pub(crate) fn push_float(got: &mut Bytes, k: usize, x: f64) -> usize {
-    push(got, k, to_bits(x))
-}
-
-// The words `from` to `to` − 1.
-pub(crate) fn push_words(
-    got: &mut Bytes,
-    k: usize,
-    words: &[u64],
-    from: usize,
-    to: usize,
-) -> usize {
-    let mut at = k;
-    let mut i = from;
-    while i < words.len() && i < to {
-        at = push(got, at, words[i]);
-        i += 1;
-    }
-    at
-}
-
-// The first `len` of the floats.
-pub(crate) fn push_floats(got: &mut Bytes, k: usize, xs: &[f64], len: usize) -> usize {
-    let ys = part(xs, 0, len);
-    put_floats(got, k, ys);
-    wrapping_add_usize(k, ys.len())
-}
-
 pub(crate) fn push_room(got: &mut Bytes, k: usize, s: &Room, len: usize) -> usize {
     push_floats(got, k, s, len)
 }
 
-pub(crate) fn put_said(got: &mut Bytes, told: bool, said: Said) -> usize {
-    let words = said.words;
-    let k = if told {
-        push(got, 0, said.number as u64)
+pub(crate) fn put_answered(got: &mut Bytes, any: bool, answered: Answered) -> usize {
+    let words = answered.words;
+    let k = if any {
+        push(got, 0, answered.number as u64)
     } else {
         0
     };
-    push_words(got, k, &words, 0, said.len)
+    push_words(got, k, &words, 0, answered.len)
 }
 
 // An answer that ends with a slice.
 pub(crate) fn put_answer(
     got: &mut Bytes,
-    told: bool,
-    said: Said,
+    any: bool,
+    answered: Answered,
     rest: &[f64],
     len: usize,
 ) -> Replayed {
-    if !told & (said.number > 0) {
-        return Replayed::Refused(said.number);
+    if !any & (answered.number > 0) {
+        return Replayed::Refused(answered.number);
     }
-    let k = put_said(got, told, said);
+    let k = put_answered(got, any, answered);
     Replayed::Words(push_floats(got, k, rest, len))
 }

@@ -1,9 +1,9 @@
 // Operations 40, 110 and 111: cursors.
-use crate::answers::Bytes;
-use crate::answers::Said;
+use crate::answers::Answered;
+use crate::answers::answered_word;
+use crate::answers::answered_words;
 use crate::answers::put_answer;
-use crate::answers::said_word;
-use crate::answers::said_words;
+use lists::pushes::Bytes;
 use lists::signed::all_signed;
 use lists::signed::signed_at;
 use lists::signed::word_of;
@@ -22,23 +22,27 @@ pub(crate) fn cursor_at(inputs: &[u8], k: usize) -> RoundRobin {
 }
 
 // A refused cursor stays where it is.
-fn advance(rr: RoundRobin) -> Said {
+fn advance(rr: RoundRobin) -> Answered {
     let answer = rr.advance();
     match answer {
-        CursorAnswer::Accepted(moved) => said_word(answer.number(), word_of(moved.current()), 1),
-        CursorAnswer::Refused(_) => said_word(answer.number(), word_of(rr.cur), 1),
+        CursorAnswer::Accepted(moved) => answered_word(
+            answer.number(),
+            word_of(moved.current()),
+            1,
+        ),
+        CursorAnswer::Refused(_) => answered_word(answer.number(), word_of(rr.cur), 1),
     }
 }
 
-fn new_range(lo: i32, hi: i32) -> Said {
+fn new_range(lo: i32, hi: i32) -> Answered {
     let answer = RoundRobin::new_range(lo, hi);
     match answer {
-        CursorAnswer::Accepted(rr) => said_words(
+        CursorAnswer::Accepted(rr) => answered_words(
             answer.number(),
             [word_of(rr.cur), word_of(rr.lo), word_of(rr.hi), 0, 0, 0, 0],
             3,
         ),
-        CursorAnswer::Refused(_) => said_words(answer.number(), [0; 7], 3),
+        CursorAnswer::Refused(_) => answered_words(answer.number(), [0; 7], 3),
     }
 }
 
@@ -57,8 +61,8 @@ pub(crate) fn replay_cursor(
         return Replayed::Unfit;
     }
     if op == 111 {
-        let said = new_range(signed_at(inputs, 0), signed_at(inputs, 1));
-        return put_answer(got, true, said, floats, 0);
+        let answered = new_range(signed_at(inputs, 0), signed_at(inputs, 1));
+        return put_answer(got, true, answered, floats, 0);
     }
     put_answer(got, op == 110, advance(cursor_at(inputs, 0)), floats, 0)
 }

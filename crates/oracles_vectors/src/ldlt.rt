@@ -1,9 +1,9 @@
 // Operations 50 to 52 and 115 to 117: factor, witness and quadratic form.
-use crate::answers::Bytes;
-use crate::answers::Said;
+use crate::answers::Answered;
+use crate::answers::answered_word;
+use crate::answers::answered_words;
 use crate::answers::put_answer;
-use crate::answers::said_word;
-use crate::answers::said_words;
+use lists::pushes::Bytes;
 use lists::rooms::Room;
 use lists::rooms::fill;
 use lists::rooms::front;
@@ -52,29 +52,36 @@ fn places_of(op: u64, inputs: &[u8]) -> Places {
     }
 }
 
-fn call_factor(m: usize, mat: &[f64], storage: &mut [f64]) -> Said {
+fn call_factor(m: usize, mat: &[f64], storage: &mut [f64]) -> Answered {
     let answer = factor(m, mat, storage);
     match answer {
-        Factored::Definite => said_words(answer.number(), [0; 7], 3),
-        Factored::Stopped(pos) => said_words(
+        Factored::Definite => answered_words(answer.number(), [0; 7], 3),
+        Factored::Stopped(pos) => answered_words(
             answer.number(),
             [1, pos.start as u64, pos.end as u64, 0, 0, 0, 0],
             3,
         ),
-        Factored::Refused(_) => said_words(answer.number(), [0; 7], 0),
+        Factored::Refused(_) => answered_words(answer.number(), [0; 7], 0),
     }
 }
 
 // The value is 0 where a call is refused.
-fn value_of(x: Number) -> Said {
+fn value_of(x: Number) -> Answered {
     match x {
-        Number::Value(v) => said_word(x.number(), to_bits(v), 1),
-        Number::Refused(_) => said_word(x.number(), 0, 1),
+        Number::Value(v) => answered_word(x.number(), to_bits(v), 1),
+        Number::Refused(_) => answered_word(x.number(), 0, 1),
     }
 }
 
 // The slice that the call writes is at the front of `a`.
-fn call(op: u64, inputs: &[u8], first: &[f64], second: &[f64], a: &mut [f64], len: usize) -> Said {
+fn call(
+    op: u64,
+    inputs: &[u8],
+    first: &[f64],
+    second: &[f64],
+    a: &mut [f64],
+    len: usize,
+) -> Answered {
     let kept = front(a, len);
     let m = word(inputs, 0) as usize;
     let pos = Pos {
@@ -110,6 +117,6 @@ pub(crate) fn replay_ldlt(
     fill(a, inputs, true, at, len);
     let first = part(floats, p.first, p.first_len);
     let second = part(floats, p.second, p.second_len);
-    let said = call(op, inputs, first, second, a, len);
-    put_answer(got, op > 100, said, a, len)
+    let answered = call(op, inputs, first, second, a, len);
+    put_answer(got, op > 100, answered, a, len)
 }

@@ -1,11 +1,11 @@
 // Operations 53 and 118: the LMI oracle.
-use crate::answers::Bytes;
-use crate::answers::Said;
+use crate::answers::Answered;
+use crate::answers::answered_words;
 use crate::answers::beta0_word;
-use crate::answers::push_floats;
-use crate::answers::push_words;
-use crate::answers::put_said;
-use crate::answers::said_words;
+use crate::answers::put_answered;
+use lists::pushes::Bytes;
+use lists::pushes::push_floats;
+use lists::pushes::push_words;
 use lists::rooms::Room;
 use lists::rooms::fill;
 use lists::rooms::front;
@@ -62,14 +62,14 @@ fn told_lengths(inputs: &[u8]) -> Lengths {
     }
 }
 
-fn places_of(told: bool, l: Lengths) -> Places {
-    let mat_b = if told { 8 } else { 2 };
+fn places_of(any: bool, l: Lengths) -> Places {
+    let mat_b = if any { 8 } else { 2 };
     let mat_f = plus(mat_b, l.mat_b);
     let x = plus(mat_f, l.mat_f);
     let storage = plus(x, l.x);
     let wit = plus(storage, l.storage);
     let grad = plus(wit, l.wit);
-    let end = if told { plus(grad, l.grad) } else { grad };
+    let end = if any { plus(grad, l.grad) } else { grad };
     Places {
         mat_b: mat_b,
         mat_f: mat_f,
@@ -81,10 +81,10 @@ fn places_of(told: bool, l: Lengths) -> Places {
     }
 }
 
-// Where the operation is not told, a cut's gradient stands before the position, and only the first two words before that.
-fn said_of(told: bool, verdict: LmiVerdict) -> Said {
+// Where the operation has no lengths of its own, a cut's gradient stands before the position, and only the first two words before that.
+fn said_of(any: bool, verdict: LmiVerdict) -> Answered {
     match verdict {
-        LmiVerdict::Feasible => said_words(verdict.number(), [0; 7], 3),
+        LmiVerdict::Feasible => answered_words(verdict.number(), [0; 7], 3),
         LmiVerdict::Cut(pos, beta) => {
             let words = [
                 1,
@@ -95,48 +95,48 @@ fn said_of(told: bool, verdict: LmiVerdict) -> Said {
                 0,
                 0,
             ];
-            said_words(verdict.number(), words, if told { 4 } else { 2 })
+            answered_words(verdict.number(), words, if any { 4 } else { 2 })
         }
-        LmiVerdict::Refused(_) => said_words(verdict.number(), [0; 7], 0),
+        LmiVerdict::Refused(_) => answered_words(verdict.number(), [0; 7], 0),
     }
 }
 
-// The gradient that an answer shows, with the position after it where that is not told.
+// The gradient that an answer shows, with the position after it where that is not given.
 fn push_gradient(
     got: &mut Bytes,
     k: usize,
-    told: bool,
-    said: Said,
+    any: bool,
+    answered: Answered,
     grad: &[f64],
     len: usize,
 ) -> usize {
-    let is_late = said.len == 2;
-    let shown = if told | is_late { len } else { 0 };
-    let words = said.words;
+    let is_late = answered.len == 2;
+    let shown = if any | is_late { len } else { 0 };
+    let words = answered.words;
     let k = push_floats(got, k, grad, shown);
     push_words(got, k, &words, 2, if is_late { 4 } else { 2 })
 }
 
 fn put_all(
-    told: bool,
-    said: Said,
+    any: bool,
+    answered: Answered,
     l: Lengths,
     storage: &[f64],
     wit: &[f64],
     grad: &[f64],
     got: &mut Bytes,
 ) -> Replayed {
-    if !told & (said.number > 0) {
-        return Replayed::Refused(said.number);
+    if !any & (answered.number > 0) {
+        return Replayed::Refused(answered.number);
     }
-    let k = put_said(got, told, said);
-    let k = push_gradient(got, k, told, said, grad, l.grad);
+    let k = put_answered(got, any, answered);
+    let k = push_gradient(got, k, any, answered, grad, l.grad);
     let k = push_floats(got, k, storage, l.storage);
     Replayed::Words(push_floats(got, k, wit, l.wit))
 }
 
 fn call(
-    told: bool,
+    any: bool,
     l: Lengths,
     p: Places,
     inputs: &[u8],
@@ -144,7 +144,7 @@ fn call(
     a: &mut [f64],
     b: &mut [f64],
     c: &mut [f64],
-) -> Said {
+) -> Answered {
     let m = word(inputs, 0) as usize;
     let n = word(inputs, 1) as usize;
     let mat_b = part(floats, p.mat_b, l.mat_b);
@@ -153,7 +153,7 @@ fn call(
     let storage = front(a, l.storage);
     let wit = front(b, l.wit);
     let grad = front(c, l.grad);
-    said_of(told, assess_feas(m, n, mat_b, mat_f, x, storage, wit, grad))
+    said_of(any, assess_feas(m, n, mat_b, mat_f, x, storage, wit, grad))
 }
 
 pub(crate) fn replay_lmi(
@@ -166,19 +166,19 @@ pub(crate) fn replay_lmi(
     b: &mut Room,
     c: &mut Room,
 ) -> Replayed {
-    let told = op == 118;
-    let l = if told {
+    let any = op == 118;
+    let l = if any {
         told_lengths(inputs)
     } else {
         right(word(inputs, 0) as usize, word(inputs, 1) as usize)
     };
-    let p = places_of(told, l);
+    let p = places_of(any, l);
     if p.end != ins {
         return Replayed::Unfit;
     }
     fill(a, inputs, true, p.storage, l.storage);
     fill(b, inputs, true, p.wit, l.wit);
-    fill(c, inputs, told, p.grad, l.grad);
-    let said = call(told, l, p, inputs, floats, a, b, c);
-    put_all(told, said, l, a, b, c, got)
+    fill(c, inputs, any, p.grad, l.grad);
+    let answered = call(any, l, p, inputs, floats, a, b, c);
+    put_all(any, answered, l, a, b, c, got)
 }

@@ -1,14 +1,15 @@
 // Replays a list of the Rust's answers (docs/LISTS.md) through the public functions of `oracles`, case by case from standard input.
 mod answers;
 mod cursors;
+mod ell_places;
 mod ellipsoids;
 mod ldlt;
 mod lmi;
 mod lowpass;
+mod oracle_state;
 mod scans;
 mod verdicts;
 
-use crate::answers::Bytes;
 use crate::cursors::replay_cursor;
 use crate::ellipsoids::replay_new;
 use crate::ellipsoids::replay_update;
@@ -19,13 +20,13 @@ use crate::scans::replay_scan;
 use crate::verdicts::replay_verdicts;
 use lists::case::Case;
 use lists::case::Next;
-use lists::case::next_case;
+use lists::pushes::Bytes;
 use lists::rooms::Room;
 use lists::rooms::fill;
 use lists::tally::Replayed;
-use lists::tally::damaged;
 use lists::tally::judge;
 use lists::tally::print_totals;
+use lists::tally::take_case;
 
 // Calls that write no slice.
 fn replay_plain(op: u64, ins: usize, inputs: &[u8], floats: &[f64], got: &mut Bytes) -> Replayed {
@@ -85,23 +86,14 @@ fn replay_next(
     c: &mut Room,
     table: &mut [u64; 515],
 ) -> bool {
-    match next_case(inputs, expected) {
-        Next::Case(case) => {
-            fill(floats, inputs, true, 0, case.ins);
-            let replayed = replay(case, inputs, floats, got, a, b, c);
-            judge(table, position, case, expected, replayed, got);
-            true
-        }
-        Next::End => false,
-        Next::CutShort => {
-            damaged(table, position, false);
-            false
-        }
-        Next::TooLong => {
-            damaged(table, position, true);
-            false
-        }
-    }
+    let next = take_case(table, position, inputs, expected);
+    let Next::Case(case) = next else {
+        return false;
+    };
+    fill(floats, inputs, true, 0, case.ins);
+    let replayed = replay(case, inputs, floats, got, a, b, c);
+    judge(table, position, case, expected, replayed, got);
+    true
 }
 
 // A proved loop has to end, so the position bounds it.

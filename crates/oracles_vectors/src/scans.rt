@@ -1,10 +1,10 @@
 // Operations 41 and 112: the scan of one band.
-use crate::answers::Bytes;
-use crate::answers::Said;
+use crate::answers::Answered;
+use crate::answers::answered_word;
+use crate::answers::answered_words;
 use crate::answers::put_answer;
-use crate::answers::said_word;
-use crate::answers::said_words;
 use crate::cursors::cursor_at;
+use lists::pushes::Bytes;
 use lists::rooms::part;
 use lists::rooms::plus;
 use lists::rooms::times;
@@ -32,19 +32,19 @@ fn upper_of(w: u64) -> Upper {
 }
 
 // The words of a violation or of none, then those of every scan, then the cursor.
-fn scanned(number: u8, scan: Scan, cur: i32) -> Said {
+fn scanned(number: u8, scan: Scan, cur: i32) -> Answered {
     let fmax = to_bits(scan.fmax);
     let kmax = word_of(scan.kmax);
     let last = word_of(scan.last);
     let after = word_of(cur);
     let viol = scan.viol;
     match viol {
-        Violation::Nothing => said_words(
+        Violation::Nothing => answered_words(
             number,
             [u64::MAX, u64::MAX, u64::MAX, fmax, kmax, last, after],
             7,
         ),
-        Violation::Broken(row, value, is_over) => said_words(
+        Violation::Broken(row, value, is_over) => answered_words(
             number,
             [
                 row as u64,
@@ -61,7 +61,7 @@ fn scanned(number: u8, scan: Scan, cur: i32) -> Said {
 }
 
 // Words k to k + 4 have the cursor and the limits.
-fn scan_at(inputs: &[u8], k: usize, table: &[f64], x: &[f64]) -> Said {
+fn scan_at(inputs: &[u8], k: usize, table: &[f64], x: &[f64]) -> Answered {
     let n = word(inputs, 0) as usize;
     let rows = word(inputs, 1) as usize;
     let lower = float(inputs, wrapping_add_usize(k, 3));
@@ -71,7 +71,7 @@ fn scan_at(inputs: &[u8], k: usize, table: &[f64], x: &[f64]) -> Said {
     let answer = end.answer;
     match answer {
         ScanAnswer::Scanned(scan) => scanned(answer.number(), scan, after.cur),
-        ScanAnswer::Refused(_) => said_word(answer.number(), word_of(after.cur), 1),
+        ScanAnswer::Refused(_) => answered_word(answer.number(), word_of(after.cur), 1),
     }
 }
 
@@ -82,26 +82,26 @@ pub(crate) fn replay_scan(
     floats: &[f64],
     got: &mut Bytes,
 ) -> Replayed {
-    let told = op == 112;
+    let any = op == 112;
     let n = word(inputs, 0) as usize;
     let rows = word(inputs, 1) as usize;
-    let lt = if told {
+    let lt = if any {
         word(inputs, 2) as usize
     } else {
         times(rows, n)
     };
-    let lx = if told { word(inputs, 3) as usize } else { n };
+    let lx = if any { word(inputs, 3) as usize } else { n };
     // The table begins here, the words of the cursor and the limits at k.
-    let from = if told { 9 } else { 2 };
+    let from = if any { 9 } else { 2 };
     let x_at = plus(from, lt);
     let end = plus(x_at, lx);
-    let k = if told { 4 } else { end };
-    if (if told { end } else { plus(end, 5) }) != ins {
+    let k = if any { 4 } else { end };
+    if (if any { end } else { plus(end, 5) }) != ins {
         return Replayed::Unfit;
     }
     if !all_signed(inputs, k, wrapping_add_usize(k, 3)) {
         return Replayed::Unfit;
     }
-    let said = scan_at(inputs, k, part(floats, from, lt), part(floats, x_at, lx));
-    put_answer(got, told, said, floats, 0)
+    let answered = scan_at(inputs, k, part(floats, from, lt), part(floats, x_at, lx));
+    put_answer(got, any, answered, floats, 0)
 }

@@ -1,6 +1,6 @@
 // Operation 130: the verdicts on one point from every legal place of the three cursors.
-use crate::answers::Bytes;
-use crate::answers::push;
+use lists::pushes::Bytes;
+use lists::pushes::push;
 use lists::rooms::Room;
 use lists::rooms::front;
 use lists::rooms::part;

@@ -1,5 +1,5 @@
 -- Definitions, which a reader has to believe.
-pub mod Told
-pub mod ToldRuns
-pub mod ToldScan
+pub mod Exported
+pub mod ExportedRuns
+pub mod ExportedScan
 pub mod laws

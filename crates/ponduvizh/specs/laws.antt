@@ -1,1 +1,1 @@
-pub mod ToldRefused
+pub mod Refused

@@ -9,9 +9,9 @@ use oracles::ell_common::Update;
 use oracles::ell_stable::EllStable;
 use oracles::ell_stable::NewEllStable;
 ghost use mathlib.Core.Path.{_≡_};
-ghost use Rattle.oracles.specs.Ell.{new-ell-answer};
-ghost use Rattle.oracles.specs.EllStable.{new-ell-stable-answer};
-ghost use Rattle.ponduvizh.specs.Told.{strategy-of, beta-of, status-or, ell-made, ell-told, stable-made, stable-told};
+ghost use Rattle.oracles.specs.Ell.{ell-buffers, new-ell-answer};
+ghost use Rattle.oracles.specs.EllStable.{stable-buffers, new-ell-stable-answer};
+ghost use Rattle.ponduvizh.specs.Exported.{strategy-of, beta-of, status-or, update-end, ell-made, ell-exported, stable-made, stable-exported};
 
 fn strategy_of(k: u64) -> CutStrategy
     ensures { λ r. ⌜ r ≡ strategy-of k ⌝ }
@@ -58,7 +58,11 @@ fn ell_made(
     xc: &mut [f64],
     grad_t: &mut [f64],
 ) -> u64
-    ensures { λ r. ⌜ record { code = r; status = now (status .exit); kappa = now (kappa .exit); tsq = now (tsq .exit); buffers = record { mq = now (mq .exit); xc = now (xc .exit); grad-t = now («grad_t» .exit) } } ≡ ell-made made (strategy-of strategy) (now (grad .entry)) (beta-of parallel beta0 beta1) (now (tsq .entry)) (now (status .entry)) (record { mq = now (mq .entry); xc = now (xc .entry); grad-t = now («grad_t» .entry) }) ⌝ }
+    ensures { λ r. ⌜ update-end r (now (status .exit)) (now (kappa .exit)) (now (tsq .exit))
+        (ell-buffers (now (mq .exit)) (now (xc .exit)) (now («grad_t» .exit)))
+        ≡ ell-made made
+        (strategy-of strategy) (now (grad .entry)) (beta-of parallel beta0 beta1) (now (tsq .entry)) (now (status .entry))
+        (ell-buffers (now (mq .entry)) (now (xc .entry)) (now («grad_t» .entry))) ⌝ }
 {
     let mut ell = made;
     ell.tsq = *tsq;
@@ -93,7 +97,11 @@ pub extern "C" fn ponduvizh_ell_update(
     xc: &mut [f64],
     grad_t: &mut [f64],
 ) -> u64
-    ensures { λ r. ⌜ record { code = r; status = now (status .exit); kappa = now (kappa .exit); tsq = now (tsq .exit); buffers = record { mq = now (mq .exit); xc = now (xc .exit); grad-t = now («grad_t» .exit) } } ≡ ell-told (new-ell-answer n (now (kappa .entry))) (strategy-of strategy) (now (grad .entry)) (beta-of parallel beta0 beta1) (now (kappa .entry)) (now (tsq .entry)) (now (status .entry)) (record { mq = now (mq .entry); xc = now (xc .entry); grad-t = now («grad_t» .entry) }) ⌝ }
+    ensures { λ r. ⌜ update-end r (now (status .exit)) (now (kappa .exit)) (now (tsq .exit))
+        (ell-buffers (now (mq .exit)) (now (xc .exit)) (now («grad_t» .exit)))
+        ≡ ell-exported (new-ell-answer n (now (kappa .entry)))
+        (strategy-of strategy) (now (grad .entry)) (beta-of parallel beta0 beta1) (now (kappa .entry)) (now (tsq .entry)) (now (status .entry))
+        (ell-buffers (now (mq .entry)) (now (xc .entry)) (now («grad_t» .entry))) ⌝ }
 {
     match Ell::new_with_matrix(n, *kappa) {
         NewEll::Refused(why) => code(why),
@@ -132,7 +140,11 @@ fn ell_stable_made(
     gg_t: &mut [f64],
     g_t: &mut [f64],
 ) -> u64
-    ensures { λ r. ⌜ record { code = r; status = now (status .exit); kappa = now (kappa .exit); tsq = now (tsq .exit); buffers = record { mq = now (mq .exit); xc = now (xc .exit); inv-ml-g = now («inv_ml_g» .exit); inv-md-inv-ml-g = now («inv_md_inv_ml_g» .exit); gg-t = now («gg_t» .exit); g-t = now («g_t» .exit) } } ≡ stable-made made (strategy-of strategy) (now (grad .entry)) (beta-of parallel beta0 beta1) (now (tsq .entry)) (now (status .entry)) (record { mq = now (mq .entry); xc = now (xc .entry); inv-ml-g = now («inv_ml_g» .entry); inv-md-inv-ml-g = now («inv_md_inv_ml_g» .entry); gg-t = now («gg_t» .entry); g-t = now («g_t» .entry) }) ⌝ }
+    ensures { λ r. ⌜ update-end r (now (status .exit)) (now (kappa .exit)) (now (tsq .exit))
+        (stable-buffers (now (mq .exit)) (now (xc .exit)) (now («inv_ml_g» .exit)) (now («inv_md_inv_ml_g» .exit)) (now («gg_t» .exit)) (now («g_t» .exit)))
+        ≡ stable-made made
+        (strategy-of strategy) (now (grad .entry)) (beta-of parallel beta0 beta1) (now (tsq .entry)) (now (status .entry))
+        (stable-buffers (now (mq .entry)) (now (xc .entry)) (now («inv_ml_g» .entry)) (now («inv_md_inv_ml_g» .entry)) (now («gg_t» .entry)) (now («g_t» .entry))) ⌝ }
 {
     let mut ell = made;
     ell.tsq = *tsq;
@@ -173,7 +185,11 @@ pub extern "C" fn ponduvizh_ell_stable_update(
     gg_t: &mut [f64],
     g_t: &mut [f64],
 ) -> u64
-    ensures { λ r. ⌜ record { code = r; status = now (status .exit); kappa = now (kappa .exit); tsq = now (tsq .exit); buffers = record { mq = now (mq .exit); xc = now (xc .exit); inv-ml-g = now («inv_ml_g» .exit); inv-md-inv-ml-g = now («inv_md_inv_ml_g» .exit); gg-t = now («gg_t» .exit); g-t = now («g_t» .exit) } } ≡ stable-told (new-ell-stable-answer n (now (kappa .entry))) (strategy-of strategy) (now (grad .entry)) (beta-of parallel beta0 beta1) (now (kappa .entry)) (now (tsq .entry)) (now (status .entry)) (record { mq = now (mq .entry); xc = now (xc .entry); inv-ml-g = now («inv_ml_g» .entry); inv-md-inv-ml-g = now («inv_md_inv_ml_g» .entry); gg-t = now («gg_t» .entry); g-t = now («g_t» .entry) }) ⌝ }
+    ensures { λ r. ⌜ update-end r (now (status .exit)) (now (kappa .exit)) (now (tsq .exit))
+        (stable-buffers (now (mq .exit)) (now (xc .exit)) (now («inv_ml_g» .exit)) (now («inv_md_inv_ml_g» .exit)) (now («gg_t» .exit)) (now («g_t» .exit)))
+        ≡ stable-exported (new-ell-stable-answer n (now (kappa .entry)))
+        (strategy-of strategy) (now (grad .entry)) (beta-of parallel beta0 beta1) (now (kappa .entry)) (now (tsq .entry)) (now (status .entry))
+        (stable-buffers (now (mq .entry)) (now (xc .entry)) (now («inv_ml_g» .entry)) (now («inv_md_inv_ml_g» .entry)) (now («gg_t» .entry)) (now («g_t» .entry))) ⌝ }
 {
     match EllStable::new_with_matrix(n, *kappa) {
         NewEllStable::Refused(why) => code(why),

@@ -1,12 +1,12 @@
 // The reading of a job. `sizes` becomes n, the rows and the step limit, `bands` nwpass and nwstop, `marks` the cursors of pass, middle and stop, idx1 to idx3 and kmax, `numbers` lp_sq, up_sq, sp_sq, kappa and the tolerance; or `place` where the record is refused.
-use crate::runs::put_marks;
+use crate::run_numbers::put_marks;
 use drivers::job::Job;
 use drivers::job::JobAnswer;
 use drivers::job::read_job;
 ghost use mathlib.Core.Path.{_≡_};
 ghost use Prim.Native.Nat.{ℕ};
 ghost use Rattle.drivers.specs.Job.{read-job-answer};
-ghost use Rattle.ponduvizh.specs.ToldRuns.{JobLeft, bands-of, numbers-of, job-left, place-or, job-said, read-told};
+ghost use Rattle.ponduvizh.specs.ExportedRuns.{JobNumbers, bands-of, numbers-of, numbers-read, job-numbers, place-or, job-numbers-or, read-exported};
 
 fn put_bands(job: Job, bands: &mut [i32; 2])
     ensures { λ _. ⌜ now (bands .exit) ≡ bands-of job ⌝ }
@@ -34,7 +34,7 @@ fn put_job(
     marks: &mut [i32; 7],
     numbers: &mut [f64; 5],
 )
-    ensures { λ _. ⌜ record { sizes = now (sizes .exit); bands = now (bands .exit); marks = now (marks .exit); numbers = now (numbers .exit) } ≡ job-left job ⌝ }
+    ensures { λ _. ⌜ numbers-read (now (sizes .exit)) (now (bands .exit)) (now (marks .exit)) (now (numbers .exit)) ≡ job-numbers job ⌝ }
 {
     let options = job.options;
     *sizes = [job.n, job.rows, options.max_iters as usize];
@@ -52,7 +52,9 @@ fn put_answer(
     marks: &mut [i32; 7],
     numbers: &mut [f64; 5],
 )
-    ensures { λ _. ⌜ _≡_ {A = ℕ × JobLeft} (now (place .exit), record { sizes = now (sizes .exit); bands = now (bands .exit); marks = now (marks .exit); numbers = now (numbers .exit) }) (place-or answer (now (place .entry)), job-said answer (record { sizes = now (sizes .entry); bands = now (bands .entry); marks = now (marks .entry); numbers = now (numbers .entry) })) ⌝ }
+    ensures { λ _. ⌜ _≡_ {A = ℕ × JobNumbers}
+        (now (place .exit), numbers-read (now (sizes .exit)) (now (bands .exit)) (now (marks .exit)) (now (numbers .exit)))
+        (place-or answer (now (place .entry)), job-numbers-or answer (numbers-read (now (sizes .entry)) (now (bands .entry)) (now (marks .entry)) (now (numbers .entry)))) ⌝ }
 {
     match answer {
         JobAnswer::Refused(_, at) => {
@@ -76,7 +78,15 @@ pub extern "C" fn ponduvizh_read_job(
     xc: &mut [f64],
     mq: &mut [f64],
 ) -> u64
-    ensures { λ r. ⌜ ((r, now (place .exit), record { sizes = now (sizes .exit); bands = now (bands .exit); marks = now (marks .exit); numbers = now (numbers .exit) }), now (table .exit), now (xc .exit), now (mq .exit)) ≡ read-told (read-job-answer (now (bytes .entry)) (now (table .entry)) (now (xc .entry)) (now (mq .entry))) (now (place .entry)) (record { sizes = now (sizes .entry); bands = now (bands .entry); marks = now (marks .entry); numbers = now (numbers .entry) }) ⌝ }
+    ensures { λ r. ⌜ (
+      (r, now (place .exit), numbers-read (now (sizes .exit)) (now (bands .exit)) (now (marks .exit)) (now (numbers .exit))),
+      now (table .exit),
+      now (xc .exit),
+      now (mq .exit),
+    )
+        ≡ read-exported
+        (read-job-answer (now (bytes .entry)) (now (table .entry)) (now (xc .entry)) (now (mq .entry))) (now (place .entry))
+        (numbers-read (now (sizes .entry)) (now (bands .entry)) (now (marks .entry)) (now (numbers .entry))) ⌝ }
 {
     let answer = read_job(bytes, table, xc, mq);
     put_answer(answer, sizes, place, bands, marks, numbers);

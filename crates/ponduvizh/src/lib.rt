@@ -4,5 +4,6 @@
 mod ellipsoids;
 mod jobs;
 mod numeric;
+mod run_numbers;
 mod runs;
 mod scans;

@@ -13,7 +13,7 @@ ghost use lib.Dec.{T};
 ghost use lib.Ieee.Positive.{positive};
 ghost use Rattle.numbers.specs.Sqrt.{sqrt-of, NearestRoot};
 ghost use Rattle.oracles.specs.LdltMgr.{factor-answer};
-ghost use Rattle.ponduvizh.specs.Told.{value-or, number-told, written-told, factored-end, factored-told};
+ghost use Rattle.ponduvizh.specs.Exported.{value-or, number-exported, written-exported, factored-end, factored-exported};
 
 pub(crate) fn code(why: Refusal) -> u64
     ensures { λ r. ⌜ r ≡ refusal-number why ⌝ }
@@ -51,7 +51,7 @@ pub extern "C" fn ponduvizh_sqrt(x: f64) -> f64
 // The product through `out`.
 #[no_mangle]
 pub extern "C" fn ponduvizh_dot(n: usize, a: &[f64], b: &[f64], out: &mut f64) -> u64
-    ensures { λ r. ⌜ (r, now (out .exit)) ≡ number-told (dot-answer n (now (a .entry)) (now (b .entry))) (now (out .entry)) ⌝ }
+    ensures { λ r. ⌜ (r, now (out .exit)) ≡ number-exported (dot-answer n (now (a .entry)) (now (b .entry))) (now (out .entry)) ⌝ }
 {
     let answer = dot(n, a, b);
     *out = value_or(answer, *out);
@@ -60,7 +60,7 @@ pub extern "C" fn ponduvizh_dot(n: usize, a: &[f64], b: &[f64], out: &mut f64) -
 
 #[no_mangle]
 pub extern "C" fn ponduvizh_dot_mv_into(n: usize, mat: &[f64], x: &[f64], out: &mut [f64]) -> u64
-    ensures { λ r. ⌜ (r, now (out .exit)) ≡ written-told (dot-mv-into-answer n (now (mat .entry)) (now (x .entry)) (now (out .entry))) ⌝ }
+    ensures { λ r. ⌜ (r, now (out .exit)) ≡ written-exported (dot-mv-into-answer n (now (mat .entry)) (now (x .entry)) (now (out .entry))) ⌝ }
 {
     dot_mv_into(n, mat, x, out).number() as u64
 }
@@ -73,7 +73,7 @@ pub extern "C" fn ponduvizh_factor(
     storage: &mut [f64],
     end: &mut usize,
 ) -> u64
-    ensures { λ r. ⌜ (r, now (end .exit), now (storage .exit)) ≡ factored-told (factor-answer m (now (mat .entry)) (now (storage .entry))) (now (end .entry)) ⌝ }
+    ensures { λ r. ⌜ (r, now (end .exit), now (storage .exit)) ≡ factored-exported (factor-answer m (now (mat .entry)) (now (storage .entry))) (now (end .entry)) ⌝ }
 {
     let answer = factor(m, mat, storage);
     *end = factored_end(answer, *end);

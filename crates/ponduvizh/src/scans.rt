@@ -8,7 +8,7 @@ use oracles::scan::Violation;
 use oracles::scan::scan_lent;
 ghost use mathlib.Core.Path.{_≡_};
 ghost use Rattle.oracles.specs.Scan.{scan-band-answer};
-ghost use Rattle.ponduvizh.specs.ToldScan.{upper-of, side-of, row-of, value-of, scan-left, scan-said, scan-ended};
+ghost use Rattle.ponduvizh.specs.ExportedScan.{upper-of, side-of, row-of, value-of, numbers-found, scan-numbers, scan-numbers-or, scan-end};
 
 fn upper_of(bounded: bool, upper: f64) -> Upper
     ensures { λ r. ⌜ r ≡ upper-of bounded upper ⌝ }
@@ -52,7 +52,7 @@ fn value_of(viol: Violation) -> f64
 }
 
 fn put_scan(scan: Scan, found: &mut [usize; 2], values: &mut [f64; 2], kmax: &mut i32)
-    ensures { λ _. ⌜ record { found = now (found .exit); values = now (values .exit); kmax = now (kmax .exit) } ≡ scan-left scan ⌝ }
+    ensures { λ _. ⌜ numbers-found (now (found .exit)) (now (values .exit)) (now (kmax .exit)) ≡ scan-numbers scan ⌝ }
 {
     let viol = scan.viol;
     *found = [side_of(viol), row_of(viol)];
@@ -63,7 +63,9 @@ fn put_scan(scan: Scan, found: &mut [usize; 2], values: &mut [f64; 2], kmax: &mu
 
 // What an answer says, in numbers.
 fn put_answer(answer: ScanAnswer, found: &mut [usize; 2], values: &mut [f64; 2], kmax: &mut i32)
-    ensures { λ _. ⌜ record { found = now (found .exit); values = now (values .exit); kmax = now (kmax .exit) } ≡ scan-said answer (record { found = now (found .entry); values = now (values .entry); kmax = now (kmax .entry) }) ⌝ }
+    ensures { λ _. ⌜ numbers-found (now (found .exit)) (now (values .exit)) (now (kmax .exit))
+        ≡ scan-numbers-or answer
+        (numbers-found (now (found .entry)) (now (values .entry)) (now (kmax .entry))) ⌝ }
 {
     match answer {
         ScanAnswer::Refused(_) => {}
@@ -97,7 +99,10 @@ fn scan_from(
     values: &mut [f64; 2],
     kmax: &mut i32,
 ) -> u64
-    ensures { λ r. ⌜ ((r, record { found = now (found .exit); values = now (values .exit); kmax = now (kmax .exit) }), now (cur .exit)) ≡ scan-ended (scan-band-answer n rows (now (table .entry)) (now (x .entry)) start lower upper) (record { found = now (found .entry); values = now (values .entry); kmax = now (kmax .entry) }) ⌝ }
+    ensures { λ r. ⌜ ((r, numbers-found (now (found .exit)) (now (values .exit)) (now (kmax .exit))), now (cur .exit))
+        ≡ scan-end
+        (scan-band-answer n rows (now (table .entry)) (now (x .entry)) start lower upper)
+        (numbers-found (now (found .entry)) (now (values .entry)) (now (kmax .entry))) ⌝ }
 {
     let end = scan_lent(n, rows, table, x, start, lower, upper);
     let cursor = end.cursor;
@@ -124,7 +129,10 @@ pub extern "C" fn ponduvizh_scan_band(
     values: &mut [f64; 2],
     kmax: &mut i32,
 ) -> u64
-    ensures { λ r. ⌜ ((r, record { found = now (found .exit); values = now (values .exit); kmax = now (kmax .exit) }), now (cur .exit)) ≡ scan-ended (scan-band-answer n rows (now (table .entry)) (now (x .entry)) (record { cur = now (cur .entry); lo = lo; hi = hi }) lower (upper-of bounded upper)) (record { found = now (found .entry); values = now (values .entry); kmax = now (kmax .entry) }) ⌝ }
+    ensures { λ r. ⌜ ((r, numbers-found (now (found .exit)) (now (values .exit)) (now (kmax .exit))), now (cur .exit))
+        ≡ scan-end
+        (scan-band-answer n rows (now (table .entry)) (now (x .entry)) (record { cur = now (cur .entry); lo = lo; hi = hi }) lower (upper-of bounded upper))
+        (numbers-found (now (found .entry)) (now (values .entry)) (now (kmax .entry))) ⌝ }
 {
     let start = cursor_at(cur, lo, hi);
     let limit = upper_of(bounded, upper);

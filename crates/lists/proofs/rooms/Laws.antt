@@ -22,17 +22,17 @@ unfolding part-of
 part-in s at len k h e = hit _ _ _ _ (le-leb (at + len) (length s) h) (ap (λ (j : ℕ). take j (drop at s)) e)
 
 -- a front that the slice does not hold, or does: from words, or zeros
-module _ (s : List Float) (bytes : List ℕ) (told : Bool) (at len : ℕ) where
-  pub fill-out : length s < len → s ≡ filled-of s bytes told at len
+module _ (s : List Float) (bytes : List ℕ) (given : Bool) (at len : ℕ) where
+  pub fill-out : length s < len → s ≡ filled-of s bytes given at len
   unfolding filled-of
   fill-out h = skip _ _ _ _ (lt-leb len (length s) h) refl
 
   module _ (ys : List Float) (h : len ≤ length s) where
-    pub fill-told : told ≡ true → ys ≡ floats-at bytes at (take len s) → ys ++ drop len s ≡ filled-of s bytes told at len
+    pub fill-given : given ≡ true → ys ≡ floats-at bytes at (take len s) → ys ++ drop len s ≡ filled-of s bytes given at len
     unfolding filled-of
-    fill-told t e = hit _ _ _ _ (le-leb len (length s) h) (ap (λ (zs : List Float). zs ++ drop len s) (hit _ _ _ _ t e))
+    fill-given t e = hit _ _ _ _ (le-leb len (length s) h) (ap (λ (zs : List Float). zs ++ drop len s) (hit _ _ _ _ t e))
 
-    pub fill-zeros : told ≡ false → ys ≡ replicate (length (take len s)) 0ᶠ → ys ++ drop len s ≡ filled-of s bytes told at len
+    pub fill-zeros : given ≡ false → ys ≡ replicate (length (take len s)) 0ᶠ → ys ++ drop len s ≡ filled-of s bytes given at len
     unfolding filled-of
     fill-zeros t e =
         let z : ys ≡ replicate len 0ᶠ = e ∙ ap (λ (k : ℕ). replicate k 0ᶠ) (length-take-le len s h) in

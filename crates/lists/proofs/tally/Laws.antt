@@ -4,7 +4,10 @@ use mathlib.Core.List.{List}
 use Prim.Native.Nat.{ℕ, _≤_, _<_, min}
 use borrow.Author.Tests.{le-leb, lt-leb, lt-ltb, le-ltb, eq-eqb, ne-eqb}
 use Rattle.lists.specs.Words.{first-diff}
-use Rattle.lists.specs.Tally.{words-verdict, verdict-of, bumped, counted, tallied}
+use Rattle.lists.specs.Tally.{words-verdict, verdict-of, bumped, counted, tallied, damaged-of, taken-of}
+use Rattle.lists.specs.Case.{Whole}
+use Rattle.lists.specs.declared.case.Next.{Next}
+use Rattle.lists.specs.declared.case.Next.the-variants.{CutShort, TooLong}
 use Rattle.lists.specs.declared.tally.Replayed.{Replayed}
 use Rattle.lists.specs.declared.tally.Replayed.the-variants.{Words, Refused, Unfit, Unknown}
 use Rattle.lists.specs.declared.tally.Verdict.{Verdict}
@@ -49,3 +52,11 @@ unfit-differs outs expected got replayed p = rw p
 pub unknown-known : (outs : ℕ) (expected got : List ℕ) (replayed : Replayed) → replayed ≡ Unknown → NotKnown ≡ verdict-of outs expected replayed got
 unfolding verdict-of
 unknown-known outs expected got replayed p = rw p
+
+-- a list that is damaged there
+module _ (next : Next) (t t′ : List ℕ) (e : t′ ≡ damaged-of t) where
+  pub cut-short : next ≡ CutShort → (t′ ≡ taken-of next t) × Whole next
+  cut-short p = rw p (e, tt)
+
+  pub too-long : next ≡ TooLong → (t′ ≡ taken-of next t) × Whole next
+  too-long p = rw p (e, tt)

@@ -11,20 +11,20 @@ use Rattle.drivers.specs.Job.{job-oracle}
 use Rattle.drivers.specs.declared.job.Job.{Job}
 use Rattle.drivers.specs.declared.job.JobAnswer.{JobAnswer}
 use Rattle.drivers.specs.declared.job.JobAnswer.the-variants.{Read, Refused}
-use Rattle.ponduvizh.specs.ToldRuns.{JobLeft, bands-of, marks-of, numbers-of, job-left, place-or, job-said, read-told}
+use Rattle.ponduvizh.specs.ExportedRuns.{JobNumbers, bands-of, marks-of, numbers-of, job-numbers, place-or, job-numbers-or, read-exported}
 
-pub was-read : (a : JobAnswer) (j : Job) (place : ℕ) (l l′ : JobLeft) → a ≡ Read j → l′ ≡ job-left j → _≡_ {A = ℕ × JobLeft} (place, l′) (place-or a place, job-said a l)
+pub was-read : (a : JobAnswer) (j : Job) (place : ℕ) (l l′ : JobNumbers) → a ≡ Read j → l′ ≡ job-numbers j → _≡_ {A = ℕ × JobNumbers} (place, l′) (place-or a place, job-numbers-or a l)
 was-read a j place l l′ m h = rw (m, h) refl
 
-pub was-refused : (a : JobAnswer) (why : Refusal) (at place : ℕ) (l : JobLeft) → a ≡ Refused why at → _≡_ {A = ℕ × JobLeft} (at, l) (place-or a place, job-said a l)
+pub was-refused : (a : JobAnswer) (why : Refusal) (at place : ℕ) (l : JobNumbers) → a ≡ Refused why at → _≡_ {A = ℕ × JobNumbers} (at, l) (place-or a place, job-numbers-or a l)
 was-refused a why at place l m = rw m refl
 
-pub read-law : (a : JobAnswer) (table xc mq : List Float) (r : JobAnswer × List Float × List Float × List Float) (code place at : ℕ) (l l′ : JobLeft)
+pub read-law : (a : JobAnswer) (table xc mq : List Float) (r : JobAnswer × List Float × List Float × List Float) (code place at : ℕ) (l l′ : JobNumbers)
     → (a, table, xc, mq) ≡ r
     → code ≡ job-number a
-    → _≡_ {A = ℕ × JobLeft} (at, l′) (place-or a place, job-said a l)
-    → _≡_ {A = (ℕ × ℕ × JobLeft) × List Float × List Float × List Float} ((code, at, l′), table, xc, mq) (read-told r place l)
-unfolding read-told
+    → _≡_ {A = ℕ × JobNumbers} (at, l′) (place-or a place, job-numbers-or a l)
+    → _≡_ {A = (ℕ × ℕ × JobNumbers) × List Float × List Float × List Float} ((code, at, l′), table, xc, mq) (read-exported r place l)
+unfolding read-exported
 read-law a table xc mq r code place at l l′ d h t = rw (h, ← d, ap (λ p. p .0) t, ap (λ p. p .1) t) refl
 
 pub put-law : (j : Job) (o : LowpassOracle) (bands marks : List ℤ) (numbers : List Float)
@@ -32,6 +32,6 @@ pub put-law : (j : Job) (o : LowpassOracle) (bands marks : List ℤ) (numbers : 
     → bands ≡ bands-of j
     → marks ≡ marks-of o
     → numbers ≡ numbers-of j
-    → _≡_ {A = JobLeft} (record { sizes = j .n ∷ j .rows ∷ j .options .«max_iters» ∷ []; bands = bands; marks = marks; numbers = numbers }) (job-left j)
-unfolding job-left
+    → _≡_ {A = JobNumbers} (record { sizes = j .n ∷ j .rows ∷ j .options .«max_iters» ∷ []; bands = bands; marks = marks; numbers = numbers }) (job-numbers j)
+unfolding job-numbers
 put-law j o bands marks numbers h a b d = rw (a, b, d, h) refl

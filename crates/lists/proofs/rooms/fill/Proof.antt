@@ -2,7 +2,7 @@
 use mathlib.Core.Path.{sym}
 use borrow.Author.Needs.{needs}
 use lib.Seq.{length-take-le}
-use Rattle.lists.proofs.rooms.Laws.{fill-out, fill-told, fill-zeros}
+use Rattle.lists.proofs.rooms.Laws.{fill-out, fill-given, fill-zeros}
 use Rattle.lists.proofs.rooms.fill.Statement.{statement}
 use Rattle.lists.proofs.rooms.fill.Tie as tie
 
@@ -22,7 +22,7 @@ same-length : tie.Need-same-length
 same-length c = search needs
 
 returns-2 : tie.Need-returns-2
-returns-2 c = fill-told (c .before .before .before .before .before .before .before .before .args .s .now) _ _ _ _ _ (search needs) (search needs) (c .before .before .floats .ensures)
+returns-2 c = fill-given (c .before .before .before .before .before .before .before .before .args .s .now) _ _ _ _ _ (search needs) (search needs) (c .before .before .floats .ensures)
 
 slice-relend-prefix-fill-zero : tie.Need-slice-relend-prefix-fill-zero
 slice-relend-prefix-fill-zero c = search needs

@@ -7,8 +7,8 @@ use Rattle.ponduvizh.proofs.runs.optim_made.Tie as tie
 cutting-plane-optim-requires : tie.Need-cutting-plane-optim-requires
 cutting-plane-optim-requires c κs = tt
 
-put-optim-requires : tie.Need-put-optim-requires
-put-optim-requires c κs = tt
+put-run-requires : tie.Need-put-run-requires
+put-run-requires c κs = tt
 
 number-requires : tie.Need-number-requires
 number-requires c κs = tt
@@ -39,7 +39,7 @@ optim-made-spec =
     tie.close
     (tie.spec
     cutting-plane-optim-requires
-    put-optim-requires
+    put-run-requires
     number-requires
     cast-result
     same-length

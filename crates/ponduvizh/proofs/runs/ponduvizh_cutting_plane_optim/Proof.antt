@@ -1,12 +1,10 @@
 -- `ponduvizh::runs::ponduvizh_cutting_plane_optim` meets its contract. Assumes nothing.
-use Rattle.ponduvizh.proofs.runs.Laws.{optim-promised}
 use mir.Facts.{toZ-ofZ}
+use borrow.Author.Needs.{needs}
 use Rattle.oracles.specs.laws.Start.{start-same}
+use Rattle.ponduvizh.proofs.runs.Laws.{optim-made, optim-not-made}
 use Rattle.ponduvizh.proofs.runs.ponduvizh_cutting_plane_optim.Statement.{statement}
 use Rattle.ponduvizh.proofs.runs.ponduvizh_cutting_plane_optim.Tie as tie
-
-new-with-matrix-requires : tie.Need-new-with-matrix-requires
-new-with-matrix-requires c κs = tt
 
 start-requires : tie.Need-start-requires
 start-requires c κs = tt
@@ -14,43 +12,69 @@ start-requires c κs = tt
 new-requires : tie.Need-new-requires
 new-requires c κs = tt
 
-optim-of-requires : tie.Need-optim-of-requires
-optim-of-requires c κs = tt
+new-with-matrix-requires : tie.Need-new-with-matrix-requires
+new-with-matrix-requires c κs = tt
 
-same-length : tie.Need-same-length
-same-length c = c .before .before .before .before .before .before .before .before .before .before .optim-of .kept .1 .1 .1 .1 .1 .1 .1 .1 .1 .0
+enum-known-why : tie.Need-enum-known-why
+enum-known-why c = search needs
 
-same-length-2 : tie.Need-same-length-2
-same-length-2 c = c .before .before .before .before .before .before .before .before .before .before .optim-of .kept .1 .1 .1 .1 .1 .1 .1 .1 .1 .1 .0
+code-requires : tie.Need-code-requires
+code-requires c κs = tt
 
-same-length-3 : tie.Need-same-length-3
-same-length-3 c = c .before .before .before .before .before .before .before .before .before .before .optim-of .kept .1 .1 .1 .1 .1 .1 .1 .1 .1 .1 .1 .0
+enum-known-ell : tie.Need-enum-known-ell
+enum-known-ell c = search needs
 
-same-length-4 : tie.Need-same-length-4
-same-length-4 c = c .before .before .before .before .before .before .before .before .before .before .optim-of .kept .1 .1 .1 .1 .1 .1 .1 .1 .1 .1 .1 .1 .0
-
-same-length-5 : tie.Need-same-length-5
-same-length-5 c = c .before .before .before .before .before .before .before .before .before .before .optim-of .kept .1 .1 .1 .1 .1 .1 .1 .1 .1 .1 .1 .1 .1 .0
+optim-made-requires : tie.Need-optim-made-requires
+optim-made-requires c κs = tt
 
 returns : tie.Need-returns
 returns c =
+    let m = c .before .before .before .before in
+    let z = m .before .before .before .before .before .before .before .before .before .fits in
+    optim-not-made _ _ _ _ _ _ _ _ _ _ _ _ (m .new-with-matrix .ensures)
+    (start-same _ _ _ _ _ _ _ _ _ _ _ _ _ _ _ _ (toZ-ofZ (z .nwpass)) (toZ-ofZ (z .nwstop)) (toZ-ofZ (z .mdim)) (toZ-ofZ (z .cur1)) (toZ-ofZ (z .cur2)) (toZ-ofZ (z .cur3)) (m .before .before .start .ensures))
+    (m .before .new .ensures) _ _ _ (c .before .before .why .given .1) (c .code .ensures)
+
+same-length : tie.Need-same-length
+same-length c = c .before .before .before .before .before .before .before .before .before .before .optim-made .kept .1 .1 .1 .1 .1 .1 .1 .1 .1 .0
+
+same-length-2 : tie.Need-same-length-2
+same-length-2 c = c .before .before .before .before .before .before .before .before .before .before .optim-made .kept .1 .1 .1 .1 .1 .1 .1 .1 .1 .1 .0
+
+same-length-3 : tie.Need-same-length-3
+same-length-3 c = c .before .before .before .before .before .before .before .before .before .before .optim-made .kept .1 .1 .1 .1 .1 .1 .1 .1 .1 .1 .1 .0
+
+same-length-4 : tie.Need-same-length-4
+same-length-4 c = c .before .before .before .before .before .before .before .before .before .before .optim-made .kept .1 .1 .1 .1 .1 .1 .1 .1 .1 .1 .1 .1 .0
+
+same-length-5 : tie.Need-same-length-5
+same-length-5 c = c .before .before .before .before .before .before .before .before .before .before .optim-made .kept .1 .1 .1 .1 .1 .1 .1 .1 .1 .1 .1 .1 .1 .0
+
+returns-2 : tie.Need-returns-2
+returns-2 c =
     let f = c .before .before .before .before .before .before .before .before .before .before in
-    let n = f .before .before .before .before .before .before .before .before .before .before in
-    let z = n .before .before .before .before .before .before .before .before .before .fits in
-    optim-promised _ _ _ _ _ _ _ _
-    (rw (← n .before .before .new-with-matrix .ensures, ← start-same _ _ _ _ _ _ _ _ _ _ _ _ _ _ _ _ (toZ-ofZ (z .nwpass)) (toZ-ofZ (z .nwstop)) (toZ-ofZ (z .mdim)) (toZ-ofZ (z .cur1)) (toZ-ofZ (z .cur2)) (toZ-ofZ (z .cur3)) (n .before .start .ensures), ← n .new .ensures) (f .optim-of .ensures))
+    let b = f .before .before .before .before .before .before .before .before .before .before in
+    let m = b .before .before .before in
+    let z = m .before .before .before .before .before .before .before .before .before .fits in
+    optim-made _ _ _ _ _ _ _ _ _ _ _ _ (m .new-with-matrix .ensures)
+    (start-same _ _ _ _ _ _ _ _ _ _ _ _ _ _ _ _ (toZ-ofZ (z .nwpass)) (toZ-ofZ (z .nwstop)) (toZ-ofZ (z .mdim)) (toZ-ofZ (z .cur1)) (toZ-ofZ (z .cur2)) (toZ-ofZ (z .cur3)) (m .before .before .start .ensures))
+    (m .before .new .ensures) _ _ _ (b .before .ell .given .1) (f .optim-made .ensures)
 
 pub ponduvizh-cutting-plane-optim-spec : {M : Type 1} → statement M
 ponduvizh-cutting-plane-optim-spec =
     tie.close
     (tie.spec
-    new-with-matrix-requires
     start-requires
     new-requires
-    optim-of-requires
+    new-with-matrix-requires
+    enum-known-why
+    code-requires
+    enum-known-ell
+    optim-made-requires
+    returns
     same-length
     same-length-2
     same-length-3
     same-length-4
     same-length-5
-    returns)
+    returns-2)
