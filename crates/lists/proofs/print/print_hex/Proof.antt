@@ -12,45 +12,11 @@ Inv-loop w digits text₀ rest₀ i₀ text rest i = (i ≤ 16) × (16 ≡ lengt
 abbrev μ-loop : tie.MeasureT-loop
 μ-loop w digits text₀ rest₀ i₀ text rest i = i
 
-loop-holds : tie.Need-loop-holds Inv-loop μ-loop
-loop-holds c = search needs
-
-sub-i : tie.Need-sub-i Inv-loop μ-loop
-sub-i c = search needs
-
-element-copy-out-text : tie.Need-element-copy-out-text Inv-loop μ-loop
-element-copy-out-text c = search needs
-
-array-write-text : tie.Need-array-write-text Inv-loop μ-loop
-array-write-text c = search needs
-
-loop-less : tie.Need-loop-less Inv-loop μ-loop
-loop-less c = search needs
-
-loop-again : tie.Need-loop-again Inv-loop μ-loop
-loop-again c = search needs
-
-slice-aggregate-write-all : tie.Need-slice-aggregate-write-all Inv-loop μ-loop
-slice-aggregate-write-all c = search needs
-
-write-all-requires : tie.Need-write-all-requires Inv-loop μ-loop
-write-all-requires c κs = search needs
-
-returns : tie.Need-returns Inv-loop μ-loop
-returns c = search needs
-
 pub print-hex-spec : {M : Type 1} → statement M
 print-hex-spec =
     tie.close
     (tie.spec
     Inv-loop
     μ-loop
-    loop-holds
-    sub-i
-    element-copy-out-text
-    array-write-text
-    loop-less
-    loop-again
-    slice-aggregate-write-all
-    write-all-requires
-    returns)
+    (λ c. search needs) (λ c. search needs) (λ c. search needs) (λ c. search needs) (λ c. search needs) (λ c. search needs) (λ c. search needs)
+    (λ c κs. search needs) (λ c. search needs))

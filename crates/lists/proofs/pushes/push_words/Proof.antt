@@ -15,27 +15,6 @@ Inv-loop got₀ k words from to end at₀ i₀ got at i =
 abbrev μ-loop : tie.MeasureT-loop
 μ-loop got₀ k words from to end at₀ i₀ got at i = end - i
 
-shorter-requires : tie.Need-shorter-requires Inv-loop μ-loop
-shorter-requires c κs = search needs
-
-loop-holds : tie.Need-loop-holds Inv-loop μ-loop
-loop-holds c = search needs
-
-mul-push : tie.Need-mul-push Inv-loop μ-loop
-mul-push c = search needs
-
-shared-slice-read-push : tie.Need-shared-slice-read-push Inv-loop μ-loop
-shared-slice-read-push c = search needs
-
-push-requires : tie.Need-push-requires Inv-loop μ-loop
-push-requires c κs = search needs
-
-add-i : tie.Need-add-i Inv-loop μ-loop
-add-i c = search needs
-
-loop-less : tie.Need-loop-less Inv-loop μ-loop
-loop-less c = search needs
-
 loop-again : tie.Need-loop-again Inv-loop μ-loop
 loop-again c = let l = c .before .before .before .before .loop in (l .inv .0, words-turn _ _ _ _ _ (l .inv .1) _ _ (search needs) (c .push .ensures))
 
@@ -48,12 +27,7 @@ push-words-spec =
     (tie.spec
     Inv-loop
     μ-loop
-    shorter-requires
-    loop-holds
-    mul-push
-    shared-slice-read-push
-    push-requires
-    add-i
-    loop-less
+    (λ c κs. search needs) (λ c. search needs) (λ c. search needs) (λ c. search needs) (λ c κs. search needs) (λ c. search needs)
+    (λ c. search needs)
     loop-again
     returns)

@@ -6,47 +6,11 @@ use Rattle.lists.proofs.rooms.Laws.{part-out, part-in}
 use Rattle.lists.proofs.rooms.part.Statement.{statement}
 use Rattle.lists.proofs.rooms.part.Tie as tie
 
-sub-result : tie.Need-sub-result
-sub-result c = search needs
-
-part-result-start : tie.Need-part-result-start
-part-result-start c = search needs
-
-part-result-end : tie.Need-part-result-end
-part-result-end c = search needs
-
 returns : tie.Need-returns
 returns c = part-out (c .before .before .args .s .now) _ _ (search needs)
 
-sub-if2 : tie.Need-sub-if2
-sub-if2 c = search needs
-
-sub-result-2 : tie.Need-sub-result-2
-sub-result-2 c = search needs
-
-part-result-start-2 : tie.Need-part-result-start-2
-part-result-start-2 c = search needs
-
-part-result-end-2 : tie.Need-part-result-end-2
-part-result-end-2 c = search needs
-
 returns-2 : tie.Need-returns-2
 returns-2 c = part-out (c .before .before .before .args .s .now) _ _ (search needs)
-
-add-end : tie.Need-add-end
-add-end c = search needs
-
-mul-result : tie.Need-mul-result
-mul-result c = search needs
-
-sub-result-3 : tie.Need-sub-result-3
-sub-result-3 c = search needs
-
-part-result-start-3 : tie.Need-part-result-start-3
-part-result-start-3 c = search needs
-
-part-result-end-3 : tie.Need-part-result-end-3
-part-result-end-3 c = search needs
 
 returns-3 : tie.Need-returns-3
 returns-3 c = part-in (c .before .before .before .args .s .now) (c .before .before .before .args .at) (c .before .before .before .args .len) (c .before .before .before .args .at + c .before .before .before .args .len - c .before .before .before .args .at) (search needs) (omega arith)
@@ -55,18 +19,9 @@ pub part-spec : {M : Type 1} → statement M
 part-spec =
     tie.close
     (tie.spec
-    sub-result
-    part-result-start
-    part-result-end
+    (λ c. search needs) (λ c. search needs) (λ c. search needs)
     returns
-    sub-if2
-    sub-result-2
-    part-result-start-2
-    part-result-end-2
+    (λ c. search needs) (λ c. search needs) (λ c. search needs) (λ c. search needs)
     returns-2
-    add-end
-    mul-result
-    sub-result-3
-    part-result-start-3
-    part-result-end-3
+    (λ c. search needs) (λ c. search needs) (λ c. search needs) (λ c. search needs) (λ c. search needs)
     returns-3)

@@ -14,26 +14,11 @@ Inv-loop inputs from to k₀ k = all-signed inputs k (to - k) ≡ all-signed inp
 abbrev μ-loop : tie.MeasureT-loop
 μ-loop inputs from to k₀ k = to - k
 
-loop-holds : tie.Need-loop-holds Inv-loop μ-loop
-loop-holds c = refl
-
-word-requires : tie.Need-word-requires Inv-loop μ-loop
-word-requires c κs = search needs
-
-is-signed-requires : tie.Need-is-signed-requires Inv-loop μ-loop
-is-signed-requires c κs = search needs
-
 returns : tie.Need-returns Inv-loop μ-loop
 returns c =
     let a = c .before .before .before .before .before .before .args in
     let l = c .before .before .before .before .loop in
     signed-stop (a .inputs .now) (l .k) (a .to) (search needs) (sym (c .before .is-signed .ensures ∙ ap is-signed (c .before .before .word .ensures)) ∙ not-true _ (c .if1 .taken)) ∙ l .inv
-
-add-k : tie.Need-add-k Inv-loop μ-loop
-add-k c = search needs
-
-loop-less : tie.Need-loop-less Inv-loop μ-loop
-loop-less c = search needs
 
 loop-again : tie.Need-loop-again Inv-loop μ-loop
 loop-again c =
@@ -53,11 +38,8 @@ all-signed-spec =
     (tie.spec
     Inv-loop
     μ-loop
-    loop-holds
-    word-requires
-    is-signed-requires
+    (λ c. refl) (λ c κs. search needs) (λ c κs. search needs)
     returns
-    add-k
-    loop-less
+    (λ c. search needs) (λ c. search needs)
     loop-again
     returns-2)

@@ -5,20 +5,8 @@ use Rattle.lists.proofs.signed.Laws.{below-fits, signed-low, signed-non
 use Rattle.lists.proofs.signed.signed.Statement.{statement}
 use Rattle.lists.proofs.signed.signed.Tie as tie
 
-cast-result : tie.Need-cast-result
-cast-result c = search needs
-
-returns : tie.Need-returns
-returns c = signed-low (c .before .args .w) (search needs)
-
 returns-2 : tie.Need-returns-2
 returns-2 c = signed-none (c .before .before .args .w) (search needs) (search needs)
-
-sub-result : tie.Need-sub-result
-sub-result c = search needs
-
-cast-result-2 : tie.Need-cast-result-2
-cast-result-2 c = search needs
 
 sub-result-2 : tie.Need-sub-result-2
 sub-result-2 c = below-fits (18446744073709551615 - c .before .before .args .w) (search needs)
@@ -29,4 +17,9 @@ returns-3 c = signed-high (c .before .before .args .w) (search needs) (search ne
 pub signed-spec : {M : Type 1} → statement M
 signed-spec =
     tie.close
-    (tie.spec cast-result returns returns-2 sub-result cast-result-2 sub-result-2 returns-3)
+    (tie.spec
+    (λ c. search needs) (λ c. signed-low (c .before .args .w) (search needs))
+    returns-2
+    (λ c. search needs) (λ c. search needs)
+    sub-result-2
+    returns-3)

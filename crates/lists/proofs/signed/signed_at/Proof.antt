@@ -6,14 +6,12 @@ use Rattle.lists.specs.Signed.{signed-value}
 use Rattle.lists.proofs.signed.signed_at.Statement.{statement}
 use Rattle.lists.proofs.signed.signed_at.Tie as tie
 
-word-requires : tie.Need-word-requires
-word-requires c κs = search needs
-
-signed-requires : tie.Need-signed-requires
-signed-requires c κs = search needs
-
 returns : tie.Need-returns
 returns c = toZ-ofZ (search needs) ∙ c .signed .ensures ∙ ap signed-value (c .before .word .ensures)
 
 pub signed-at-spec : {M : Type 1} → statement M
-signed-at-spec = tie.close (tie.spec word-requires signed-requires returns)
+signed-at-spec =
+    tie.close
+    (tie.spec
+    (λ c κs. search needs) (λ c κs. search needs)
+    returns)

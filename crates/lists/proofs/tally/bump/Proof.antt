@@ -5,21 +5,6 @@ use borrow.Author.Needs.{needs}
 use Rattle.lists.proofs.tally.bump.Statement.{statement}
 use Rattle.lists.proofs.tally.bump.Tie as tie
 
-mul-one-more : tie.Need-mul-one-more
-mul-one-more c = search needs
-
-element-copy-out-one-more : tie.Need-element-copy-out-one-more
-element-copy-out-one-more c = search needs
-
-one-more-requires : tie.Need-one-more-requires
-one-more-requires c κs = search needs
-
-mul-table : tie.Need-mul-table
-mul-table c = search needs
-
-element-write-table : tie.Need-element-write-table
-element-write-table c = search needs
-
 returns : tie.Need-returns
 returns c = ap (set (c .before .before .args .table .now) (c .before .before .args .i)) (c .one-more .ensures)
 
@@ -27,9 +12,5 @@ pub bump-spec : {M : Type 1} → statement M
 bump-spec =
     tie.close
     (tie.spec
-    mul-one-more
-    element-copy-out-one-more
-    one-more-requires
-    mul-table
-    element-write-table
+    (λ c. search needs) (λ c. search needs) (λ c κs. search needs) (λ c. search needs) (λ c. search needs)
     returns)

@@ -14,26 +14,11 @@ Inv-loop a b n i₀ i = (i ≤ n) × (first-diff a b 0 n ≡ first-diff a b i (n
 abbrev μ-loop : tie.MeasureT-loop
 μ-loop a b n i₀ i = n - i
 
-loop-holds : tie.Need-loop-holds Inv-loop μ-loop
-loop-holds c = (search needs, ap (first-diff _ _ 0) (omega arith))
-
-word-requires : tie.Need-word-requires Inv-loop μ-loop
-word-requires c κs = search needs
-
-word-requires-2 : tie.Need-word-requires-2 Inv-loop μ-loop
-word-requires-2 c κs = search needs
-
 returns : tie.Need-returns Inv-loop μ-loop
 returns c =
     let a = c .before .before .before .before .before .before .before .args .a .now in
     let b = c .before .before .before .before .before .before .before .args .b .now in
     sym (c .before .before .before .before .loop .inv .1 ∙ diff-here a b (c .before .before .before .before .loop .i) (c .before .before .before .before .before .before .before .args .n) (search needs) (λ e. c .if1 .taken (c .before .before .word .ensures ∙ e ∙ sym (c .before .word2 .ensures))))
-
-add-i : tie.Need-add-i Inv-loop μ-loop
-add-i c = search needs
-
-loop-less : tie.Need-loop-less Inv-loop μ-loop
-loop-less c = search needs
 
 loop-again : tie.Need-loop-again Inv-loop μ-loop
 loop-again c =
@@ -51,11 +36,8 @@ first-difference-spec =
     (tie.spec
     Inv-loop
     μ-loop
-    loop-holds
-    word-requires
-    word-requires-2
+    (λ c. (search needs, ap (first-diff _ _ 0) (omega arith))) (λ c κs. search needs) (λ c κs. search needs)
     returns
-    add-i
-    loop-less
+    (λ c. search needs) (λ c. search needs)
     loop-again
     returns-2)

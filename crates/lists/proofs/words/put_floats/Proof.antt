@@ -15,39 +15,6 @@ Inv-loop bytes₀ k xs most i₀ bytes i = (i ≤ length xs) × (bytes ≡ put-t
 abbrev μ-loop : tie.MeasureT-loop
 μ-loop bytes₀ k xs most i₀ bytes i = length xs - i
 
-returns : tie.Need-returns Inv-loop μ-loop
-returns c = puts-out _ _ _ (search needs)
-
-sub-if2 : tie.Need-sub-if2 Inv-loop μ-loop
-sub-if2 c = search needs
-
-returns-2 : tie.Need-returns-2 Inv-loop μ-loop
-returns-2 c = puts-out _ _ _ (search needs)
-
-loop-holds : tie.Need-loop-holds Inv-loop μ-loop
-loop-holds c = (search needs, puts-none _ _ _)
-
-add-put : tie.Need-add-put Inv-loop μ-loop
-add-put c = search needs
-
-mul-to-bits : tie.Need-mul-to-bits Inv-loop μ-loop
-mul-to-bits c = search needs
-
-shared-slice-read-to-bits : tie.Need-shared-slice-read-to-bits Inv-loop μ-loop
-shared-slice-read-to-bits c = search needs
-
-to-bits-requires : tie.Need-to-bits-requires Inv-loop μ-loop
-to-bits-requires c κs = search needs
-
-put-requires : tie.Need-put-requires Inv-loop μ-loop
-put-requires c κs = search needs
-
-add-i : tie.Need-add-i Inv-loop μ-loop
-add-i c = search needs
-
-loop-less : tie.Need-loop-less Inv-loop μ-loop
-loop-less c = search needs
-
 loop-again : tie.Need-loop-again Inv-loop μ-loop
 loop-again c = (omega arith, put-turn _ _ _ _ _ (c .before .before .before .before .before .before .before .loop .i) (c .before .before .before .to-bits .result) (c .before .before .before .before .before .before .before .loop .inv .1) (c .before .before .before .to-bits .ensures) (c .before .before .put .ensures))
 
@@ -63,17 +30,9 @@ put-floats-spec =
     (tie.spec
     Inv-loop
     μ-loop
-    returns
-    sub-if2
-    returns-2
-    loop-holds
-    add-put
-    mul-to-bits
-    shared-slice-read-to-bits
-    to-bits-requires
-    put-requires
-    add-i
-    loop-less
+    (λ c. puts-out _ _ _ (search needs)) (λ c. search needs) (λ c. puts-out _ _ _ (search needs)) (λ c. (search needs, puts-none _ _ _))
+    (λ c. search needs) (λ c. search needs) (λ c. search needs) (λ c κs. search needs) (λ c κs. search needs) (λ c. search needs)
+    (λ c. search needs)
     loop-again
     same-length
     returns-3)

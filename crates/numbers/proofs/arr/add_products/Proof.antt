@@ -14,68 +14,11 @@ Inv-loop start a b from common s₀ i₀ s i = (i ≤ length a) × (dot-from s (
 abbrev μ-loop : tie.MeasureT-loop
 μ-loop start a b from common s₀ i₀ s i = common - i
 
-shorter-requires : tie.Need-shorter-requires Inv-loop μ-loop
-shorter-requires c κs = search needs
-
-loop-holds : tie.Need-loop-holds Inv-loop μ-loop
-loop-holds c = search needs
-
-add-loop : tie.Need-add-loop Inv-loop μ-loop
-add-loop c = search needs
-
-mul-s : tie.Need-mul-s Inv-loop μ-loop
-mul-s c = search needs
-
-shared-slice-read-s : tie.Need-shared-slice-read-s Inv-loop μ-loop
-shared-slice-read-s c = search needs
-
-mul-s-2 : tie.Need-mul-s-2 Inv-loop μ-loop
-mul-s-2 c = search needs
-
-shared-slice-read-s-2 : tie.Need-shared-slice-read-s-2 Inv-loop μ-loop
-shared-slice-read-s-2 c = search needs
-
-add-s : tie.Need-add-s Inv-loop μ-loop
-add-s c = search needs
-
-mul-s-3 : tie.Need-mul-s-3 Inv-loop μ-loop
-mul-s-3 c = search needs
-
-shared-slice-read-s-3 : tie.Need-shared-slice-read-s-3 Inv-loop μ-loop
-shared-slice-read-s-3 c = search needs
-
-add-s-2 : tie.Need-add-s-2 Inv-loop μ-loop
-add-s-2 c = search needs
-
-mul-s-4 : tie.Need-mul-s-4 Inv-loop μ-loop
-mul-s-4 c = search needs
-
-shared-slice-read-s-4 : tie.Need-shared-slice-read-s-4 Inv-loop μ-loop
-shared-slice-read-s-4 c = search needs
-
-add-i : tie.Need-add-i Inv-loop μ-loop
-add-i c = search needs
-
-loop-less : tie.Need-loop-less Inv-loop μ-loop
-loop-less c = search needs
-
 loop-again : tie.Need-loop-again Inv-loop μ-loop
 loop-again c =
     let a = c .before .before .before .before .before .before .before .before .before .args in
     let l = c .before .before .before .before .before .loop in
     (search needs, sum-two (a .a .now) (a .b .now) (l .s) (l .i) (l .inv .1) (search needs) (search needs))
-
-mul-s-5 : tie.Need-mul-s-5 Inv-loop μ-loop
-mul-s-5 c = search needs
-
-shared-slice-read-s-5 : tie.Need-shared-slice-read-s-5 Inv-loop μ-loop
-shared-slice-read-s-5 c = search needs
-
-mul-s-6 : tie.Need-mul-s-6 Inv-loop μ-loop
-mul-s-6 c = search needs
-
-shared-slice-read-s-6 : tie.Need-shared-slice-read-s-6 Inv-loop μ-loop
-shared-slice-read-s-6 c = search needs
 
 returns : tie.Need-returns Inv-loop μ-loop
 returns c =
@@ -95,25 +38,10 @@ add-products-spec =
     (tie.spec
     Inv-loop
     μ-loop
-    shorter-requires
-    loop-holds
-    add-loop
-    mul-s
-    shared-slice-read-s
-    mul-s-2
-    shared-slice-read-s-2
-    add-s
-    mul-s-3
-    shared-slice-read-s-3
-    add-s-2
-    mul-s-4
-    shared-slice-read-s-4
-    add-i
-    loop-less
+    (λ c κs. search needs) (λ c. search needs) (λ c. search needs) (λ c. search needs) (λ c. search needs) (λ c. search needs)
+    (λ c. search needs) (λ c. search needs) (λ c. search needs) (λ c. search needs) (λ c. search needs) (λ c. search needs) (λ c. search needs)
+    (λ c. search needs) (λ c. search needs)
     loop-again
-    mul-s-5
-    shared-slice-read-s-5
-    mul-s-6
-    shared-slice-read-s-6
+    (λ c. search needs) (λ c. search needs) (λ c. search needs) (λ c. search needs)
     returns
     returns-2)

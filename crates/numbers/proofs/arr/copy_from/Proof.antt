@@ -6,9 +6,6 @@ use Rattle.numbers.proofs.arr.Sized.{no-dimension, no-length, all-fit, 
 use Rattle.numbers.proofs.arr.copy_from.Statement.{statement}
 use Rattle.numbers.proofs.arr.copy_from.Tie as tie
 
-is-dimension-requires : tie.Need-is-dimension-requires
-is-dimension-requires c κs = search needs
-
 returns : tie.Need-returns
 returns c = refuses _ _ _ (no-dimension _ _ _ (c .before .is-dimension .ensures) (c .if1 .taken)) refl
 
@@ -18,9 +15,6 @@ returns-2 c = refuses _ _ _ (no-length _ _ _ (c .before .before .is-dimension .e
 copy-all-requires : tie.Need-copy-all-requires
 copy-all-requires c κs = let e = two-fit _ _ _ _ (c .before .if2 .left) in e .0 ∙ sym (e .1)
 
-same-length : tie.Need-same-length
-same-length c = search needs
-
 returns-3 : tie.Need-returns-3
 returns-3 c =
     let e = c .before .before .before .before in
@@ -29,4 +23,10 @@ returns-3 c =
 pub copy-from-spec : {M : Type 1} → statement M
 copy-from-spec =
     tie.close
-    (tie.spec is-dimension-requires returns returns-2 copy-all-requires same-length returns-3)
+    (tie.spec
+    (λ c κs. search needs)
+    returns
+    returns-2
+    copy-all-requires
+    (λ c. search needs)
+    returns-3)

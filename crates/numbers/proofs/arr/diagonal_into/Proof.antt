@@ -5,15 +5,6 @@ use Rattle.numbers.proofs.arr.Laws.{diagonal}
 use Rattle.numbers.proofs.arr.diagonal_into.Statement.{statement}
 use Rattle.numbers.proofs.arr.diagonal_into.Tie as tie
 
-fill-zero-requires : tie.Need-fill-zero-requires
-fill-zero-requires c κs = search needs
-
-set-diagonal-requires : tie.Need-set-diagonal-requires
-set-diagonal-requires c κs = search needs
-
-same-length : tie.Need-same-length
-same-length c = search needs
-
 returns : tie.Need-returns
 returns c =
     let a = c .before .before .before .before .before .before .before .before .before .before .args in
@@ -22,4 +13,7 @@ returns c =
 
 pub diagonal-into-spec : {M : Type 1} → statement M
 diagonal-into-spec =
-    tie.close (tie.spec fill-zero-requires set-diagonal-requires same-length returns)
+    tie.close
+    (tie.spec
+    (λ c κs. search needs) (λ c κs. search needs) (λ c. search needs)
+    returns)

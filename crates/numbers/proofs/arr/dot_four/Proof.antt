@@ -53,18 +53,6 @@ returns c =
     let a = t .before .before .before .before .before .before .args in
     four-on (a .a .now) (a .b .now) (a .c .now) (a .d .now) (a .x .now) (rows-fit (a .a .now) (a .b .now) (a .c .now) (a .d .now) (a .x .now) (t .if1 .taken)) (c .add-four .ensures)
 
-dot-zip-requires : tie.Need-dot-zip-requires
-dot-zip-requires c κs = search needs
-
-dot-zip-requires-2 : tie.Need-dot-zip-requires-2
-dot-zip-requires-2 c κs = search needs
-
-dot-zip-requires-3 : tie.Need-dot-zip-requires-3
-dot-zip-requires-3 c κs = search needs
-
-dot-zip-requires-4 : tie.Need-dot-zip-requires-4
-dot-zip-requires-4 c κs = search needs
-
 returns-2 : tie.Need-returns-2
 returns-2 c = λ i. record { a = c .before .before .before .dot-zip .ensures i; b = c .before .before .dot-zip2 .ensures i; c = c .before .dot-zip3 .ensures i; d = c .dot-zip4 .ensures i }
 
@@ -79,8 +67,5 @@ dot-four-spec =
     shared-slice-read-t33
     add-four-requires
     returns
-    dot-zip-requires
-    dot-zip-requires-2
-    dot-zip-requires-3
-    dot-zip-requires-4
+    (λ c κs. search needs) (λ c κs. search needs) (λ c κs. search needs) (λ c κs. search needs)
     returns-2)

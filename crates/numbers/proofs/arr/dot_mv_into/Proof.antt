@@ -12,9 +12,6 @@ use Rattle.numbers.proofs.arr.Sized.{no-dimension, no-length, all-fit}
 use Rattle.numbers.proofs.arr.dot_mv_into.Statement.{statement}
 use Rattle.numbers.proofs.arr.dot_mv_into.Tie as tie
 
-is-dimension-requires : tie.Need-is-dimension-requires
-is-dimension-requires c κs = search needs
-
 returns : tie.Need-returns
 returns c = refuses _ _ _ (no-dimension _ _ _ (c .before .is-dimension .ensures) (c .if1 .taken)) refl
 
@@ -35,9 +32,6 @@ rows-into-requires c κs =
     let q = and-eq-true-iff _ _ .0 (p .0) in
     (dimension-least n known, dimension-most n known, eqb-true _ _ (q .0), eqb-true _ _ (q .1), eqb-true _ _ (p .1))
 
-same-length : tie.Need-same-length
-same-length c = search needs
-
 returns-3 : tie.Need-returns-3
 returns-3 c =
     let e = c .before .before .before .before in
@@ -47,10 +41,10 @@ pub dot-mv-into-spec : {M : Type 1} → statement M
 dot-mv-into-spec =
     tie.close
     (tie.spec
-    is-dimension-requires
+    (λ c κs. search needs)
     returns
     mul-if2
     returns-2
     rows-into-requires
-    same-length
+    (λ c. search needs)
     returns-3)

@@ -5,22 +5,10 @@ use Rattle.numbers.proofs.arr.Laws.{none, first-on}
 use Rattle.numbers.proofs.arr.dot_zip.Statement.{statement}
 use Rattle.numbers.proofs.arr.dot_zip.Tie as tie
 
-shorter-requires : tie.Need-shorter-requires
-shorter-requires c κs = search needs
-
 returns : tie.Need-returns
 returns c =
     let a = c .before .before .before .before .args in
     none (a .a .now) (a .b .now) (search needs)
-
-shared-slice-read-first : tie.Need-shared-slice-read-first
-shared-slice-read-first c = search needs
-
-shared-slice-read-first-2 : tie.Need-shared-slice-read-first-2
-shared-slice-read-first-2 c = search needs
-
-add-products-requires : tie.Need-add-products-requires
-add-products-requires c κs = search needs
 
 returns-2 : tie.Need-returns-2
 returns-2 c =
@@ -31,9 +19,7 @@ pub dot-zip-spec : {M : Type 1} → statement M
 dot-zip-spec =
     tie.close
     (tie.spec
-    shorter-requires
+    (λ c κs. search needs)
     returns
-    shared-slice-read-first
-    shared-slice-read-first-2
-    add-products-requires
+    (λ c. search needs) (λ c. search needs) (λ c κs. search needs)
     returns-2)

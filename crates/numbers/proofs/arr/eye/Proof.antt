@@ -12,9 +12,6 @@ use Rattle.numbers.proofs.arr.Sized.{no-dimension, no-length, all-fit}
 use Rattle.numbers.proofs.arr.eye.Statement.{statement}
 use Rattle.numbers.proofs.arr.eye.Tie as tie
 
-is-dimension-requires : tie.Need-is-dimension-requires
-is-dimension-requires c κs = search needs
-
 returns : tie.Need-returns
 returns c = refuses _ _ _ (no-dimension _ _ _ (c .before .is-dimension .ensures) (c .if1 .taken)) refl
 
@@ -46,9 +43,6 @@ diagonal-into-requires c κs =
     let h : n ≤ 32 = small n (d .result) (d .ensures) (c .before .before .before .if1 .left) in
     (h, sym (same-long _ n h), eqb-true _ _ (not-false _ (c .before .before .if2 .left)))
 
-same-length : tie.Need-same-length
-same-length c = search needs
-
 returns-3 : tie.Need-returns-3
 returns-3 c =
     let e = c .before .before .before .before .before in
@@ -61,12 +55,12 @@ pub eye-spec : {M : Type 1} → statement M
 eye-spec =
     tie.close
     (tie.spec
-    is-dimension-requires
+    (λ c κs. search needs)
     returns
     mul-if2
     returns-2
     array-share-prefix-ones
     slice-aggregate-diagonal-into
     diagonal-into-requires
-    same-length
+    (λ c. search needs)
     returns-3)

@@ -8,9 +8,6 @@ use Rattle.numbers.proofs.arr.Sized.{no-dimension, no-length, all-fit, 
 use Rattle.numbers.proofs.arr.from_diag.Statement.{statement}
 use Rattle.numbers.proofs.arr.from_diag.Tie as tie
 
-is-dimension-requires : tie.Need-is-dimension-requires
-is-dimension-requires c κs = search needs
-
 returns : tie.Need-returns
 returns c = refuses _ _ _ (no-dimension _ _ _ (c .before .is-dimension .ensures) (c .if1 .taken)) refl
 
@@ -30,9 +27,6 @@ diagonal-into-requires c κs =
     let fit = two-fit _ _ _ _ (c .before .if2 .left) in
     (small n (d .result) (d .ensures) (c .before .before .if1 .left), fit .0, fit .1)
 
-same-length : tie.Need-same-length
-same-length c = search needs
-
 returns-3 : tie.Need-returns-3
 returns-3 c =
     let e = c .before .before .before .before in
@@ -42,10 +36,10 @@ pub from-diag-spec : {M : Type 1} → statement M
 from-diag-spec =
     tie.close
     (tie.spec
-    is-dimension-requires
+    (λ c κs. search needs)
     returns
     mul-if2
     returns-2
     diagonal-into-requires
-    same-length
+    (λ c. search needs)
     returns-3)

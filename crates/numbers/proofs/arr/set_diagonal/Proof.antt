@@ -32,12 +32,6 @@ add-at c =
     let i = c .before .loop .i in
     omega (arith, row-small n i (search needs) (search needs))
 
-mul-out : tie.Need-mul-out Inv-loop μ-loop
-mul-out c = search needs
-
-shared-slice-read-out : tie.Need-shared-slice-read-out Inv-loop μ-loop
-shared-slice-read-out c = search needs
-
 mul-out-2 : tie.Need-mul-out-2 Inv-loop μ-loop
 mul-out-2 c =
     let n = c .before .before .before .args .n in
@@ -50,20 +44,11 @@ slice-write-out c =
     let i = c .before .before .loop .i in
     omega (arith, row-in n i n (search needs))
 
-add-i : tie.Need-add-i Inv-loop μ-loop
-add-i c = search needs
-
-loop-less : tie.Need-loop-less Inv-loop μ-loop
-loop-less c = search needs
-
 loop-again : tie.Need-loop-again Inv-loop μ-loop
 loop-again c =
     let a = c .before .before .before .args in
     let l = c .before .before .loop in
     (search needs, search needs, diagonal-turn (a .n) (l .i) (a .v .now) (a .out .now) (l .out) (l .inv .2))
-
-same-length : tie.Need-same-length Inv-loop μ-loop
-same-length c = search needs
 
 returns : tie.Need-returns Inv-loop μ-loop
 returns c =
@@ -80,12 +65,10 @@ set-diagonal-spec =
     loop-holds
     mul-at
     add-at
-    mul-out
-    shared-slice-read-out
+    (λ c. search needs) (λ c. search needs)
     mul-out-2
     slice-write-out
-    add-i
-    loop-less
+    (λ c. search needs) (λ c. search needs)
     loop-again
-    same-length
+    (λ c. search needs)
     returns)

@@ -13,30 +13,15 @@ Inv-loop bytes w₀ i₀ w i = Read bytes w i
 abbrev μ-loop : tie.MeasureT-loop
 μ-loop bytes w₀ i₀ w i = i
 
-loop-holds : tie.Need-loop-holds Inv-loop μ-loop
-loop-holds c = read-none _
-
-sub-i : tie.Need-sub-i Inv-loop μ-loop
-sub-i c = search needs
-
 mul-w : tie.Need-mul-w Inv-loop μ-loop
 mul-w c =
     let a = read-turn _ (c .before .loop .w) (c .before .loop .i) _ (search needs) (search needs) (c .before .loop .inv) refl (c .before .before .shared-slice-known .given (c .before .loop .i - 1) .fits) in
     record { fits = omega (arith, a .1) }
 
-shared-slice-read-wide : tie.Need-shared-slice-read-wide Inv-loop μ-loop
-shared-slice-read-wide c = search needs
-
-wide-requires : tie.Need-wide-requires Inv-loop μ-loop
-wide-requires c κs = search needs
-
 add-w : tie.Need-add-w Inv-loop μ-loop
 add-w c =
     let a = read-turn _ (c .before .before .before .loop .w) (c .before .before .before .loop .i) (c .wide .result) (search needs) (search needs) (c .before .before .before .loop .inv) (c .wide .ensures) (c .before .shared-slice-known2 .given (c .before .before .before .loop .i - 1) .fits) in
     record { fits = a .1 }
-
-loop-less : tie.Need-loop-less Inv-loop μ-loop
-loop-less c = search needs
 
 loop-again : tie.Need-loop-again Inv-loop μ-loop
 loop-again c =
@@ -51,12 +36,10 @@ le-number-spec =
     (tie.spec
     Inv-loop
     μ-loop
-    loop-holds
-    sub-i
+    (λ c. read-none _) (λ c. search needs)
     mul-w
-    shared-slice-read-wide
-    wide-requires
+    (λ c. search needs) (λ c κs. search needs)
     add-w
-    loop-less
+    (λ c. search needs)
     loop-again
     returns)

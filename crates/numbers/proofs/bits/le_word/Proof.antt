@@ -12,28 +12,14 @@ slice-aggregate-le-half c = omega (arith, length-take 4 (c .before .before .args
 le-half-requires : tie.Need-le-half-requires
 le-half-requires c κs = omega (arith, length-take 4 (c .before .before .args .bytes .now))
 
-sub-le-half : tie.Need-sub-le-half
-sub-le-half c = search needs
-
-part-le-half-start : tie.Need-part-le-half-start
-part-le-half-start c = search needs
-
-part-le-half-end : tie.Need-part-le-half-end
-part-le-half-end c = search needs
-
-le-half-requires-2 : tie.Need-le-half-requires-2
-le-half-requires-2 c κs = search needs
-
-mul-result : tie.Need-mul-result
-mul-result c = search needs
-
-add-result : tie.Need-add-result
-add-result c = search needs
-
 returns : tie.Need-returns
 returns c = halves-are _ _ _ (c .before .before .le-half .ensures .0) (c .le-half2 .ensures .0)
 
 pub le-word-spec : {M : Type 1} → statement M
 le-word-spec =
     tie.close
-    (tie.spec slice-aggregate-le-half le-half-requires sub-le-half part-le-half-start part-le-half-end le-half-requires-2 mul-result add-result returns)
+    (tie.spec
+    slice-aggregate-le-half
+    le-half-requires
+    (λ c. search needs) (λ c. search needs) (λ c. search needs) (λ c κs. search needs) (λ c. search needs) (λ c. search needs)
+    returns)

@@ -14,8 +14,10 @@ returns c = above-nan (c .before .args .w) (c .if1 .taken)
 float-from-bits-result : tie.Need-float-from-bits-result
 float-from-bits-result c = subst (λ (b : Bool). T (not b)) (sym (below-number (c .before .args .w) (c .if1 .left))) tt
 
-returns-2 : tie.Need-returns-2
-returns-2 c = refl
-
 pub of-bits-spec : {M : Type 1} → statement M
-of-bits-spec = tie.close (tie.spec returns float-from-bits-result returns-2)
+of-bits-spec =
+    tie.close
+    (tie.spec
+    returns
+    float-from-bits-result
+    (λ c. refl))

@@ -13,38 +13,11 @@ Inv-loop out₀ at k w rest₀ i₀ out rest i = Low k w out₀ out at i rest
 abbrev μ-loop : tie.MeasureT-loop
 μ-loop out₀ at k w rest₀ i₀ out rest i = k - i
 
-returns : tie.Need-returns Inv-loop μ-loop
-returns c = put-short _ _ _ _ (search needs)
-
-sub-if2 : tie.Need-sub-if2 Inv-loop μ-loop
-sub-if2 c = search needs
-
-returns-2 : tie.Need-returns-2 Inv-loop μ-loop
-returns-2 c = put-short _ _ _ _ (search needs)
-
-loop-holds : tie.Need-loop-holds Inv-loop μ-loop
-loop-holds c = low-start _ _ _ _ (search needs)
-
-cast-out : tie.Need-cast-out Inv-loop μ-loop
-cast-out c = search needs
-
-add-out : tie.Need-add-out Inv-loop μ-loop
-add-out c = search needs
-
 slice-write-out : tie.Need-slice-write-out Inv-loop μ-loop
 slice-write-out c = omega (arith, c .before .loop .inv .long, c .before .loop .inv .room)
 
-add-i : tie.Need-add-i Inv-loop μ-loop
-add-i c = search needs
-
-loop-less : tie.Need-loop-less Inv-loop μ-loop
-loop-less c = search needs
-
 loop-again : tie.Need-loop-again Inv-loop μ-loop
 loop-again c = low-turn _ _ _ _ (c .before .loop .out) (c .before .loop .i) (c .before .loop .rest) (c .before .loop .inv) (search needs)
-
-same-length : tie.Need-same-length Inv-loop μ-loop
-same-length c = c .before .loop .inv .long
 
 returns-3 : tie.Need-returns-3 Inv-loop μ-loop
 returns-3 c = low-done _ _ _ _ _ (c .before .loop .i) _ (c .before .loop .inv) (search needs)
@@ -52,4 +25,13 @@ returns-3 c = low-done _ _ _ _ _ (c .before .loop .i) _ (c .before .loop .inv) (
 pub put-bytes-spec : {M : Type 1} → statement M
 put-bytes-spec =
     tie.close
-    (tie.spec Inv-loop μ-loop returns sub-if2 returns-2 loop-holds cast-out add-out slice-write-out add-i loop-less loop-again same-length returns-3)
+    (tie.spec
+    Inv-loop
+    μ-loop
+    (λ c. put-short _ _ _ _ (search needs)) (λ c. search needs) (λ c. put-short _ _ _ _ (search needs)) (λ c. low-start _ _ _ _ (search needs))
+    (λ c. search needs) (λ c. search needs)
+    slice-write-out
+    (λ c. search needs) (λ c. search needs)
+    loop-again
+    (λ c. c .before .loop .inv .long)
+    returns-3)

@@ -9,27 +9,6 @@ use borrow.Author.Needs.{needs}
 use Rattle.numbers.proofs.mv.one_row.Statement.{statement}
 use Rattle.numbers.proofs.mv.one_row.Tie as tie
 
-mul-at : tie.Need-mul-at
-mul-at c = search needs
-
-add-end : tie.Need-add-end
-add-end c = search needs
-
-mul-add-products : tie.Need-mul-add-products
-mul-add-products c = search needs
-
-sub-add-products : tie.Need-sub-add-products
-sub-add-products c = search needs
-
-part-add-products-start : tie.Need-part-add-products-start
-part-add-products-start c = search needs
-
-part-add-products-end : tie.Need-part-add-products-end
-part-add-products-end c = search needs
-
-add-products-requires : tie.Need-add-products-requires
-add-products-requires c κs = search needs
-
 returns : tie.Need-returns
 returns c =
     let a = c .before .before .before .before .args in
@@ -39,11 +18,6 @@ pub one-row-spec : {M : Type 1} → statement M
 one-row-spec =
     tie.close
     (tie.spec
-    mul-at
-    add-end
-    mul-add-products
-    sub-add-products
-    part-add-products-start
-    part-add-products-end
-    add-products-requires
+    (λ c. search needs) (λ c. search needs) (λ c. search needs) (λ c. search needs) (λ c. search needs) (λ c. search needs)
+    (λ c κs. search needs)
     returns)

@@ -5,20 +5,17 @@ use borrow.Author.Needs.{needs}
 use Rattle.numbers.proofs.sqrt.halved.Statement.{statement}
 use Rattle.numbers.proofs.sqrt.halved.Tie as tie
 
-sub-t6 : tie.Need-sub-t6
-sub-t6 c = search needs
-
 returns : tie.Need-returns
 returns c = (even-exponent _ _ (search needs) (search needs), search needs, search needs, search needs)
-
-mul-t3 : tie.Need-mul-t3
-mul-t3 c = search needs
-
-sub-t8 : tie.Need-sub-t8
-sub-t8 c = search needs
 
 returns-2 : tie.Need-returns-2
 returns-2 c = (odd-exponent _ _ (search needs) (omega (arith, c .if1 .left)), search needs, search needs, search needs)
 
 pub halved-spec : {M : Type 1} → statement M
-halved-spec = tie.close (tie.spec sub-t6 returns mul-t3 sub-t8 returns-2)
+halved-spec =
+    tie.close
+    (tie.spec
+    (λ c. search needs)
+    returns
+    (λ c. search needs) (λ c. search needs)
+    returns-2)

@@ -13,53 +13,14 @@ mul-square c = record { fits = omega (arith, high-high (c .args .q) (c .pre .1))
 mul-square-2 : tie.Need-mul-square-2
 mul-square-2 c = record { fits = omega (arith, high-high (c .args .q) (c .pre .1)) }
 
-add-if1 : tie.Need-add-if1
-add-if1 c = search needs
-
-returns : tie.Need-returns
-returns c = λ (e : false ≡ true). absurd (true≢false (sym e))
-
-add-a : tie.Need-add-a
-add-a c = search needs
-
-sub-a : tie.Need-sub-a
-sub-a c = search needs
-
-returns-2 : tie.Need-returns-2
-returns-2 c = λ (e : false ≡ true). absurd (true≢false (sym e))
-
 mul-cross : tie.Need-mul-cross
 mul-cross c = record { fits = omega (arith, high-low (c .before .before .args .q) (c .before .before .pre .1)) }
-
-mul-if3 : tie.Need-mul-if3
-mul-if3 c = search needs
-
-returns-3 : tie.Need-returns-3
-returns-3 c = λ (e : false ≡ true). absurd (true≢false (sym e))
-
-mul-b : tie.Need-mul-b
-mul-b c = search needs
-
-sub-b : tie.Need-sub-b
-sub-b c = search needs
-
-returns-4 : tie.Need-returns-4
-returns-4 c = λ (e : false ≡ true). absurd (true≢false (sym e))
-
-mul-left : tie.Need-mul-left
-mul-left c = search needs
-
-add-left : tie.Need-add-left
-add-left c = search needs
 
 mul-right : tie.Need-mul-right
 mul-right c = record { fits = omega (arith, low-low (c .before .before .before .before .args .q) (c .before .before .before .before .pre .1)) }
 
 add-right : tie.Need-add-right
 add-right c = record { fits = omega (arith, low-low (c .before .before .before .before .args .q) (c .before .before .before .before .pre .1)) }
-
-mul-result : tie.Need-mul-result
-mul-result c = search needs
 
 add-result : tie.Need-add-result
 add-result c = record { fits = omega (arith, low-low (c .before .before .before .before .args .q) (c .before .before .before .before .pre .1)) }
@@ -73,21 +34,13 @@ is-rounded-spec =
     (tie.spec
     mul-square
     mul-square-2
-    add-if1
-    returns
-    add-a
-    sub-a
-    returns-2
+    (λ c. search needs) (λ c. λ (e : false ≡ true). absurd (true≢false (sym e))) (λ c. search needs) (λ c. search needs)
+    (λ c. λ (e : false ≡ true). absurd (true≢false (sym e)))
     mul-cross
-    mul-if3
-    returns-3
-    mul-b
-    sub-b
-    returns-4
-    mul-left
-    add-left
+    (λ c. search needs) (λ c. λ (e : false ≡ true). absurd (true≢false (sym e))) (λ c. search needs) (λ c. search needs)
+    (λ c. λ (e : false ≡ true). absurd (true≢false (sym e))) (λ c. search needs) (λ c. search needs)
     mul-right
     add-right
-    mul-result
+    (λ c. search needs)
     add-result
     returns-5)

@@ -11,24 +11,23 @@ Inv-loop digits m₀ moved₀ m moved = Up digits m moved
 abbrev μ-loop : tie.MeasureT-loop
 μ-loop digits m₀ moved₀ m moved = 2 ^ 53 - m
 
-loop-holds : tie.Need-loop-holds Inv-loop μ-loop
-loop-holds c = up-start _ (search needs)
-
-mul-m : tie.Need-mul-m Inv-loop μ-loop
-mul-m c = search needs
-
 add-moved : tie.Need-add-moved Inv-loop μ-loop
 add-moved c = let l = up-few _ _ _ (c .before .before .pre .0) (c .before .loop .inv) in search needs
 
 loop-less : tie.Need-loop-less Inv-loop μ-loop
 loop-less c = let l = up-pos _ _ _ (c .before .before .pre .0) (c .before .loop .inv) in search needs
 
-loop-again : tie.Need-loop-again Inv-loop μ-loop
-loop-again c = up-more _ _ _ (c .before .loop .inv) (search needs)
-
 returns : tie.Need-returns Inv-loop μ-loop
 returns c = (c .before .loop .inv .is, search needs, c .before .loop .inv .small, up-few _ _ _ (c .before .before .pre .0) (c .before .loop .inv))
 
 pub normalise-spec : {M : Type 1} → statement M
 normalise-spec =
-    tie.close (tie.spec Inv-loop μ-loop loop-holds mul-m add-moved loop-less loop-again returns)
+    tie.close
+    (tie.spec
+    Inv-loop
+    μ-loop
+    (λ c. up-start _ (search needs)) (λ c. search needs)
+    add-moved
+    loop-less
+    (λ c. up-more _ _ _ (c .before .loop .inv) (search needs))
+    returns)

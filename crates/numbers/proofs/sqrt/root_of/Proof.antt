@@ -5,23 +5,8 @@ use borrow.Author.Needs.{needs}
 use Rattle.numbers.proofs.sqrt.root_of.Statement.{statement}
 use Rattle.numbers.proofs.sqrt.root_of.Tie as tie
 
-square-of-requires : tie.Need-square-of-requires
-square-of-requires c κs = search needs
-
-root-digits-requires : tie.Need-root-digits-requires
-root-digits-requires c κs = search needs
-
-add-result : tie.Need-add-result
-add-result c = search needs
-
-mul-result : tie.Need-mul-result
-mul-result c = search needs
-
 add-result-2 : tie.Need-add-result-2
 add-result-2 c = let l = root-small _ _ _ _ (c .before .before .square-of .ensures) (c .before .root-digits .ensures) in search needs
-
-add-result-3 : tie.Need-add-result-3
-add-result-3 c = search needs
 
 float-from-bits-result : tie.Need-float-from-bits-result
 float-from-bits-result c =
@@ -35,11 +20,8 @@ pub root-of-spec : {M : Type 1} → statement M
 root-of-spec =
     tie.close
     (tie.spec
-    square-of-requires
-    root-digits-requires
-    add-result
-    mul-result
+    (λ c κs. search needs) (λ c κs. search needs) (λ c. search needs) (λ c. search needs)
     add-result-2
-    add-result-3
+    (λ c. search needs)
     float-from-bits-result
     returns)

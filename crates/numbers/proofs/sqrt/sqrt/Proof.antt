@@ -19,17 +19,8 @@ both x r f e = (e, λ p. subst (NearestRoot x) (sym e) (sqrt-nearest x f p))
 returns : tie.Need-returns
 returns c = both _ _ (float-fits (c .before)) (nan-root _ (c .if1 .taken))
 
-float-to-bits-bits : tie.Need-float-to-bits-bits
-float-to-bits-bits c = not-a-nan _ (c .if1 .left)
-
-guessed-root-requires : tie.Need-guessed-root-requires
-guessed-root-requires c κs = normal-bits _ (c .if2 .taken)
-
 returns-2 : tie.Need-returns-2
 returns-2 c = let f = float-fits (c .before .before .before) in both _ _ f (positive-root _ f _ (c .guessed-root .ensures))
-
-root-of-requires : tie.Need-root-of-requires
-root-of-requires c κs = positive-bits _ (c .if3 .taken)
 
 returns-3 : tie.Need-returns-3
 returns-3 c = let f = float-fits (c .before .before .before .before) in both _ _ f (positive-root _ f _ (c .root-of .ensures))
@@ -47,10 +38,9 @@ sqrt-spec =
     tie.close
     (tie.spec
     returns
-    float-to-bits-bits
-    guessed-root-requires
+    (λ c. not-a-nan _ (c .if1 .left)) (λ c κs. normal-bits _ (c .if2 .taken))
     returns-2
-    root-of-requires
+    (λ c κs. positive-bits _ (c .if3 .taken))
     returns-3
     returns-4
     returns-5)

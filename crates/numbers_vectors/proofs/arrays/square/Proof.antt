@@ -11,11 +11,9 @@ mul-result c =
     let h : c .before .args .n * c .before .args .n ≤ 255 * 255 = mul-le-mul {n₂ = 255} {m₂ = 255} (search needs) (search needs) in
     record { fits = omega arith }
 
-returns : tie.Need-returns
-returns c = search needs
-
-returns-2 : tie.Need-returns-2
-returns-2 c = search needs
-
 pub square-spec : {M : Type 1} → statement M
-square-spec = tie.close (tie.spec mul-result returns returns-2)
+square-spec =
+    tie.close
+    (tie.spec
+    mul-result
+    (λ c. search needs) (λ c. search needs))

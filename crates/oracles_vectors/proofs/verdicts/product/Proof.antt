@@ -17,8 +17,10 @@ mul-result-2 c =
     let k : c .args .a * c .args .b * c .args .c ≤ 1025 * 1025 * 1025 = mul-le-mul {n₂ = 1025 * 1025} {m₂ = 1025} h (c .pre .2) in
     record { fits = omega arith }
 
-returns : tie.Need-returns
-returns c = search needs
-
 pub product-spec : {M : Type 1} → statement M
-product-spec = tie.close (tie.spec mul-result mul-result-2 returns)
+product-spec =
+    tie.close
+    (tie.spec
+    mul-result
+    mul-result-2
+    (λ c. search needs))

@@ -4,24 +4,6 @@ use borrow.Author.Needs.{needs}
 use Rattle.ponduvizh.proofs.ellipsoids.ell_stable_made.Statement.{statement}
 use Rattle.ponduvizh.proofs.ellipsoids.ell_stable_made.Tie as tie
 
-strategy-of-requires : tie.Need-strategy-of-requires
-strategy-of-requires c κs = tt
-
-beta-of-requires : tie.Need-beta-of-requires
-beta-of-requires c κs = tt
-
-update-core-requires : tie.Need-update-core-requires
-update-core-requires c κs = tt
-
-status-or-requires : tie.Need-status-or-requires
-status-or-requires c κs = tt
-
-number-requires : tie.Need-number-requires
-number-requires c κs = tt
-
-cast-result : tie.Need-cast-result
-cast-result c = search needs
-
 same-length : tie.Need-same-length
 same-length c = c .before .before .before .before .before .before .before .before .before .before .before .before .before .before .before .before .update-core .kept .1 .1 .1 .1 .0
 
@@ -40,23 +22,15 @@ same-length-5 c = c .before .before .before .before .before .before .before .bef
 same-length-6 : tie.Need-same-length-6
 same-length-6 c = c .before .before .before .before .before .before .before .before .before .before .before .before .before .before .before .before .update-core .kept .1 .1 .1 .1 .1 .1 .1 .1 .1 .0
 
-returns : tie.Need-returns
-returns c = search (needs, stable-updated)
-
 pub ell-stable-made-spec : {M : Type 1} → statement M
 ell-stable-made-spec =
     tie.close
     (tie.spec
-    strategy-of-requires
-    beta-of-requires
-    update-core-requires
-    status-or-requires
-    number-requires
-    cast-result
+    (λ c κs. tt) (λ c κs. tt) (λ c κs. tt) (λ c κs. tt) (λ c κs. tt) (λ c. search needs)
     same-length
     same-length-2
     same-length-3
     same-length-4
     same-length-5
     same-length-6
-    returns)
+    (λ c. search (needs, stable-updated)))

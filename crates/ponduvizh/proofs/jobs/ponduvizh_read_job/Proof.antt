@@ -4,18 +4,6 @@ use borrow.Author.Needs.{needs}
 use Rattle.ponduvizh.proofs.jobs.ponduvizh_read_job.Statement.{statement}
 use Rattle.ponduvizh.proofs.jobs.ponduvizh_read_job.Tie as tie
 
-read-job-requires : tie.Need-read-job-requires
-read-job-requires c κs = tt
-
-put-answer-requires : tie.Need-put-answer-requires
-put-answer-requires c κs = tt
-
-number-requires : tie.Need-number-requires
-number-requires c κs = tt
-
-cast-result : tie.Need-cast-result
-cast-result c = search needs
-
 same-length : tie.Need-same-length
 same-length c = c .before .before .before .before .before .before .before .before .before .before .before .before .before .read-job .kept .1 .0
 
@@ -25,18 +13,12 @@ same-length-2 c = c .before .before .before .before .before .before .before .bef
 same-length-3 : tie.Need-same-length-3
 same-length-3 c = c .before .before .before .before .before .before .before .before .before .before .before .before .before .read-job .kept .1 .1 .1 .0
 
-returns : tie.Need-returns
-returns c = search (needs, read-law)
-
 pub ponduvizh-read-job-spec : {M : Type 1} → statement M
 ponduvizh-read-job-spec =
     tie.close
     (tie.spec
-    read-job-requires
-    put-answer-requires
-    number-requires
-    cast-result
+    (λ c κs. tt) (λ c κs. tt) (λ c κs. tt) (λ c. search needs)
     same-length
     same-length-2
     same-length-3
-    returns)
+    (λ c. search (needs, read-law)))

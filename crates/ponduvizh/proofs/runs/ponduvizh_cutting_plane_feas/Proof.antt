@@ -6,27 +6,6 @@ use Rattle.ponduvizh.proofs.runs.Laws.{feas-made, feas-not-made}
 use Rattle.ponduvizh.proofs.runs.ponduvizh_cutting_plane_feas.Statement.{statement}
 use Rattle.ponduvizh.proofs.runs.ponduvizh_cutting_plane_feas.Tie as tie
 
-start-requires : tie.Need-start-requires
-start-requires c κs = tt
-
-new-requires : tie.Need-new-requires
-new-requires c κs = tt
-
-new-with-matrix-requires : tie.Need-new-with-matrix-requires
-new-with-matrix-requires c κs = tt
-
-enum-known-why : tie.Need-enum-known-why
-enum-known-why c = search needs
-
-code-requires : tie.Need-code-requires
-code-requires c κs = tt
-
-enum-known-ell : tie.Need-enum-known-ell
-enum-known-ell c = search needs
-
-feas-made-requires : tie.Need-feas-made-requires
-feas-made-requires c κs = tt
-
 returns : tie.Need-returns
 returns c =
     let m = c .before .before .before .before in
@@ -64,13 +43,7 @@ pub ponduvizh-cutting-plane-feas-spec : {M : Type 1} → statement M
 ponduvizh-cutting-plane-feas-spec =
     tie.close
     (tie.spec
-    start-requires
-    new-requires
-    new-with-matrix-requires
-    enum-known-why
-    code-requires
-    enum-known-ell
-    feas-made-requires
+    (λ c κs. tt) (λ c κs. tt) (λ c κs. tt) (λ c. search needs) (λ c κs. tt) (λ c. search needs) (λ c κs. tt)
     returns
     same-length
     same-length-2

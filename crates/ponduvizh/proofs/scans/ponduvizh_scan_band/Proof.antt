@@ -4,15 +4,6 @@ use Rattle.ponduvizh.proofs.scans.Laws.{cursor-handed}
 use Rattle.ponduvizh.proofs.scans.ponduvizh_scan_band.Statement.{statement}
 use Rattle.ponduvizh.proofs.scans.ponduvizh_scan_band.Tie as tie
 
-cursor-at-requires : tie.Need-cursor-at-requires
-cursor-at-requires c κs = tt
-
-upper-of-requires : tie.Need-upper-of-requires
-upper-of-requires c κs = tt
-
-scan-from-requires : tie.Need-scan-from-requires
-scan-from-requires c κs = tt
-
 returns : tie.Need-returns
 returns c =
     let u = c .before .before .before .before .before in
@@ -22,4 +13,7 @@ returns c =
 
 pub ponduvizh-scan-band-spec : {M : Type 1} → statement M
 ponduvizh-scan-band-spec =
-    tie.close (tie.spec cursor-at-requires upper-of-requires scan-from-requires returns)
+    tie.close
+    (tie.spec
+    (λ c κs. tt) (λ c κs. tt) (λ c κs. tt)
+    returns)

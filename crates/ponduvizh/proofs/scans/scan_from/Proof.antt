@@ -4,20 +4,8 @@ use borrow.Author.Needs.{needs}
 use Rattle.ponduvizh.proofs.scans.scan_from.Statement.{statement}
 use Rattle.ponduvizh.proofs.scans.scan_from.Tie as tie
 
-scan-lent-requires : tie.Need-scan-lent-requires
-scan-lent-requires c κs = tt
-
-put-answer-requires : tie.Need-put-answer-requires
-put-answer-requires c κs = tt
-
-number-requires : tie.Need-number-requires
-number-requires c κs = tt
-
-cast-result : tie.Need-cast-result
-cast-result c = search needs
-
-returns : tie.Need-returns
-returns c = search (needs, ended-law)
-
 pub scan-from-spec : {M : Type 1} → statement M
-scan-from-spec = tie.close (tie.spec scan-lent-requires put-answer-requires number-requires cast-result returns)
+scan-from-spec =
+    tie.close
+    (tie.spec
+    (λ c κs. tt) (λ c κs. tt) (λ c κs. tt) (λ c. search needs) (λ c. search (needs, ended-law)))

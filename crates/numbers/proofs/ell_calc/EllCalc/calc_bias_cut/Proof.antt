@@ -10,15 +10,14 @@ returns : tie.Need-returns
 unfolding calc-bias-cut
 returns c = hit _ _ _ _ (c .if1 .taken) refl
 
-sqrt-requires : tie.Need-sqrt-requires
-sqrt-requires c κs = tt
-
-calc-bias-cut-requires : tie.Need-calc-bias-cut-requires
-calc-bias-cut-requires c κs = tt
-
 returns-2 : tie.Need-returns-2
 unfolding calc-bias-cut
 returns-2 c = skip _ _ _ _ (c .before .before .before .if1 .left) (rw (← c .before .before .sqrt .ensures .0) (ap success (c .calc-bias-cut .ensures)))
 
 pub calc-bias-cut-spec : {M : Type 1} → statement M
-calc-bias-cut-spec = tie.close (tie.spec returns sqrt-requires calc-bias-cut-requires returns-2)
+calc-bias-cut-spec =
+    tie.close
+    (tie.spec
+    returns
+    (λ c κs. tt) (λ c κs. tt)
+    returns-2)

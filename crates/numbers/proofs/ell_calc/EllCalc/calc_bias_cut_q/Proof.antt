@@ -6,9 +6,6 @@ use Rattle.numbers.specs.laws.Pick.{hit, skip}
 use Rattle.numbers.proofs.ell_calc.EllCalc.calc_bias_cut_q.Statement.{statement}
 use Rattle.numbers.proofs.ell_calc.EllCalc.calc_bias_cut_q.Tie as tie
 
-sqrt-requires : tie.Need-sqrt-requires
-sqrt-requires c κs = tt
-
 returns : tie.Need-returns
 unfolding calc-bias-cut-q
 returns c = rw (← c .before .sqrt .ensures .0) (hit _ _ _ _ (c .if1 .taken) refl)
@@ -17,13 +14,16 @@ returns-2 : tie.Need-returns-2
 unfolding calc-bias-cut-q
 returns-2 c = rw (← c .before .before .before .sqrt .ensures .0) (skip _ _ _ _ (c .before .before .if1 .left) (hit _ _ _ _ (c .if2 .taken) refl))
 
-calc-bias-cut-fast-requires : tie.Need-calc-bias-cut-fast-requires
-calc-bias-cut-fast-requires c κs = tt
-
 returns-3 : tie.Need-returns-3
 unfolding calc-bias-cut-q
 returns-3 c = rw (← c .before .before .before .before .before .sqrt .ensures .0) (skip _ _ _ _ (c .before .before .before .before .if1 .left) (skip _ _ _ _ (c .before .before .if2 .left) (ap success (c .calc-bias-cut-fast .ensures))))
 
 pub calc-bias-cut-q-spec : {M : Type 1} → statement M
 calc-bias-cut-q-spec =
-    tie.close (tie.spec sqrt-requires returns returns-2 calc-bias-cut-fast-requires returns-3)
+    tie.close
+    (tie.spec
+    (λ c κs. tt)
+    returns
+    returns-2
+    (λ c κs. tt)
+    returns-3)

@@ -6,25 +6,13 @@ use Rattle.numbers.specs.laws.Pick.{hit, skip}
 use Rattle.numbers.proofs.ell_calc.EllCalc.calc_parallel_bias_cut.Statement.{statement}
 use Rattle.numbers.proofs.ell_calc.EllCalc.calc_parallel_bias_cut.Tie as tie
 
-crossed-requires : tie.Need-crossed-requires
-crossed-requires c κs = tt
-
 returns : tie.Need-returns
 unfolding calc-parallel-impl calc-parallel-bias-cut
 returns c = hit _ _ _ _ (sym (c .before .crossed .ensures) ∙ c .if1 .taken) refl
 
-single-instead-requires : tie.Need-single-instead-requires
-single-instead-requires c κs = tt
-
-calc-bias-cut-requires : tie.Need-calc-bias-cut-requires
-calc-bias-cut-requires c κs = tt
-
 returns-2 : tie.Need-returns-2
 unfolding calc-parallel-impl calc-parallel-bias-cut
 returns-2 c = skip _ _ _ _ (sym (c .before .before .before .before .crossed .ensures) ∙ c .before .before .before .if1 .left) (hit _ _ _ _ (sym (c .before .before .single-instead .ensures) ∙ c .before .if2 .taken) (skip _ _ _ _ refl (c .calc-bias-cut .ensures)))
-
-calc-parallel-bias-cut-fast-requires : tie.Need-calc-parallel-bias-cut-fast-requires
-calc-parallel-bias-cut-fast-requires c κs = tt
 
 returns-3 : tie.Need-returns-3
 unfolding calc-parallel-impl calc-parallel-bias-cut
@@ -34,10 +22,9 @@ pub calc-parallel-bias-cut-spec : {M : Type 1} → statement M
 calc-parallel-bias-cut-spec =
     tie.close
     (tie.spec
-    crossed-requires
+    (λ c κs. tt)
     returns
-    single-instead-requires
-    calc-bias-cut-requires
+    (λ c κs. tt) (λ c κs. tt)
     returns-2
-    calc-parallel-bias-cut-fast-requires
+    (λ c κs. tt)
     returns-3)

@@ -11,15 +11,9 @@ returns : tie.Need-returns
 unfolding calc-parallel-central-cut
 returns c = hit _ _ _ _ (c .if1 .taken) refl
 
-calc-central-cut-requires : tie.Need-calc-central-cut-requires
-calc-central-cut-requires c κs = tt
-
 returns-2 : tie.Need-returns-2
 unfolding calc-parallel-central-cut
 returns-2 c = skip _ _ _ _ (c .before .before .if1 .left) (hit _ _ _ _ (⊎-elim (λ w. rw (w .taken)) (λ w. rw (w .0 .left, w .2 .taken)) (c .before .if2 .came)) (c .calc-central-cut .ensures))
-
-calc-parallel-central-cut-requires : tie.Need-calc-parallel-central-cut-requires
-calc-parallel-central-cut-requires c κs = tt
 
 returns-3 : tie.Need-returns-3
 unfolding calc-parallel-central-cut
@@ -30,7 +24,7 @@ calc-parallel-central-cut-spec =
     tie.close
     (tie.spec
     returns
-    calc-central-cut-requires
+    (λ c κs. tt)
     returns-2
-    calc-parallel-central-cut-requires
+    (λ c κs. tt)
     returns-3)

@@ -6,18 +6,9 @@ use Rattle.numbers.specs.laws.Pick.{hit, skip}
 use Rattle.numbers.proofs.ell_calc.EllCalc.calc_parallel_q.Statement.{statement}
 use Rattle.numbers.proofs.ell_calc.EllCalc.calc_parallel_q.Tie as tie
 
-crossed-requires : tie.Need-crossed-requires
-crossed-requires c κs = tt
-
 returns : tie.Need-returns
 unfolding calc-parallel-impl calc-parallel-q
 returns c = hit _ _ _ _ (sym (c .before .crossed .ensures) ∙ c .if1 .taken) refl
-
-single-instead-requires : tie.Need-single-instead-requires
-single-instead-requires c κs = tt
-
-calc-bias-cut-q-requires : tie.Need-calc-bias-cut-q-requires
-calc-bias-cut-q-requires c κs = tt
 
 returns-2 : tie.Need-returns-2
 unfolding calc-parallel-impl calc-parallel-q
@@ -27,9 +18,6 @@ returns-3 : tie.Need-returns-3
 unfolding calc-parallel-impl calc-parallel-q
 returns-3 c = skip _ _ _ _ (sym (c .before .before .before .before .before .crossed .ensures) ∙ c .before .before .before .before .if1 .left) (skip _ _ _ _ (sym (c .before .before .before .single-instead .ensures) ∙ c .before .before .if2 .left) (hit _ _ _ _ (c .if3 .taken) refl))
 
-calc-parallel-bias-cut-fast-requires : tie.Need-calc-parallel-bias-cut-fast-requires
-calc-parallel-bias-cut-fast-requires c κs = tt
-
 returns-4 : tie.Need-returns-4
 unfolding calc-parallel-impl calc-parallel-q
 returns-4 c = skip _ _ _ _ (sym (c .before .before .before .before .before .before .before .crossed .ensures) ∙ c .before .before .before .before .before .before .if1 .left) (skip _ _ _ _ (sym (c .before .before .before .before .before .single-instead .ensures) ∙ c .before .before .before .before .if2 .left) (skip _ _ _ _ (c .before .before .if3 .left) (ap success (c .calc-parallel-bias-cut-fast .ensures))))
@@ -38,11 +26,10 @@ pub calc-parallel-q-spec : {M : Type 1} → statement M
 calc-parallel-q-spec =
     tie.close
     (tie.spec
-    crossed-requires
+    (λ c κs. tt)
     returns
-    single-instead-requires
-    calc-bias-cut-q-requires
+    (λ c κs. tt) (λ c κs. tt)
     returns-2
     returns-3
-    calc-parallel-bias-cut-fast-requires
+    (λ c κs. tt)
     returns-4)

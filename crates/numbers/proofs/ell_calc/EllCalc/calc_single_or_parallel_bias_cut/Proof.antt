@@ -5,18 +5,6 @@ use Rattle.numbers.proofs.ell_calc.EllCalc.calc_single_or_parallel_bias
 }
 use Rattle.numbers.proofs.ell_calc.EllCalc.calc_single_or_parallel_bias_cut.Tie as tie
 
-enum-known-beta : tie.Need-enum-known-beta
-enum-known-beta c = c .match .keys1
-
-calc-parallel-bias-cut-requires : tie.Need-calc-parallel-bias-cut-requires
-calc-parallel-bias-cut-requires c κs = tt
-
-enum-known-beta-2 : tie.Need-enum-known-beta-2
-enum-known-beta-2 c = c .match .keys2
-
-calc-bias-cut-requires : tie.Need-calc-bias-cut-requires
-calc-bias-cut-requires c κs = tt
-
 returns : tie.Need-returns
 unfolding calc-single-or-parallel-bias-cut
 returns c = rw (c .before .before .beta .given .1) (c .calc-parallel-bias-cut .ensures)
@@ -29,9 +17,6 @@ pub calc-single-or-parallel-bias-cut-spec : {M : Type 1} → statement M
 calc-single-or-parallel-bias-cut-spec =
     tie.close
     (tie.spec
-    enum-known-beta
-    calc-parallel-bias-cut-requires
-    enum-known-beta-2
-    calc-bias-cut-requires
+    (λ c. c .match .keys1) (λ c κs. tt) (λ c. c .match .keys2) (λ c κs. tt)
     returns
     returns-2)

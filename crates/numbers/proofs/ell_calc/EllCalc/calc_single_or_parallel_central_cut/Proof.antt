@@ -6,18 +6,6 @@ use Rattle.numbers.proofs.ell_calc.EllCalc.calc_single_or_parallel_cent
 }
 use Rattle.numbers.proofs.ell_calc.EllCalc.calc_single_or_parallel_central_cut.Tie as tie
 
-enum-known-beta : tie.Need-enum-known-beta
-enum-known-beta c = c .match .keys1
-
-calc-parallel-central-cut-requires : tie.Need-calc-parallel-central-cut-requires
-calc-parallel-central-cut-requires c κs = tt
-
-enum-told : tie.Need-enum-told
-enum-told c = search needs
-
-calc-central-cut-requires : tie.Need-calc-central-cut-requires
-calc-central-cut-requires c κs = tt
-
 returns : tie.Need-returns
 unfolding calc-single-or-parallel-central-cut
 returns c = rw (c .before .before .beta .given .1) (c .calc-parallel-central-cut .ensures)
@@ -30,9 +18,6 @@ pub calc-single-or-parallel-central-cut-spec : {M : Type 1} → statement M
 calc-single-or-parallel-central-cut-spec =
     tie.close
     (tie.spec
-    enum-known-beta
-    calc-parallel-central-cut-requires
-    enum-told
-    calc-central-cut-requires
+    (λ c. c .match .keys1) (λ c κs. tt) (λ c. search needs) (λ c κs. tt)
     returns
     returns-2)

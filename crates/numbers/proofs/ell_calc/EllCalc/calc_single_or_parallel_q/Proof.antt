@@ -3,18 +3,6 @@ use Rattle.numbers.specs.EllCalc.{calc-single-or-parallel-q}
 use Rattle.numbers.proofs.ell_calc.EllCalc.calc_single_or_parallel_q.Statement.{statement}
 use Rattle.numbers.proofs.ell_calc.EllCalc.calc_single_or_parallel_q.Tie as tie
 
-enum-known-beta : tie.Need-enum-known-beta
-enum-known-beta c = c .match .keys1
-
-calc-parallel-q-requires : tie.Need-calc-parallel-q-requires
-calc-parallel-q-requires c κs = tt
-
-enum-known-beta-2 : tie.Need-enum-known-beta-2
-enum-known-beta-2 c = c .match .keys2
-
-calc-bias-cut-q-requires : tie.Need-calc-bias-cut-q-requires
-calc-bias-cut-q-requires c κs = tt
-
 returns : tie.Need-returns
 unfolding calc-single-or-parallel-q
 returns c = rw (c .before .before .beta .given .1) (c .calc-parallel-q .ensures)
@@ -27,9 +15,6 @@ pub calc-single-or-parallel-q-spec : {M : Type 1} → statement M
 calc-single-or-parallel-q-spec =
     tie.close
     (tie.spec
-    enum-known-beta
-    calc-parallel-q-requires
-    enum-known-beta-2
-    calc-bias-cut-q-requires
+    (λ c. c .match .keys1) (λ c κs. tt) (λ c. c .match .keys2) (λ c κs. tt)
     returns
     returns-2)

@@ -12,9 +12,6 @@ use Rattle.numbers.specs.laws.Refusal.{failed, held, refuses, accepts}
 use Rattle.numbers.proofs.ell_calc.EllCalc.new.Statement.{statement}
 use Rattle.numbers.proofs.ell_calc.EllCalc.new.Tie as tie
 
-is-dimension-requires : tie.Need-is-dimension-requires
-is-dimension-requires c κs = tt
-
 returns : tie.Need-returns
 unfolding new-answer
 returns c = refuses _ _ _ (failed (says-no _ _ (c .before .is-dimension .ensures) (c .if1 .taken))) refl
@@ -27,12 +24,16 @@ int-to-float-n-f c =
     let l = dimension-most n (says-yes _ _ (d .ensures) (c .before .if1 .left)) in
     passes _ (le-leb n (2 ^ 53) (omega arith))
 
-new-requires : tie.Need-new-requires
-new-requires c κs = tt
-
 returns-2 : tie.Need-returns-2
 unfolding new-answer made
 returns-2 c = accepts _ _ _ (held _ _ (says-yes _ _ (c .before .before .before .is-dimension .ensures) (c .before .before .if1 .left))) (rw (c .new .ensures))
 
 pub new-spec : {M : Type 1} → statement M
-new-spec = tie.close (tie.spec is-dimension-requires returns int-to-float-n-f new-requires returns-2)
+new-spec =
+    tie.close
+    (tie.spec
+    (λ c κs. tt)
+    returns
+    int-to-float-n-f
+    (λ c κs. tt)
+    returns-2)

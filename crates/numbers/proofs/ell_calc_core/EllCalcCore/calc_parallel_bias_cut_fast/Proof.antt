@@ -5,12 +5,13 @@ use Rattle.numbers.proofs.ell_calc_core.EllCalcCore.calc_parallel_bias_
 }
 use Rattle.numbers.proofs.ell_calc_core.EllCalcCore.calc_parallel_bias_cut_fast.Tie as tie
 
-sqrt-requires : tie.Need-sqrt-requires
-sqrt-requires c κs = tt
-
 returns : tie.Need-returns
 unfolding core-parallel-bias-cut-fast
 returns c = rw (c .before .before .before .sqrt .ensures .0)
 
 pub calc-parallel-bias-cut-fast-spec : {M : Type 1} → statement M
-calc-parallel-bias-cut-fast-spec = tie.close (tie.spec sqrt-requires returns)
+calc-parallel-bias-cut-fast-spec =
+    tie.close
+    (tie.spec
+    (λ c κs. tt)
+    returns)

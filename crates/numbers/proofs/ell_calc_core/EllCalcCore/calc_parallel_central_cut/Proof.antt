@@ -5,12 +5,13 @@ use Rattle.numbers.proofs.ell_calc_core.EllCalcCore.calc_parallel_centr
 }
 use Rattle.numbers.proofs.ell_calc_core.EllCalcCore.calc_parallel_central_cut.Tie as tie
 
-sqrt-requires : tie.Need-sqrt-requires
-sqrt-requires c κs = tt
-
 returns : tie.Need-returns
 unfolding core-parallel-central-cut
 returns c = rw (c .before .sqrt .ensures .0)
 
 pub calc-parallel-central-cut-spec : {M : Type 1} → statement M
-calc-parallel-central-cut-spec = tie.close (tie.spec sqrt-requires returns)
+calc-parallel-central-cut-spec =
+    tie.close
+    (tie.spec
+    (λ c κs. tt)
+    returns)
