@@ -70,17 +70,8 @@ module _ (n : ℕ) (bytes : List ℕ) (room : ℕ) where
           no-fault-at-all : (has-point places && ltb room n) ≡ false → Right Sound places
           no-fault-at-all t = rest Sound (held Room 0 (room-there n bytes places room t))
 
-is-dimension-requires : tie.Need-is-dimension-requires
-is-dimension-requires c κs = tt
-
 returns : tie.Need-returns
 returns c = let a = c .before .before .before .args in no-dimension (a .n) (a .bytes .now) (a .room) _ (says-no _ _ (c .before .is-dimension .ensures) (c .if1 .taken))
-
-record-fault-requires : tie.Need-record-fault-requires
-record-fault-requires c κs = search needs
-
-is-fault-requires : tie.Need-is-fault-requires
-is-fault-requires c κs = tt
 
 returns-2 : tie.Need-returns-2
 returns-2 c =
@@ -92,9 +83,6 @@ returns-2 c =
 
 lengths-fault-requires : tie.Need-lengths-fault-requires
 lengths-fault-requires c κs = let w = c .before .before in dimension-most (w .before .before .before .before .before .args .n) (says-yes _ _ (w .before .before .before .is-dimension .ensures) (w .before .before .if1 .left))
-
-is-fault-requires-2 : tie.Need-is-fault-requires-2
-is-fault-requires-2 c κs = tt
 
 returns-3 : tie.Need-returns-3
 returns-3 c =
@@ -108,12 +96,6 @@ returns-3 c =
     let d = says-yes _ _ (w .before .before .before .is-dimension .ensures) (w .before .before .if1 .left) in
     at-lengths (a .n) (a .bytes .now) (a .room) d _ (s .pre) _ _ (w .record-fault .ensures) (sym (k₁ .is-fault .ensures) ∙ i₁ .if2 .left) _ (l .lengths-fault .ensures)
     (sym (k₂ .is-fault2 .ensures) ∙ c .if3 .taken)
-
-outcome-fault-requires : tie.Need-outcome-fault-requires
-outcome-fault-requires c κs = tt
-
-is-fault-requires-3 : tie.Need-is-fault-requires-3
-is-fault-requires-3 c κs = tt
 
 returns-4 : tie.Need-returns-4
 returns-4 c =
@@ -130,9 +112,6 @@ returns-4 c =
     let d = says-yes _ _ (w .before .before .before .is-dimension .ensures) (w .before .before .if1 .left) in
     at-outcome (a .n) (a .bytes .now) (a .room) d _ (s .pre) _ _ (w .record-fault .ensures) (sym (k₁ .is-fault .ensures) ∙ i₁ .if2 .left) _ (l .lengths-fault .ensures)
     (sym (k₂ .is-fault2 .ensures) ∙ i₂ .if3 .left) _ (o .outcome-fault .ensures) (sym (k₃ .is-fault3 .ensures) ∙ c .if4 .taken)
-
-element-copy-out-if5 : tie.Need-element-copy-out-if5
-element-copy-out-if5 c = search needs
 
 returns-5 : tie.Need-returns-5
 returns-5 c =
@@ -171,5 +150,16 @@ returns-6 c =
 pub answer-fault-spec : {M : Type 1} → statement M
 answer-fault-spec =
     tie.close
-    (tie.spec is-dimension-requires returns record-fault-requires is-fault-requires returns-2 lengths-fault-requires is-fault-requires-2 returns-3 outcome-fault-requires
-    is-fault-requires-3 returns-4 element-copy-out-if5 returns-5 returns-6)
+    (tie.spec
+    (λ c κs. tt)
+    returns
+    (λ c κs. search needs) (λ c κs. tt)
+    returns-2
+    lengths-fault-requires
+    (λ c κs. tt)
+    returns-3
+    (λ c κs. tt) (λ c κs. tt)
+    returns-4
+    (λ c. search needs)
+    returns-5
+    returns-6)

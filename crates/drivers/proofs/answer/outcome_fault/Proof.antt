@@ -23,28 +23,13 @@ module _ (bytes places : List ℕ) (b w : ℕ) (e : b ≡ tag-at bytes (place pl
   unfolding outcome-fault
   right h = rw (← e, ← d) (held Outcome _ (eq-eqb b w h))
 
-element-copy-out-outcome : tie.Need-element-copy-out-outcome
-element-copy-out-outcome c = search needs
-
-tag-at-requires : tie.Need-tag-at-requires
-tag-at-requires c κs = tt
-
-element-copy-out-outcome-byte : tie.Need-element-copy-out-outcome-byte
-element-copy-out-outcome-byte c = search needs
-
-outcome-byte-requires : tie.Need-outcome-byte-requires
-outcome-byte-requires c κs = tt
-
-start-of-requires : tie.Need-start-of-requires
-start-of-requires c κs = tt
-
 returns : tie.Need-returns
 returns c = let o = c .before .before in wrong _ _ _ _ (o .before .before .tag-at .ensures) (o .outcome-byte .ensures) (c .before .if1 .taken) _ (c .start-of .ensures)
-
-returns-2 : tie.Need-returns-2
-returns-2 c = let o = c .before in right _ _ _ _ (o .before .before .tag-at .ensures) (o .outcome-byte .ensures) (c .if1 .left)
 
 pub outcome-fault-spec : {M : Type 1} → statement M
 outcome-fault-spec =
     tie.close
-    (tie.spec element-copy-out-outcome tag-at-requires element-copy-out-outcome-byte outcome-byte-requires start-of-requires returns returns-2)
+    (tie.spec
+    (λ c. search needs) (λ c κs. tt) (λ c. search needs) (λ c κs. tt) (λ c κs. tt)
+    returns
+    (λ c. let o = c .before in right _ _ _ _ (o .before .before .tag-at .ensures) (o .outcome-byte .ensures) (c .if1 .left)))

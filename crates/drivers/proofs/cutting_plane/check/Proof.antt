@@ -11,16 +11,10 @@ use Rattle.drivers.proofs.cutting_plane.Checks.{no-dimension, no-length
 use Rattle.drivers.proofs.cutting_plane.check.Statement.{statement}
 use Rattle.drivers.proofs.cutting_plane.check.Tie as tie
 
-is-dimension-requires : tie.Need-is-dimension-requires
-is-dimension-requires c κs = tt
-
 returns : tie.Need-returns
 returns c =
     let a = c .before .before .args in
     no-dimension (a .oracle) (a .n) (a .rows) (a .table) (a .mq) (a .xc) (a .grad) (a .grad-t) (says-no _ _ (c .before .is-dimension .ensures) (c .if1 .taken))
-
-table-fits-requires : tie.Need-table-fits-requires
-table-fits-requires c κs = tt
 
 mul-if2 : tie.Need-mul-if2
 mul-if2 c =
@@ -40,9 +34,6 @@ returns-2 c =
     no-length (a .oracle) (a .n) (a .rows) (a .table) (a .mq) (a .xc) (a .grad) (a .grad-t) (says-yes _ _ (d .is-dimension .ensures) (t .before .if1 .left))
     (says-no _ _ (all-lengths (a .n) (a .mq) (a .grad) (a .grad-t) (t .table-fits .ensures)) (c .if2 .taken))
 
-bands-fit-requires : tie.Need-bands-fit-requires
-bands-fit-requires c κs = tt
-
 returns-3 : tie.Need-returns-3
 returns-3 c =
     let b = c .before in
@@ -52,9 +43,6 @@ returns-3 c =
     no-band (a .oracle) (a .n) (a .rows) (a .table) (a .mq) (a .xc) (a .grad) (a .grad-t) (says-yes _ _ (d .is-dimension .ensures) (t .before .if1 .left))
     (says-yes _ _ (all-lengths (a .n) (a .mq) (a .grad) (a .grad-t) (t .table-fits .ensures)) (b .before .if2 .left))
     (says-no _ _ (b .bands-fit .ensures) (c .if3 .taken))
-
-cursors-fit-requires : tie.Need-cursors-fit-requires
-cursors-fit-requires c κs = tt
 
 returns-4 : tie.Need-returns-4
 returns-4 c =
@@ -79,4 +67,16 @@ returns-5 c =
     (says-yes _ _ (b .bands-fit .ensures) (k .before .if3 .left)) (says-yes _ _ (k .cursors-fit .ensures) (c .if4 .left))
 
 pub check-spec : {M : Type 1} → statement M
-check-spec = tie.close (tie.spec is-dimension-requires returns table-fits-requires mul-if2 returns-2 bands-fit-requires returns-3 cursors-fit-requires returns-4 returns-5)
+check-spec =
+    tie.close
+    (tie.spec
+    (λ c κs. tt)
+    returns
+    (λ c κs. tt)
+    mul-if2
+    returns-2
+    (λ c κs. tt)
+    returns-3
+    (λ c κs. tt)
+    returns-4
+    returns-5)

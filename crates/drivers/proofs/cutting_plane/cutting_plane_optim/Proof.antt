@@ -5,23 +5,11 @@ use Rattle.drivers.proofs.cutting_plane.Answers.{optim-wrong, optim-sho
 use Rattle.drivers.proofs.cutting_plane.cutting_plane_optim.Statement.{statement}
 use Rattle.drivers.proofs.cutting_plane.cutting_plane_optim.Tie as tie
 
-check-requires : tie.Need-check-requires
-check-requires c κs = tt
-
-enum-known-fault : tie.Need-enum-known-fault
-enum-known-fault c = search needs
-
-enum-told : tie.Need-enum-told
-enum-told c = search needs
-
 returns : tie.Need-returns
 returns c =
     let a = c .before .before .before .before .before .before .before .before .before .before .args in
     let k = c .before .before .before .check in
     optim-short (a .options) (a .rows) (a .table .now) (record { oracle = a .oracle; ell = a .ell; buffers = record { mq = a .mq .now; xc = a .xc .now; grad-t = a .grad-t .now }; grad = a .grad .now; gamma = a .gamma; found = false; best = a .x-best .now }) (k .result) (k .ensures) (c .before .enum-told .given .1) (c .if1 .taken)
-
-run-optim-requires : tie.Need-run-optim-requires
-run-optim-requires c κs = tt
 
 returns-2 : tie.Need-returns-2
 returns-2 c =
@@ -29,21 +17,6 @@ returns-2 c =
     let k = c .before .before .before .check in
     let w = c .before .fault .given in
     optim-wrong (a .options) (a .rows) (a .table .now) (record { oracle = a .oracle; ell = a .ell; buffers = record { mq = a .mq .now; xc = a .xc .now; grad-t = a .grad-t .now }; grad = a .grad .now; gamma = a .gamma; found = false; best = a .x-best .now }) (k .result) (k .ensures) (w .0 .0) (w .0 .1 .0) (w .1)
-
-same-length : tie.Need-same-length
-same-length c = search needs
-
-same-length-2 : tie.Need-same-length-2
-same-length-2 c = search needs
-
-same-length-3 : tie.Need-same-length-3
-same-length-3 c = search needs
-
-same-length-4 : tie.Need-same-length-4
-same-length-4 c = search needs
-
-same-length-5 : tie.Need-same-length-5
-same-length-5 c = search needs
 
 returns-3 : tie.Need-returns-3
 returns-3 c =
@@ -55,15 +28,9 @@ pub cutting-plane-optim-spec : {M : Type 1} → statement M
 cutting-plane-optim-spec =
     tie.close
     (tie.spec
-    check-requires
-    enum-known-fault
-    enum-told
+    (λ c κs. tt) (λ c. search needs) (λ c. search needs)
     returns
-    run-optim-requires
+    (λ c κs. tt)
     returns-2
-    same-length
-    same-length-2
-    same-length-3
-    same-length-4
-    same-length-5
+    (λ c. search needs) (λ c. search needs) (λ c. search needs) (λ c. search needs) (λ c. search needs)
     returns-3)

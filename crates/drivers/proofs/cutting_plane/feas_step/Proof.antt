@@ -7,36 +7,6 @@ use Rattle.drivers.proofs.cutting_plane.Steps.{step-feasible, step-refu
 use Rattle.drivers.proofs.cutting_plane.feas_step.Statement.{statement}
 use Rattle.drivers.proofs.cutting_plane.feas_step.Tie as tie
 
-assess-feas-requires : tie.Need-assess-feas-requires
-assess-feas-requires c κs = tt
-
-enum-told : tie.Need-enum-told
-enum-told c = search needs
-
-enum-known-verdict : tie.Need-enum-known-verdict
-enum-known-verdict c = search needs
-
-cut-requires : tie.Need-cut-requires
-cut-requires c κs = tt
-
-after-requires : tie.Need-after-requires
-after-requires c κs = tt
-
-answer-requires : tie.Need-answer-requires
-answer-requires c κs = tt
-
-said-of-requires : tie.Need-said-of-requires
-said-of-requires c κs = tt
-
-enum-known-verdict-2 : tie.Need-enum-known-verdict-2
-enum-known-verdict-2 c = search needs
-
-same-length : tie.Need-same-length
-same-length c = search needs
-
-same-length-2 : tie.Need-same-length-2
-same-length-2 c = search needs
-
 returns : tie.Need-returns
 returns c =
     let d = c .before .before .before .before .before in
@@ -44,17 +14,8 @@ returns c =
     step-feasible (a .rows) (a .table .now) (record { oracle = a .oracle; ell = a .ell; buffers = record { mq = a .mq .now; xc = a .xc .now; grad-t = a .grad-t .now }; grad = a .grad .now })
     (d .assess-feas .result) _ (d .assess-feas .ensures .0) (c .enum-told .given .1)
 
-same-length-3 : tie.Need-same-length-3
-same-length-3 c = search needs
-
-same-length-4 : tie.Need-same-length-4
-same-length-4 c = search needs
-
 same-length-5 : tie.Need-same-length-5
 same-length-5 c = c .before .before .before .before .before .before .before .before .before .before .before .before .before .before .before .before .before .before .before .before .assess-feas .kept .1 .1 .1 .1 .1 .0
-
-same-length-6 : tie.Need-same-length-6
-same-length-6 c = search needs
 
 returns-2 : tie.Need-returns-2
 returns-2 c =
@@ -67,12 +28,6 @@ returns-2 c =
     (d .assess-feas .result) _ (d .assess-feas .ensures .0) (k .0 .0) (k .0 .1 .0) (k .1) (updated (a .ell) (u .result)) _ (u .ensures)
     (c .said-of .result) (c .said-of .ensures ∙ ap (said-of (k .0 .0) (k .0 .1 .0)) (c .before .answer .ensures)))
 
-same-length-7 : tie.Need-same-length-7
-same-length-7 c = search needs
-
-same-length-8 : tie.Need-same-length-8
-same-length-8 c = search needs
-
 returns-3 : tie.Need-returns-3
 returns-3 c =
     let k = c .before .verdict2 .given in
@@ -84,5 +39,13 @@ returns-3 c =
 pub feas-step-spec : {M : Type 1} → statement M
 feas-step-spec =
     tie.close
-    (tie.spec assess-feas-requires enum-told enum-known-verdict cut-requires after-requires answer-requires said-of-requires enum-known-verdict-2 same-length same-length-2 returns same-length-3 same-length-4
-    same-length-5 same-length-6 returns-2 same-length-7 same-length-8 returns-3)
+    (tie.spec
+    (λ c κs. tt) (λ c. search needs) (λ c. search needs) (λ c κs. tt) (λ c κs. tt) (λ c κs. tt)
+    (λ c κs. tt) (λ c. search needs) (λ c. search needs) (λ c. search needs)
+    returns
+    (λ c. search needs) (λ c. search needs)
+    same-length-5
+    (λ c. search needs)
+    returns-2
+    (λ c. search needs) (λ c. search needs)
+    returns-3)

@@ -30,15 +30,6 @@ abbrev μ-loop : tie.MeasureT-loop
 loop-holds : tie.Need-loop-holds Inv-loop μ-loop
 loop-holds c = let a = c .before .before .before .before .before .args in (omega arith, all-left (λ m. feas-run (a .rows) (a .table .now) (a .options .tolerance) m 0 (at-hand (a .oracle) (a .ell) (a .mq .now) (a .xc .now) (a .grad .now) (a .grad-t .now))) (a .options .«max_iters»), refl, refl, refl, refl)
 
-feas-step-requires : tie.Need-feas-step-requires Inv-loop μ-loop
-feas-step-requires c κs = tt
-
-goes-on-requires : tie.Need-goes-on-requires Inv-loop μ-loop
-goes-on-requires c κs = tt
-
-feas-ended-requires : tie.Need-feas-ended-requires Inv-loop μ-loop
-feas-ended-requires c κs = tt
-
 same-length : tie.Need-same-length Inv-loop μ-loop
 same-length c = c .before .before .before .before .before .before .before .before .before .before .before .before .before .feas-step .kept .1 .1 .1 .1 .0 ∙ c .before .before .before .before .before .before .before .before .before .before .before .before .before .before .before .before .before .before .before .before .loop .inv .2
 
@@ -82,18 +73,6 @@ loop-again c =
       f .kept .1 .1 .1 .1 .1 .1 .1 .0 ∙ l .inv .5,
     )
 
-same-length-5 : tie.Need-same-length-5 Inv-loop μ-loop
-same-length-5 c = c .before .before .loop .inv .2
-
-same-length-6 : tie.Need-same-length-6 Inv-loop μ-loop
-same-length-6 c = c .before .before .loop .inv .3
-
-same-length-7 : tie.Need-same-length-7 Inv-loop μ-loop
-same-length-7 c = c .before .before .loop .inv .4
-
-same-length-8 : tie.Need-same-length-8 Inv-loop μ-loop
-same-length-8 c = c .before .before .loop .inv .5
-
 returns-2 : tie.Need-returns-2 Inv-loop μ-loop
 returns-2 c =
     let l = c .before .before .loop in
@@ -108,9 +87,7 @@ run-feas-spec =
     Inv-loop
     μ-loop
     loop-holds
-    feas-step-requires
-    goes-on-requires
-    feas-ended-requires
+    (λ c κs. tt) (λ c κs. tt) (λ c κs. tt)
     same-length
     same-length-2
     same-length-3
@@ -119,8 +96,8 @@ run-feas-spec =
     add-niter
     loop-less
     loop-again
-    same-length-5
-    same-length-6
-    same-length-7
-    same-length-8
+    (λ c. c .before .before .loop .inv .2)
+    (λ c. c .before .before .loop .inv .3)
+    (λ c. c .before .before .loop .inv .4)
+    (λ c. c .before .before .loop .inv .5)
     returns-2)

@@ -40,15 +40,6 @@ loop-holds c =
       refl,
     )
 
-optim-step-requires : tie.Need-optim-step-requires Inv-loop μ-loop
-optim-step-requires c κs = tt
-
-optim-goes-on-requires : tie.Need-optim-goes-on-requires Inv-loop μ-loop
-optim-goes-on-requires c κs = tt
-
-optim-ended-requires : tie.Need-optim-ended-requires Inv-loop μ-loop
-optim-ended-requires c κs = tt
-
 same-length : tie.Need-same-length Inv-loop μ-loop
 same-length c = c .before .before .before .before .before .before .before .before .before .before .before .before .before .before .before .optim-step .kept .1 .1 .1 .1 .1 .1 .0 ∙ c .before .before .before .before .before .before .before .before .before .before .before .before .before .before .before .before .before .before .before .before .before .before .before .loop .inv .2
 
@@ -96,21 +87,6 @@ loop-again c =
       f .kept .1 .1 .1 .1 .1 .1 .1 .1 .1 .1 .0 ∙ l .inv .6,
     )
 
-same-length-6 : tie.Need-same-length-6 Inv-loop μ-loop
-same-length-6 c = c .before .before .loop .inv .2
-
-same-length-7 : tie.Need-same-length-7 Inv-loop μ-loop
-same-length-7 c = c .before .before .loop .inv .3
-
-same-length-8 : tie.Need-same-length-8 Inv-loop μ-loop
-same-length-8 c = c .before .before .loop .inv .4
-
-same-length-9 : tie.Need-same-length-9 Inv-loop μ-loop
-same-length-9 c = c .before .before .loop .inv .5
-
-same-length-10 : tie.Need-same-length-10 Inv-loop μ-loop
-same-length-10 c = c .before .before .loop .inv .6
-
 returns-2 : tie.Need-returns-2 Inv-loop μ-loop
 returns-2 c =
     let l = c .before .before .loop in
@@ -125,9 +101,7 @@ run-optim-spec =
     Inv-loop
     μ-loop
     loop-holds
-    optim-step-requires
-    optim-goes-on-requires
-    optim-ended-requires
+    (λ c κs. tt) (λ c κs. tt) (λ c κs. tt)
     same-length
     same-length-2
     same-length-3
@@ -137,9 +111,9 @@ run-optim-spec =
     add-niter
     loop-less
     loop-again
-    same-length-6
-    same-length-7
-    same-length-8
-    same-length-9
-    same-length-10
+    (λ c. c .before .before .loop .inv .2)
+    (λ c. c .before .before .loop .inv .3)
+    (λ c. c .before .before .loop .inv .4)
+    (λ c. c .before .before .loop .inv .5)
+    (λ c. c .before .before .loop .inv .6)
     returns-2)

@@ -87,26 +87,11 @@ module _ (bytes places₀ places : List ℕ) (e₀ : places₀ ≡ no-places) (f
               answer _ _ Sound Sound e₂ lengths band-sound (hit _ _ _ _ (cursors ∙ not-false k h) refl) Sound
               (passes f₁ _ _ t₁ (passes f₂ _ _ t₂ (passes f₃ _ _ t₃ (passes Sound _ _ refl refl))))
 
-record-fault-requires : tie.Need-record-fault-requires
-record-fault-requires c κs = search needs
-
-is-fault-requires : tie.Need-is-fault-requires
-is-fault-requires c κs = search needs
-
 returns : tie.Need-returns
 returns c =
     let asked1 = c .before in
     let rf = asked1 .before in
     at-walk _ _ _ (rf .before .before .before .pre) _ (rf .record-fault .ensures) (sym (asked1 .is-fault .ensures) ∙ c .if1 .taken)
-
-element-copy-out-size-fault : tie.Need-element-copy-out-size-fault
-element-copy-out-size-fault c = search needs
-
-size-fault-requires : tie.Need-size-fault-requires
-size-fault-requires c κs = search needs
-
-is-fault-requires-2 : tie.Need-is-fault-requires-2
-is-fault-requires-2 c κs = search needs
 
 returns-2 : tie.Need-returns-2
 returns-2 c =
@@ -117,21 +102,12 @@ returns-2 c =
     let rf = asked1 .before in
     at-dimension _ _ _ (rf .before .before .before .pre) _ (rf .record-fault .ensures) (sym (asked1 .is-fault .ensures) ∙ test1 .if1 .left) _ (sf .size-fault .ensures) (sym (asked2 .is-fault2 .ensures) ∙ c .if2 .taken)
 
-element-copy-out-half-at : tie.Need-element-copy-out-half-at
-element-copy-out-half-at c = search needs
-
-half-at-requires : tie.Need-half-at-requires
-half-at-requires c κs = search needs
-
 lengths-fault-requires : tie.Need-lengths-fault-requires
 lengths-fault-requires c κs =
     let test2 = c .before .before in
     let asked2 = test2 .before in
     let sf = asked2 .before in
     rw (c .half-at .ensures) (size-small 0 2 _ _ _ (sf .size-fault .ensures) (sym (asked2 .is-fault2 .ensures) ∙ test2 .if2 .left))
-
-is-fault-requires-3 : tie.Need-is-fault-requires-3
-is-fault-requires-3 c κs = search needs
 
 returns-3 : tie.Need-returns-3
 returns-3 c =
@@ -146,21 +122,6 @@ returns-3 c =
     let rf = asked1 .before in
     at-lengths _ _ _ (rf .before .before .before .pre) _ (rf .record-fault .ensures) (sym (asked1 .is-fault .ensures) ∙ test1 .if1 .left) _ (sf .size-fault .ensures) (sym (asked2 .is-fault2 .ensures) ∙ test2 .if2 .left)
     _ (ha .half-at .ensures) _ (lf .lengths-fault .ensures) (sym (asked3 .is-fault3 .ensures) ∙ c .if3 .taken)
-
-job-at-requires : tie.Need-job-at-requires
-job-at-requires c κs = search needs
-
-oracle-requires : tie.Need-oracle-requires
-oracle-requires c κs = search needs
-
-bands-fit-requires : tie.Need-bands-fit-requires
-bands-fit-requires c κs = search needs
-
-element-copy-out-start-of : tie.Need-element-copy-out-start-of
-element-copy-out-start-of c = search needs
-
-start-of-requires : tie.Need-start-of-requires
-start-of-requires c κs = search needs
 
 returns-4 : tie.Need-returns-4
 returns-4 c =
@@ -181,15 +142,6 @@ returns-4 c =
     at-bands-of _ _ _ (rf .before .before .before .pre) _ (rf .record-fault .ensures) (sym (asked1 .is-fault .ensures) ∙ test1 .if1 .left) _ (sf .size-fault .ensures) (sym (asked2 .is-fault2 .ensures) ∙ test2 .if2 .left)
     _ (ha .half-at .ensures) _ (lf .lengths-fault .ensures) (sym (asked3 .is-fault3 .ensures) ∙ test3 .if3 .left)
     _ (ja .job-at .ensures) _ (oc .oracle .ensures) _ (bf .bands-fit .ensures) (test4 .if4 .taken) _ (c .start-of .ensures)
-
-cursors-fit-requires : tie.Need-cursors-fit-requires
-cursors-fit-requires c κs = search needs
-
-element-copy-out-start-of-2 : tie.Need-element-copy-out-start-of-2
-element-copy-out-start-of-2 c = search needs
-
-start-of-requires-2 : tie.Need-start-of-requires-2
-start-of-requires-2 c κs = search needs
 
 returns-5 : tie.Need-returns-5
 returns-5 c =
@@ -238,26 +190,17 @@ pub job-fault-spec : {M : Type 1} → statement M
 job-fault-spec =
     tie.close
     (tie.spec
-    record-fault-requires
-    is-fault-requires
+    (λ c κs. search needs) (λ c κs. search needs)
     returns
-    element-copy-out-size-fault
-    size-fault-requires
-    is-fault-requires-2
+    (λ c. search needs) (λ c κs. search needs) (λ c κs. search needs)
     returns-2
-    element-copy-out-half-at
-    half-at-requires
+    (λ c. search needs) (λ c κs. search needs)
     lengths-fault-requires
-    is-fault-requires-3
+    (λ c κs. search needs)
     returns-3
-    job-at-requires
-    oracle-requires
-    bands-fit-requires
-    element-copy-out-start-of
-    start-of-requires
+    (λ c κs. search needs) (λ c κs. search needs) (λ c κs. search needs) (λ c. search needs)
+    (λ c κs. search needs)
     returns-4
-    cursors-fit-requires
-    element-copy-out-start-of-2
-    start-of-requires-2
+    (λ c κs. search needs) (λ c. search needs) (λ c κs. search needs)
     returns-5
     returns-6)

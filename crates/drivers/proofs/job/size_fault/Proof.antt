@@ -37,24 +37,12 @@ module _ (bytes : List ℕ) (rule least p q l r : ℕ) (s : q ≡ start-of p) (a
     unfolding size-fault
     inside k = rw (long, ← d) (passes Sound _ _ refl (hit _ Sound (At Dimension (start-of p)) _ (not-false _ k) refl))
 
-start-of-requires : tie.Need-start-of-requires
-start-of-requires c κs = search needs
-
-length-at-requires : tie.Need-length-at-requires
-length-at-requires c κs = search needs
-
-rule-length-requires : tie.Need-rule-length-requires
-rule-length-requires c κs = search needs
-
 returns : tie.Need-returns
 returns c =
     let rl = c .before in
     let la = rl .before in
     let so = la .before in
     too-long _ _ _ _ _ _ _ (so .start-of .ensures) (la .length-at .ensures) (rl .rule-length .ensures) (c .if1 .taken)
-
-half-at-requires : tie.Need-half-at-requires
-half-at-requires c κs = search needs
 
 returns-2 : tie.Need-returns-2
 returns-2 c =
@@ -77,4 +65,9 @@ returns-3 c =
 pub size-fault-spec : {M : Type 1} → statement M
 size-fault-spec =
     tie.close
-    (tie.spec start-of-requires length-at-requires rule-length-requires returns half-at-requires returns-2 returns-3)
+    (tie.spec
+    (λ c κs. search needs) (λ c κs. search needs) (λ c κs. search needs)
+    returns
+    (λ c κs. search needs)
+    returns-2
+    returns-3)

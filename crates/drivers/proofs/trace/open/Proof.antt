@@ -21,12 +21,6 @@ from-read out j q r e f =
     ap (with-slices (j .1) (j .2) (j .3)) e
     ∙ ap (λ (p : JobAnswer × List Float × List Float × List Float). with-slices (p .1) (p .2) (p .3) (opened-read out (p .0))) f
 
-refused-line-requires : tie.Need-refused-line-requires
-refused-line-requires c κs = search needs
-
-same-length : tie.Need-same-length
-same-length c = search needs
-
 returns : tie.Need-returns
 unfolding open-answer
 returns c =
@@ -36,33 +30,6 @@ returns c =
     let a = start .args in
     refuses _ _ _ (failed (lt-leb (length (a .bytes .now)) 65536 (test .if1 .taken)))
     (ap (λ (p : Text × List ℕ). with-slices (a .table .now) (a .xc .now) (a .mq .now) (opened-over p)) (line .refused-line .ensures))
-
-read-job-requires : tie.Need-read-job-requires
-read-job-requires c κs = search needs
-
-enum-known-read : tie.Need-enum-known-read
-enum-known-read c = search needs
-
-open-job-requires : tie.Need-open-job-requires
-open-job-requires c κs = search needs
-
-enum-known-read-2 : tie.Need-enum-known-read-2
-enum-known-read-2 c = search needs
-
-refused-line-requires-2 : tie.Need-refused-line-requires-2
-refused-line-requires-2 c κs = search needs
-
-same-length-2 : tie.Need-same-length-2
-same-length-2 c = search needs
-
-same-length-3 : tie.Need-same-length-3
-same-length-3 c = search needs
-
-same-length-4 : tie.Need-same-length-4
-same-length-4 c = search needs
-
-same-length-5 : tie.Need-same-length-5
-same-length-5 c = search needs
 
 returns-2 : tie.Need-returns-2
 unfolding open-answer
@@ -76,18 +43,6 @@ returns-2 c =
     let j = reading .read-job in
     accepts _ _ _ (held _ _ (le-leb (length (a .bytes .now)) 65536 (test .if1 .left)))
     (from-read (a .out .now) _ _ _ (opening .open-job .ensures ∙ ap (opened-read (a .out .now)) (sym (read .read .given .1))) (j .ensures))
-
-same-length-6 : tie.Need-same-length-6
-same-length-6 c = search needs
-
-same-length-7 : tie.Need-same-length-7
-same-length-7 c = search needs
-
-same-length-8 : tie.Need-same-length-8
-same-length-8 c = search needs
-
-same-length-9 : tie.Need-same-length-9
-same-length-9 c = search needs
 
 returns-3 : tie.Need-returns-3
 unfolding open-answer
@@ -106,21 +61,11 @@ pub open-spec : {M : Type 1} → statement M
 open-spec =
     tie.close
     (tie.spec
-    refused-line-requires
-    same-length
+    (λ c κs. search needs) (λ c. search needs)
     returns
-    read-job-requires
-    enum-known-read
-    open-job-requires
-    enum-known-read-2
-    refused-line-requires-2
-    same-length-2
-    same-length-3
-    same-length-4
-    same-length-5
+    (λ c κs. search needs) (λ c. search needs) (λ c κs. search needs) (λ c. search needs)
+    (λ c κs. search needs) (λ c. search needs) (λ c. search needs) (λ c. search needs)
+    (λ c. search needs)
     returns-2
-    same-length-6
-    same-length-7
-    same-length-8
-    same-length-9
+    (λ c. search needs) (λ c. search needs) (λ c. search needs) (λ c. search needs)
     returns-3)

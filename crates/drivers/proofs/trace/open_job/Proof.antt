@@ -5,26 +5,11 @@ use borrow.Author.Needs.{needs}
 use Rattle.drivers.proofs.trace.open_job.Statement.{statement}
 use Rattle.drivers.proofs.trace.open_job.Tie as tie
 
-new-requires : tie.Need-new-requires
-new-requires c κs = search needs
-
-enum-known-run : tie.Need-enum-known-run
-enum-known-run c = search needs
-
-enum-known-run-2 : tie.Need-enum-known-run-2
-enum-known-run-2 c = search needs
-
-refused-line-requires : tie.Need-refused-line-requires
-refused-line-requires c κs = search needs
-
 returns : tie.Need-returns
 returns c =
     let new = c .before .before .before in
     let start = new .before .before in
     ap (opened-run (start .args .out .now)) (sym (c .before .run .given .1) ∙ new .new .ensures)
-
-same-length : tie.Need-same-length
-same-length c = search needs
 
 returns-2 : tie.Need-returns-2
 returns-2 c =
@@ -38,10 +23,7 @@ pub open-job-spec : {M : Type 1} → statement M
 open-job-spec =
     tie.close
     (tie.spec
-    new-requires
-    enum-known-run
-    enum-known-run-2
-    refused-line-requires
+    (λ c κs. search needs) (λ c. search needs) (λ c. search needs) (λ c κs. search needs)
     returns
-    same-length
+    (λ c. search needs)
     returns-2)

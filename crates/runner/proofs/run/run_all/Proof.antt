@@ -37,15 +37,6 @@ Inv-loop mark₀ table mq₀ xc₀ grad₀ grad-t₀ out₀ printed₀ mark mq x
 abbrev μ-loop : tie.MeasureT-loop
 μ-loop mark₀ table mq₀ xc₀ grad₀ grad-t₀ out₀ printed₀ mark mq xc grad grad-t out printed = calls-left printed
 
-step-requires : tie.Need-step-requires Inv-loop μ-loop
-step-requires c κs = search needs
-
-loop-holds : tie.Need-loop-holds Inv-loop μ-loop
-loop-holds c = (refl, refl, refl, refl, refl, refl, refl)
-
-step-requires-2 : tie.Need-step-requires-2 Inv-loop μ-loop
-step-requires-2 c κs = search needs
-
 loop-less : tie.Need-loop-less Inv-loop μ-loop
 loop-less c =
     let l = c .before .before .before .before .before .before .before .before .before .before .before .before .before .before .before .before .before .before .before .loop in
@@ -73,21 +64,6 @@ loop-again c =
       f .kept .1 .1 .1 .1 .1 .1 .1 .0 ∙ l .inv .6,
     )
 
-same-length : tie.Need-same-length Inv-loop μ-loop
-same-length c = search needs
-
-same-length-2 : tie.Need-same-length-2 Inv-loop μ-loop
-same-length-2 c = search needs
-
-same-length-3 : tie.Need-same-length-3 Inv-loop μ-loop
-same-length-3 c = search needs
-
-same-length-4 : tie.Need-same-length-4 Inv-loop μ-loop
-same-length-4 c = search needs
-
-same-length-5 : tie.Need-same-length-5 Inv-loop μ-loop
-same-length-5 c = search needs
-
 returns : tie.Need-returns Inv-loop μ-loop
 returns c =
     let l = c .before .loop in
@@ -107,14 +83,10 @@ run-all-spec =
     (tie.spec
     Inv-loop
     μ-loop
-    step-requires
-    loop-holds
-    step-requires-2
+    (λ c κs. search needs)
+    (λ c. (refl, refl, refl, refl, refl, refl, refl))
+    (λ c κs. search needs)
     loop-less
     loop-again
-    same-length
-    same-length-2
-    same-length-3
-    same-length-4
-    same-length-5
+    (λ c. search needs) (λ c. search needs) (λ c. search needs) (λ c. search needs) (λ c. search needs)
     returns)

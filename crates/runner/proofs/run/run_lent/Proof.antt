@@ -41,12 +41,6 @@ module _ (bytes : List ℕ) (table xc mq : List Float) (out : List ℕ) (t : len
       let front : (xs : List Float) → xs ≡ replicate 32 0ᶠ → take n xs ≡ replicate n 0ᶠ = λ xs h. ap (take n) h ∙ zeros-front n 32 in-32 in
       rw (front grad g, front grad-t gt) (run-all-prints bytes table xc mq table′ xc′ mq′ out out′ run t x m room e)
 
-open-requires : tie.Need-open-requires
-open-requires c κs = search needs
-
-enum-known-opened : tie.Need-enum-known-opened
-enum-known-opened c = search needs
-
 run-sized-requires : tie.Need-run-sized-requires
 run-sized-requires c κs =
     let a = c .before .before .before .before .before .before .before .before .before .before .before .before .before .before .before .before .before .args in
@@ -54,12 +48,6 @@ run-sized-requires c κs =
     let run = c .before .before .before .before .before .before .before .before .before .opened .given in
     let h = open-held (a .bytes .now) (a .table .now) (a .xc .now) (a .mq .now) (a .out .now) (run .0 .0) (o .last .1 .0) (o .last .1 .1 .0) (o .last .1 .1 .1 .0) (o .last .1 .1 .1 .1 .0) (as-known (o .ensures) (run .1)) in
     (h, omega (arith, h .xc-long), omega (arith, h .xc-long))
-
-enum-known-opened-2 : tie.Need-enum-known-opened-2
-enum-known-opened-2 c = search needs
-
-write-text-requires : tie.Need-write-text-requires
-write-text-requires c κs = search needs
 
 returns : tie.Need-returns
 returns c =
@@ -85,10 +73,8 @@ pub run-lent-spec : {M : Type 1} → statement M
 run-lent-spec =
     tie.close
     (tie.spec
-    open-requires
-    enum-known-opened
+    (λ c κs. search needs) (λ c. search needs)
     run-sized-requires
-    enum-known-opened-2
-    write-text-requires
+    (λ c. search needs) (λ c κs. search needs)
     returns
     returns-2)

@@ -16,18 +16,6 @@ goes : (j : Job) (o : LowpassOracle) (e : Ell) (r : NewEll) → o ≡ job-oracle
     → MadeRun (record { oracle = o; ell = e; options = j .options; rows = j .rows; niter = 0 }) ≡ run-of j r
 goes j o e r h q = rw h (ap (run-of j) q)
 
-oracle-requires : tie.Need-oracle-requires
-oracle-requires c κs = tt
-
-new-with-matrix-requires : tie.Need-new-with-matrix-requires
-new-with-matrix-requires c κs = search needs
-
-enum-known-ell : tie.Need-enum-known-ell
-enum-known-ell c = search needs
-
-enum-known-why : tie.Need-enum-known-why
-enum-known-why c = search needs
-
 returns : tie.Need-returns
 returns c =
     let made = c .before .before .before in
@@ -42,4 +30,8 @@ returns-2 c =
 
 pub new-spec : {M : Type 1} → statement M
 new-spec =
-    tie.close (tie.spec oracle-requires new-with-matrix-requires enum-known-ell enum-known-why returns returns-2)
+    tie.close
+    (tie.spec
+    (λ c κs. tt) (λ c κs. search needs) (λ c. search needs) (λ c. search needs)
+    returns
+    returns-2)

@@ -12,22 +12,10 @@ use Rattle.drivers.proofs.trace.Run.step.Statement.{statement}
 use Rattle.drivers.proofs.trace.Run.step.Tie as tie
 use Rattle.numbers.specs.laws.Pick.{hit, skip}
 
-feas-step-requires : tie.Need-feas-step-requires
-feas-step-requires c κs = search needs
-
-put-said-requires : tie.Need-put-said-requires
-put-said-requires c κs = search needs
-
-goes-on-requires : tie.Need-goes-on-requires
-goes-on-requires c κs = search needs
-
 add-moved : tie.Need-add-moved
 add-moved c =
     let start = c .before .before .before .before .before .before .before .before .before .before .before .before .before .before .before .before .before .before .before .before .before .before .before .before .before .before .before .before .before .before .before in
     record { fits = omega (arith, c .struct-known .given .1 .1 .0 .0 .fits, start .pre .0) }
-
-moved-requires : tie.Need-moved-requires
-moved-requires c κs = search needs
 
 same-length : tie.Need-same-length
 same-length c =
@@ -49,9 +37,6 @@ same-length-4 c =
     let grad-t = c .before .before .before .before .before .before .before .before .before .before .before in
     grad-t .grad-t .given
 
-same-length-5 : tie.Need-same-length-5
-same-length-5 c = search needs
-
 returns : tie.Need-returns
 returns c =
     let test = c .before .before in
@@ -61,15 +46,6 @@ returns c =
     let start = step .before .before .before .before .before .before .before .before .before .before .before .before .before .before in
     step-shown _ _ _ _ _ _ _ true [] _ _ _ (start .pre .1) (step .feas-step .ensures) (sym (test .if1 .taken) ∙ going .goes-on .ensures)
     (hit _ _ _ _ refl refl) (put-on _ _ _ _ _ _ (said .put-said .ensures) (put-none _ _)) (hit _ _ _ _ refl (add-one _)) (c .moved .ensures)
-
-moved-requires-2 : tie.Need-moved-requires-2
-moved-requires-2 c κs = search needs
-
-feas-ended-requires : tie.Need-feas-ended-requires
-feas-ended-requires c κs = search needs
-
-put-ended-requires : tie.Need-put-ended-requires
-put-ended-requires c κs = search needs
 
 same-length-6 : tie.Need-same-length-6
 same-length-6 c =
@@ -91,9 +67,6 @@ same-length-9 c =
     let grad-t = c .before .before .before .before .before .before .before .before .before .before .before .before .before .before .before in
     grad-t .grad-t .given
 
-same-length-10 : tie.Need-same-length-10
-same-length-10 c = search needs
-
 returns-2 : tie.Need-returns-2
 returns-2 c =
     let ended = c .before .before in
@@ -111,23 +84,19 @@ pub step-spec : {M : Type 1} → statement M
 step-spec =
     tie.close
     (tie.spec
-    feas-step-requires
-    put-said-requires
-    goes-on-requires
+    (λ c κs. search needs) (λ c κs. search needs) (λ c κs. search needs)
     add-moved
-    moved-requires
+    (λ c κs. search needs)
     same-length
     same-length-2
     same-length-3
     same-length-4
-    same-length-5
+    (λ c. search needs)
     returns
-    moved-requires-2
-    feas-ended-requires
-    put-ended-requires
+    (λ c κs. search needs) (λ c κs. search needs) (λ c κs. search needs)
     same-length-6
     same-length-7
     same-length-8
     same-length-9
-    same-length-10
+    (λ c. search needs)
     returns-2)
