@@ -35,6 +35,7 @@ ghost use Rattle.drivers.specs.Record.{fields-of, no-places, numbers-at,
 ghost use Rattle.drivers.specs.Job.{signed, part-of, row-end, job-oracle, options-of, job-at, full-job-at, job-walk, size-fault, job-fault, has-room, read-into, read-job-answer};
 ghost use Rattle.drivers.specs.Rules.{matrix-place, point-place};
 ghost use Rattle.drivers.specs.laws.Record.{row-filled};
+ghost use Rattle.drivers.specs.laws.Job.{oracle-fault, content-fault};
 ghost use Rattle.numbers.specs.declared.refusal.Fault.the-variants.{Sound};
 
 // What a job record keeps, beside its row table, its point and its matrix, which the reader writes into slices.
@@ -168,6 +169,36 @@ pub(crate) fn size_fault(bytes: &[u8], rule: usize, least: usize, p: usize) -> F
     Fault::Sound
 }
 
+// Refusal 3 at tag 02, then 4 at tag 06: the tests of the oracle that the job starts with.
+fn oracle_fault(job: Job, places: &[usize; 12]) -> Fault
+    ensures { λ r. ⌜ r ≡ oracle-fault job (now (places .entry)) ⌝ }
+{
+    let oracle = job.oracle();
+    if !oracle.bands_fit(job.rows) {
+        return Fault::At(Refusal::Band, start_of(places[BANDS]));
+    }
+    if !oracle.cursors_fit() {
+        return Fault::At(Refusal::Cursor, start_of(places[CURSORS]));
+    }
+    Fault::Sound
+}
+
+// The tests that follow the walk: tag 01, the other lengths, 3 and 4.
+fn content_fault(bytes: &[u8], places: &[usize; 12]) -> Fault
+    ensures { λ r. ⌜ r ≡ content-fault (now (bytes .entry)) (now (places .entry)) ⌝ }
+{
+    let fault = size_fault(bytes, N, 2, places[N]);
+    if is_fault(fault) {
+        return fault;
+    }
+    let job = job_at(bytes, places);
+    let fault = lengths_fault(bytes, job.n);
+    if is_fault(fault) {
+        return fault;
+    }
+    oracle_fault(job, places)
+}
+
 // The first fault of a job record, in document 01's order; `places` becomes where the contents of its tags begin.
 fn job_fault(bytes: &[u8], places: &mut [usize; 12]) -> Fault
     requires { ⌜ now places ≡ no-places ⌝ }
@@ -178,23 +209,7 @@ fn job_fault(bytes: &[u8], places: &mut [usize; 12]) -> Fault
     if is_fault(fault) {
         return fault;
     }
-    let fault = size_fault(bytes, N, 2, places[N]);
-    if is_fault(fault) {
-        return fault;
-    }
-    let fault = lengths_fault(bytes, half_at(bytes, places[N]));
-    if is_fault(fault) {
-        return fault;
-    }
-    let job = job_at(bytes, places);
-    let oracle = job.oracle();
-    if !oracle.bands_fit(job.rows) {
-        return Fault::At(Refusal::Band, start_of(places[BANDS]));
-    }
-    if !oracle.cursors_fit() {
-        return Fault::At(Refusal::Cursor, start_of(places[CURSORS]));
-    }
-    Fault::Sound
+    content_fault(bytes, places)
 }
 
 // Refusal 11: whether the three outputs hold a sound job's numbers.
