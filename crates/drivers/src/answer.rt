@@ -26,6 +26,7 @@ ghost use Rattle.numbers.specs.declared.refusal.Fault.the-variants.{Sound};
 ghost use Rattle.drivers.specs.Record.{no-places, fronted};
 ghost use Rattle.drivers.specs.Fields.{field-bytes};
 ghost use Rattle.drivers.specs.Answer.{outcome-byte, answer-walk, outcome-fault, answer-at, point-at, has-point, read-answer-answer, answer-fields, write-answer-answer, read-answer-tests};
+ghost use Rattle.drivers.specs.laws.Answer.{content-fault};
 ghost use Rattle.drivers.specs.laws.Text.{put-all};
 
 // What a run answers, and a record keeps, beside the point: whether there is one, and the steps.
@@ -66,6 +67,25 @@ fn outcome_fault(bytes: &[u8], places: &[usize; 12]) -> Fault
     Fault::Sound
 }
 
+// The tests that follow the walk: the lengths, 12, and the room for a point.
+fn content_fault(n: usize, bytes: &[u8], places: &[usize; 12], room: usize) -> Fault
+    requires { ⌜ n ≤ 32 ⌝ }
+    ensures { λ r. ⌜ r ≡ content-fault n (now (bytes .entry)) (now (places .entry)) room ⌝ }
+{
+    let fault = lengths_fault(bytes, n);
+    if is_fault(fault) {
+        return fault;
+    }
+    let fault = outcome_fault(bytes, places);
+    if is_fault(fault) {
+        return fault;
+    }
+    if (places[FOUND] != 0) & (room < n) {
+        return Fault::At(Refusal::Room, 0);
+    }
+    Fault::Sound
+}
+
 // The first fault of an answer record, in document 01's order, 11 the last; `places` becomes where the contents of its tags begin.
 fn answer_fault(n: usize, bytes: &[u8], places: &mut [usize; 12], room: usize) -> Fault
     requires { ⌜ now places ≡ no-places ⌝ }
@@ -79,18 +99,7 @@ fn answer_fault(n: usize, bytes: &[u8], places: &mut [usize; 12], room: usize) -
     if is_fault(fault) {
         return fault;
     }
-    let fault = lengths_fault(bytes, n);
-    if is_fault(fault) {
-        return fault;
-    }
-    let fault = outcome_fault(bytes, places);
-    if is_fault(fault) {
-        return fault;
-    }
-    if (places[FOUND] != 0) & (room < n) {
-        return Fault::At(Refusal::Room, 0);
-    }
-    Fault::Sound
+    content_fault(n, bytes, places, room)
 }
 
 // What a sound record says, its point at the front of `point`.

@@ -76,17 +76,6 @@ element-copy-out-first-place c =
     listed _ _ _ _ _ (in-loop .loop-test .taken) (ff .field-fault .ensures) _ (in-loop .before .loop .inv) (sym (asked1 .is-fault .ensures) ∙ test1 .if1 .left) _
     (c .rule-index .ensures ∙ ap index-of (ta .tag-at .ensures))
 
-element-write-places : tie.Need-element-write-places Inv-loop μ-loop
-element-write-places c =
-    let ri = c .before .before .before in
-    let ta = ri .before in
-    let test1 = ta .before in
-    let asked1 = test1 .before in
-    let ff = asked1 .before in
-    let in-loop = ff .before .before in
-    listed _ _ _ _ _ (in-loop .loop-test .taken) (ff .field-fault .ensures) _ (in-loop .before .loop .inv) (sym (asked1 .is-fault .ensures) ∙ test1 .if1 .left) _
-    (ri .rule-index .ensures ∙ ap index-of (ta .tag-at .ensures))
-
 loop-less : tie.Need-loop-less Inv-loop μ-loop
 loop-less c =
     let in-loop = c .before .before .before .before .before .before .before .before .before .before in
@@ -118,8 +107,8 @@ walk-spec =
     (λ c. record { fits = omega (arith, element-copy-out-first-place c) })
     element-copy-out-first-place
     (λ c κs. search needs) (λ c κs. search needs)
-    (λ c. record { fits = omega (arith, element-write-places c) })
-    element-write-places
+    (λ c. record { fits = omega (arith, element-copy-out-first-place (c .before .before .before)) })
+    (λ c. element-copy-out-first-place (c .before .before .before))
     (λ c κs. search needs)
     loop-less
     loop-again
