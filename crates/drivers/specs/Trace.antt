@@ -22,7 +22,7 @@ use Rattle.oracles.specs.declared.lowpass_oracle.Group.{Group}
 use Rattle.oracles.specs.declared.lowpass_oracle.Group.the-variants.{Pass, Stop, Middle, Sign}
 use Rattle.oracles.specs.declared.ell.NewEll.{NewEll}
 use Rattle.oracles.specs.declared.ell.NewEll.the-variants.{Made, Refused as NoEll}
-use Rattle.drivers.specs.Text.{joined, decimal, hex}
+use Rattle.drivers.specs.Text.{bytes-of, joined, decimal, hex}
 use Rattle.drivers.specs.CuttingPlane.{State, check-space, feas-step, goes-on, feas-ended}
 use Rattle.drivers.specs.Job.{job-oracle, read-job-answer}
 use Rattle.drivers.specs.declared.answer.Answer.{Answer}
@@ -42,33 +42,33 @@ use Rattle.drivers.specs.declared.trace.NewRun.the-variants.{Made as Mad
 use Rattle.drivers.specs.declared.trace.Opened.{Opened}
 use Rattle.drivers.specs.declared.trace.Opened.the-variants.{Going, Over}
 
--- ---- a cut's line: step, group, row or -, over or under, beta0, beta1 or -, status. The words stand here as their bytes, with the spaces beside them.
+-- ---- a cut's line: step, group, row or -, over or under, beta0, beta1 or -, status. The words stand here with the spaces beside them.
 
 abbrev pub group-word : Group → List ℕ
-group-word (Pass row over) = 32 ∷ 112 ∷ 97 ∷ 115 ∷ 115 ∷ 32 ∷ []  -- " pass "
-group-word (Stop row over) = 32 ∷ 115 ∷ 116 ∷ 111 ∷ 112 ∷ 32 ∷ []  -- " stop "
-group-word (Middle row) = 32 ∷ 109 ∷ 105 ∷ 100 ∷ 100 ∷ 108 ∷ 101 ∷ 32 ∷ []  -- " middle "
-group-word Sign = 32 ∷ 115 ∷ 105 ∷ 103 ∷ 110 ∷ 32 ∷ []  -- " sign "
+group-word (Pass row over) = bytes-of " pass "
+group-word (Stop row over) = bytes-of " stop "
+group-word (Middle row) = bytes-of " middle "
+group-word Sign = bytes-of " sign "
 
 abbrev pub row-text : Group → List ℕ
 row-text (Pass row over) = decimal row
 row-text (Stop row over) = decimal row
 row-text (Middle row) = decimal row
-row-text Sign = 45 ∷ []  -- "-"
+row-text Sign = bytes-of "-"
 
 abbrev pub side-word : Bool → List ℕ
-side-word true = 32 ∷ 111 ∷ 118 ∷ 101 ∷ 114 ∷ 32 ∷ []  -- " over "
-side-word false = 32 ∷ 117 ∷ 110 ∷ 100 ∷ 101 ∷ 114 ∷ 32 ∷ []  -- " under "
+side-word true = bytes-of " over "
+side-word false = bytes-of " under "
 
 -- the betas as their bits; a NaN as 7FF8000000000000
 abbrev pub beta-pieces : CutChoice → List (List ℕ)
-beta-pieces (Single beta0) = hex (bits-of beta0) ∷ (32 ∷ 45 ∷ []) ∷ []  -- " -"
-beta-pieces (Parallel beta0 beta1) = hex (bits-of beta0) ∷ (32 ∷ []) ∷ hex (bits-of beta1) ∷ []
+beta-pieces (Single beta0) = hex (bits-of beta0) ∷ bytes-of " -" ∷ []
+beta-pieces (Parallel beta0 beta1) = hex (bits-of beta0) ∷ bytes-of " " ∷ hex (bits-of beta1) ∷ []
 
 abbrev pub status-word : CutStatus → List ℕ
-status-word Success = 32 ∷ 83 ∷ 117 ∷ 99 ∷ 99 ∷ 101 ∷ 115 ∷ 115 ∷ 10 ∷ []  -- " Success" and a line feed
-status-word NoSoln = 32 ∷ 78 ∷ 111 ∷ 83 ∷ 111 ∷ 108 ∷ 110 ∷ 10 ∷ []  -- " NoSoln"
-status-word NoEffect = 32 ∷ 78 ∷ 111 ∷ 69 ∷ 102 ∷ 102 ∷ 101 ∷ 99 ∷ 116 ∷ 10 ∷ []  -- " NoEffect"
+status-word Success = bytes-of " Success\n"
+status-word NoSoln = bytes-of " NoSoln\n"
+status-word NoEffect = bytes-of " NoEffect\n"
 
 abbrev pub cut-pieces : ℕ → Group → CutChoice → CutStatus → List (List ℕ)
 cut-pieces step group beta status = (decimal step ∷ group-word group ∷ row-text group ∷ side-word (group-side group) ∷ []) ++ beta-pieces beta ++ (status-word status ∷ [])
@@ -82,11 +82,11 @@ said-pieces step (NotStepped why) = []
 -- ---- the last line: `found` or `none`, and the steps
 
 abbrev pub outcome-word : Bool → List ℕ
-outcome-word true = 102 ∷ 111 ∷ 117 ∷ 110 ∷ 100 ∷ 32 ∷ []  -- "found "
-outcome-word false = 110 ∷ 111 ∷ 110 ∷ 101 ∷ 32 ∷ []  -- "none "
+outcome-word true = bytes-of "found "
+outcome-word false = bytes-of "none "
 
 abbrev pub last-pieces : Answer → List (List ℕ)
-last-pieces a = outcome-word (a .found) ∷ decimal (a .steps) ∷ (10 ∷ []) ∷ []
+last-pieces a = outcome-word (a .found) ∷ decimal (a .steps) ∷ bytes-of "\n" ∷ []
 
 abbrev pub ended-pieces : FeasAnswer → List (List ℕ)
 ended-pieces (Ended a) = last-pieces a
@@ -95,9 +95,7 @@ ended-pieces (NotRun why) = []
 -- ---- the line of a refusal: `refused`, number, place
 
 abbrev pub refused-pieces : Refusal → ℕ → List (List ℕ)
-refused-pieces why place =
-    (114 ∷ 101 ∷ 102 ∷ 117 ∷ 115 ∷ 101 ∷ 100 ∷ 32 ∷ [])  -- "refused "
-    ∷ decimal (refusal-number why) ∷ (32 ∷ []) ∷ decimal place ∷ (10 ∷ []) ∷ []
+refused-pieces why place = bytes-of "refused " ∷ decimal (refusal-number why) ∷ bytes-of " " ∷ decimal place ∷ bytes-of "\n" ∷ []
 
 -- 11 where `out` has fewer bytes than the longest text may need
 abbrev pub room : ℕ
