@@ -58,9 +58,13 @@ abbrev pub check-space : ℕ → List Float → State → Fault
 check-space rows table s =
     check-of (s .oracle) (s .ell .ndim) rows (length table) (length (s .buffers .mq)) (length (s .buffers .xc)) (length (s .grad)) (length (s .buffers .grad-t))
 
--- both drivers: then 11, where x_best has no room for a point
+-- then 11, where an output has not the room that is needed
+abbrev pub room-test : ℕ → ℕ → Fault
+room-test needed room = ask (leb needed room) Room
+
+-- both drivers: x_best must hold a point
 abbrev pub run-tests : ℕ → List Float → State → List Float → Fault
-run-tests rows table s best = check-space rows table s ⨾ ask (leb (s .ell .ndim) (length best)) Room
+run-tests rows table s best = check-space rows table s ⨾ room-test (s .ell .ndim) (length best)
 
 -- the point at the front of x_best, where it is to be kept and there is room; the rest stays
 abbrev pub kept : Bool → List Float → List Float → List Float

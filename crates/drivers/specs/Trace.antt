@@ -7,7 +7,7 @@ use lib.ListN.{length}
 use lib.Ieee.{Float}
 use Rattle.numbers.specs.Pick.{pick}
 use Rattle.numbers.specs.Bits.{bits-of}
-use Rattle.numbers.specs.Refusal.{refusal-number, _⨾_, unless, ask, ask-at}
+use Rattle.numbers.specs.Refusal.{refusal-number, _⨾_, unless, ask-at}
 use Rattle.numbers.specs.declared.refusal.Refusal.{Refusal}
 use Rattle.numbers.specs.declared.refusal.Refusal.the-variants.{Room}
 use Rattle.numbers.specs.declared.refusal.Fault.{Fault}
@@ -23,7 +23,7 @@ use Rattle.oracles.specs.declared.lowpass_oracle.Group.the-variants.{Pass, Stop
 use Rattle.oracles.specs.declared.ell.NewEll.{NewEll}
 use Rattle.oracles.specs.declared.ell.NewEll.the-variants.{Made, Refused as NoEll}
 use Rattle.drivers.specs.Text.{bytes-of, joined, decimal, hex}
-use Rattle.drivers.specs.CuttingPlane.{State, check-space, feas-step, goes-on, feas-ended}
+use Rattle.drivers.specs.CuttingPlane.{State, check-space, room-test, feas-step, goes-on, feas-ended}
 use Rattle.drivers.specs.Job.{job-oracle, read-job-answer}
 use Rattle.drivers.specs.declared.answer.Answer.{Answer}
 use Rattle.drivers.specs.declared.cutting_plane.Said.{Said}
@@ -102,7 +102,7 @@ abbrev pub room : ℕ
 room = 128
 
 abbrev pub text-room : List ℕ → Fault
-text-room out = ask (leb room (length out)) Room
+text-room out = room-test room (length out)
 
 -- a text at the front of `out`, and its length
 unfoldable pub printed : List ℕ → List ℕ → Text × List ℕ

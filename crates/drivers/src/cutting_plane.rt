@@ -16,13 +16,14 @@ use oracles::lowpass_oracle::Verdict;
 use oracles::scan::table_fits;
 ghost use mathlib.Core.Path.{_≡_};
 ghost use mathlib.Core.Bool.{false};
+ghost use Rattle.numbers.specs.Refusal.{_⨾_};
 ghost use Rattle.oracles.specs.Ell.{updated};
 ghost use mathlib.Core.List.{List};
 ghost use lib.Ieee.{Float};
 ghost use Rattle.numbers.specs.declared.refusal.Refusal.{Refusal};
 ghost use Rattle.drivers.specs.declared.cutting_plane.FeasAnswer.the-variants.{Refused as NotRun};
 ghost use Rattle.drivers.specs.declared.cutting_plane.OptimAnswer.the-variants.{Refused as NotRunOptim};
-ghost use Rattle.drivers.specs.CuttingPlane.{State, default-options, check-of, said-of, goes-on, proceeds, feas-ended, is-found, kept, feas-step, feas-run, feas-answer, optim-step, optim-goes-on, optim-ended, optim-left, optim-run, optim-answer};
+ghost use Rattle.drivers.specs.CuttingPlane.{State, default-options, check-of, room-test, said-of, goes-on, proceeds, feas-ended, is-found, kept, feas-step, feas-run, feas-answer, optim-step, optim-goes-on, optim-ended, optim-left, optim-run, optim-answer};
 
 // How many steps a run may take, and the tsq below which it ends.
 pub struct Options {
@@ -99,7 +100,7 @@ pub struct OptimRun {
     pub answer: OptimAnswer,
 }
 
-// Refusals 1 to 4 of a run, by the lengths of the slices.
+// The tests of a run, by the lengths of its slices: refusals 1 to 4, then 11, where the output has not the room that is needed.
 pub(crate) fn check(
     oracle: LowpassOracle,
     n: usize,
@@ -109,8 +110,10 @@ pub(crate) fn check(
     xc: usize,
     grad: usize,
     grad_t: usize,
+    room: usize,
+    needed: usize,
 ) -> Fault
-    ensures { λ r. ⌜ r ≡ check-of oracle n rows table mq xc grad «grad_t» ⌝ }
+    ensures { λ r. ⌜ r ≡ (check-of oracle n rows table mq xc grad «grad_t» ⨾ room-test needed room) ⌝ }
 {
     if !is_dimension(n) {
         return Fault::At(Refusal::Dimension, 0);
@@ -123,6 +126,9 @@ pub(crate) fn check(
     }
     if !oracle.cursors_fit() {
         return Fault::At(Refusal::Cursor, 0);
+    }
+    if room < needed {
+        return Fault::At(Refusal::Room, 0);
     }
     Fault::Sound
 }
@@ -307,6 +313,8 @@ pub fn cutting_plane_feas(
         xc.len(),
         grad.len(),
         grad_t.len(),
+        x_best.len(),
+        n,
     );
     match fault {
         Fault::At(why, _) => FeasRun {
@@ -315,13 +323,6 @@ pub fn cutting_plane_feas(
             answer: FeasAnswer::Refused(why),
         },
         Fault::Sound => {
-            if x_best.len() < n {
-                return FeasRun {
-                    oracle: oracle,
-                    ell: ell,
-                    answer: FeasAnswer::Refused(Refusal::Room),
-                };
-            }
             let run = run_feas(oracle, ell, options, rows, table, mq, xc, grad, grad_t);
             let answer = run.answer;
             keep(is_found(answer), xc, x_best);
@@ -505,6 +506,8 @@ pub fn cutting_plane_optim(
         xc.len(),
         grad.len(),
         grad_t.len(),
+        x_best.len(),
+        n,
     );
     match fault {
         Fault::At(why, _) => OptimRun {
@@ -513,28 +516,18 @@ pub fn cutting_plane_optim(
             gamma: gamma,
             answer: OptimAnswer::Refused(why),
         },
-        Fault::Sound => {
-            if x_best.len() < n {
-                return OptimRun {
-                    oracle: oracle,
-                    ell: ell,
-                    gamma: gamma,
-                    answer: OptimAnswer::Refused(Refusal::Room),
-                };
-            }
-            run_optim(
-                oracle,
-                ell,
-                gamma,
-                options,
-                rows,
-                table,
-                mq,
-                xc,
-                grad,
-                grad_t,
-                x_best,
-            )
-        }
+        Fault::Sound => run_optim(
+            oracle,
+            ell,
+            gamma,
+            options,
+            rows,
+            table,
+            mq,
+            xc,
+            grad,
+            grad_t,
+            x_best,
+        ),
     }
 }

@@ -323,13 +323,12 @@ impl Run {
             xc.len(),
             grad.len(),
             grad_t.len(),
+            out.len(),
+            ROOM,
         );
         match fault {
             Fault::At(why, _) => self.refused(why),
             Fault::Sound => {
-                if out.len() < ROOM {
-                    return self.refused(Refusal::Room);
-                }
                 if self.niter < options.max_iters {
                     return self.step(table, mq, xc, grad, grad_t, out);
                 }

@@ -1,17 +1,14 @@
--- What the drivers answer, from what their calls answered: the tests, the room, the run. Assumes nothing.
+-- What the drivers answer, from what their calls answered: the tests, the run. Assumes nothing.
 use mathlib.Core.Path.{_≡_, refl, sym, ap, _∙_}
 use mathlib.Core.Bool.{Bool}
 use mathlib.Core.List.{List}
-use Prim.Native.Nat.{ℕ, _≤_, _<_}
-use borrow.Author.Tests.{le-leb, lt-leb}
-use lib.ListN.{length}
+use Prim.Native.Nat.{ℕ}
 use lib.Ieee.{Float}
 use Rattle.numbers.specs.declared.refusal.Refusal.{Refusal}
-use Rattle.numbers.specs.declared.refusal.Refusal.the-variants.{Room}
 use Rattle.numbers.specs.declared.refusal.Fault.{Fault}
 use Rattle.numbers.specs.declared.refusal.Fault.the-variants.{Sound, At}
-use Rattle.numbers.specs.laws.Refusal.{failed, held, at-first, at-next, refuses, accepts}
-use Rattle.drivers.specs.CuttingPlane.{State, check-space, run-tests, is-found, kept, feas-run, feas-answer, OptimState, OptimLeft, plain, leaves, optim-run, optim-answer}
+use Rattle.numbers.specs.laws.Refusal.{refuses, accepts}
+use Rattle.drivers.specs.CuttingPlane.{State, run-tests, is-found, kept, feas-run, feas-answer, OptimState, OptimLeft, plain, leaves, optim-run, optim-answer}
 use Rattle.drivers.specs.laws.Refused.{feas-refused, optim-refused}
 use Rattle.drivers.specs.declared.cutting_plane.Options.{Options}
 use Rattle.drivers.specs.declared.cutting_plane.FeasAnswer.{FeasAnswer}
@@ -19,8 +16,8 @@ use Rattle.drivers.specs.declared.cutting_plane.FeasAnswer.the-variants.
 use Rattle.drivers.specs.declared.cutting_plane.OptimAnswer.{OptimAnswer}
 use Rattle.drivers.specs.declared.cutting_plane.OptimAnswer.the-variants.{Refused as NotRunOptim}
 
--- the tests of the lengths, bands and cursors said k
-module _ (options : Options) (rows : ℕ) (table : List Float) (s : State) (best : List Float) (k : Fault) (e : k ≡ check-space rows table s) where
+-- the tests said k
+module _ (options : Options) (rows : ℕ) (table : List Float) (s : State) (best : List Float) (k : Fault) (e : k ≡ run-tests rows table s best) where
   -- both promises: the answer, and that a refusal gives everything back
   abbrev FeasPromised : FeasAnswer → State → List Float → Type 0
   FeasPromised r s′ best′ =
@@ -30,24 +27,20 @@ module _ (options : Options) (rows : ℕ) (table : List Float) (s : State) (best
   feas-promised r s′ best′ d =
       (d, λ why h. ap (λ (p : FeasAnswer × State × List Float). (p .1, p .2)) (d ∙ feas-refused options rows table s best why (sym (ap (λ (p : FeasAnswer × State × List Float). p .0) d) ∙ h)))
 
-  pub feas-wrong : (why : Refusal) (place : ℕ) → k ≡ At why place → FeasPromised (NotRun why) s best
+  pub feas-faulty : (why : Refusal) (place : ℕ) → k ≡ At why place → FeasPromised (NotRun why) s best
   unfolding feas-answer
-  feas-wrong why place w = feas-promised (NotRun why) s best (refuses _ _ (run-tests rows table s best) (at-first _ (sym w ∙ e)) refl)
+  feas-faulty why place w = feas-promised (NotRun why) s best (refuses _ _ (run-tests rows table s best) (sym w ∙ e) refl)
 
-  pub feas-short : k ≡ Sound → length best < s .ell .ndim → FeasPromised (NotRun Room) s best
-  unfolding feas-answer
-  feas-short w h = feas-promised (NotRun Room) s best (refuses _ _ (run-tests rows table s best) (at-next (sym w ∙ e) (failed (lt-leb (s .ell .ndim) (length best) h))) refl)
-
-  pub feas-done : k ≡ Sound → s .ell .ndim ≤ length best → (r : FeasAnswer) (s′ : State) → (r, s′) ≡ feas-run rows table (options .tolerance) (options .«max_iters») 0 s
+  pub feas-done : k ≡ Sound → (r : FeasAnswer) (s′ : State) → (r, s′) ≡ feas-run rows table (options .tolerance) (options .«max_iters») 0 s
       → (f : Bool) → f ≡ is-found r → (best′ : List Float) → best′ ≡ kept f (s′ .buffers .xc) best → FeasPromised r s′ best′
   unfolding feas-answer
-  feas-done w h r s′ d f g best′ q =
+  feas-done w r s′ d f g best′ q =
       feas-promised r s′ best′
-      (accepts _ _ (run-tests rows table s best) (at-next (sym w ∙ e) (held _ _ (le-leb (s .ell .ndim) (length best) h)))
+      (accepts _ _ (run-tests rows table s best) (sym w ∙ e)
       (ap (λ (l : List Float). (r, s′, l)) (q ∙ ap (λ (t : Bool). kept t (s′ .buffers .xc) best) g)
       ∙ ap (λ (p : FeasAnswer × State). (p .0, p .1, kept (is-found (p .0)) (p .1 .buffers .xc) best)) d))
 
-module _ (options : Options) (rows : ℕ) (table : List Float) (s : OptimState) (k : Fault) (e : k ≡ check-space rows table (plain s)) where
+module _ (options : Options) (rows : ℕ) (table : List Float) (s : OptimState) (k : Fault) (e : k ≡ run-tests rows table (plain s) (s .best)) where
   abbrev OptimPromised : OptimLeft → Type 0
   OptimPromised r = (r ≡ optim-answer options rows table s) × ((why : Refusal) → r .answer ≡ NotRunOptim why → r ≡ leaves (r .answer) s)
 
@@ -55,17 +48,10 @@ module _ (options : Options) (rows : ℕ) (table : List Float) (s : OptimState) 
   optim-promised r d =
       (d, λ why h. d ∙ optim-refused options rows table s why (sym (ap (λ (z : OptimLeft). z .answer) d) ∙ h) ∙ ap (λ (a : OptimAnswer). leaves a s) (sym h))
 
-  abbrev tests : Fault
-  tests = run-tests rows table (plain s) (s .best)
-
-  pub optim-wrong : (why : Refusal) (place : ℕ) → k ≡ At why place → OptimPromised (leaves (NotRunOptim why) s)
+  pub optim-faulty : (why : Refusal) (place : ℕ) → k ≡ At why place → OptimPromised (leaves (NotRunOptim why) s)
   unfolding optim-answer
-  optim-wrong why place w = optim-promised (leaves (NotRunOptim why) s) (refuses _ _ tests (at-first _ (sym w ∙ e)) refl)
+  optim-faulty why place w = optim-promised (leaves (NotRunOptim why) s) (refuses _ _ (run-tests rows table (plain s) (s .best)) (sym w ∙ e) refl)
 
-  pub optim-short : k ≡ Sound → length (s .best) < s .ell .ndim → OptimPromised (leaves (NotRunOptim Room) s)
+  pub optim-done : k ≡ Sound → (r : OptimLeft) → r ≡ optim-run rows table (options .tolerance) (options .«max_iters») 0 s → OptimPromised r
   unfolding optim-answer
-  optim-short w h = optim-promised (leaves (NotRunOptim Room) s) (refuses _ _ tests (at-next (sym w ∙ e) (failed (lt-leb (s .ell .ndim) (length (s .best)) h))) refl)
-
-  pub optim-done : k ≡ Sound → s .ell .ndim ≤ length (s .best) → (r : OptimLeft) → r ≡ optim-run rows table (options .tolerance) (options .«max_iters») 0 s → OptimPromised r
-  unfolding optim-answer
-  optim-done w h r d = optim-promised r (accepts _ _ tests (at-next (sym w ∙ e) (held _ _ (le-leb (s .ell .ndim) (length (s .best)) h))) d)
+  optim-done w r d = optim-promised r (accepts _ _ (run-tests rows table (plain s) (s .best)) (sym w ∙ e) d)

@@ -1,23 +1,22 @@
 -- What the calls of a run show: a step with its text, the last line, a refusal. Assumes nothing.
 use Prim.Native.Nat.{ℕ, suc, _≤_, _<_}
-use mathlib.Core.Path.{_≡_, ap, _∙_}
+use mathlib.Core.Path.{_≡_, sym, ap, _∙_}
 use mathlib.Core.Bool.{Bool, false}
 use mathlib.Core.List.{List, [], _++_}
 use native.Mathlib.Omega.{arith}
-use borrow.Author.Tests.{lt-ltb, le-ltb, le-leb, lt-leb}
+use borrow.Author.Tests.{lt-ltb, le-ltb, leb-true}
 use lib.Dec.{ltb}
 use lib.ListN.{length}
 use lib.Ieee.{Float}
 use Rattle.numbers.specs.Pick.{pick}
 use Rattle.numbers.specs.declared.refusal.Refusal.{Refusal}
-use Rattle.numbers.specs.declared.refusal.Refusal.the-variants.{Room}
 use Rattle.numbers.specs.declared.refusal.Fault.the-variants.{Sound, At}
-use Rattle.numbers.specs.laws.Refusal.{failed, held, at-first, at-next, refuses, accepts}
+use Rattle.numbers.specs.laws.Refusal.{both-sound, ask-sound, refuses, accepts}
 use Rattle.numbers.specs.laws.Pick.{hit, skip}
 use Rattle.oracles.specs.Ell.{EllBuffers}
 use Rattle.drivers.specs.laws.Text.{put-front, put-all}
 use Rattle.drivers.specs.CuttingPlane.{State, check-space, feas-step, goes-on, feas-ended}
-use Rattle.drivers.specs.Trace.{said-pieces, last-pieces, ended-pieces, space-of, run-at, step-printed, limit-printed, not-printed, next-tests, next-answer}
+use Rattle.drivers.specs.Trace.{room, text-room, said-pieces, last-pieces, ended-pieces, space-of, run-at, step-printed, limit-printed, not-printed, next-tests, next-answer}
 use Rattle.drivers.specs.laws.Trace.{last-most, step-pieces}
 use Rattle.drivers.specs.declared.answer.Answer.{Answer}
 use Rattle.drivers.specs.declared.cutting_plane.Said.{Said}
@@ -41,34 +40,32 @@ module _ (run : Run) (table : List Float) (b : EllBuffers) (grad : List Float) (
   shown-refused : (why : Refusal) (q : Printed) → q ≡ record { run = run; more = false; text = Refused why } → (q, b, grad, out) ≡ not-printed run b grad out why
   shown-refused why q e = ap (λ (p : Printed). (p, b, grad, out)) e
 
-  -- `next`, by what the check says
-  pub next-wrong : (why : Refusal) (place : ℕ) (q : Printed) → At why place ≡ check-space (run .rows) table (space-of run b grad)
+  -- `next`, by what the tests say
+  pub next-faulty : (why : Refusal) (place : ℕ) (q : Printed) → At why place ≡ next-tests run table b grad out
       → q ≡ record { run = run; more = false; text = Refused why } → (q, b, grad, out) ≡ next-answer run table b grad out
   unfolding next-answer
-  next-wrong why place q e f = refuses _ _ (next-tests run table b grad out) (at-first _ e) (shown-refused why q f)
+  next-faulty why place q e f = refuses _ _ (next-tests run table b grad out) e (shown-refused why q f)
 
-  module _ (e : Sound ≡ check-space (run .rows) table (space-of run b grad)) where
-    pub next-room : (q : Printed) → length out < 128 → q ≡ record { run = run; more = false; text = Refused Room } → (q, b, grad, out) ≡ next-answer run table b grad out
+  module _ (e : Sound ≡ next-tests run table b grad out) where
+    pub roomy : room ≤ length out
+    roomy = leb-true room (length out) (ask-sound _ _ _ (both-sound (check-space (run .rows) table (space-of run b grad)) (text-room out) (sym e) .1))
+
+    accepted : (p : Printed × EllBuffers × List Float × List ℕ)
+        → p ≡ pick (ltb (run .niter) (run .options .«max_iters»)) (step-printed run table b grad out) (limit-printed run b grad out) → p ≡ next-answer run table b grad out
     unfolding next-answer
-    next-room q h f = refuses _ _ (next-tests run table b grad out) (at-next e (failed (lt-leb 128 (length out) h))) (shown-refused Room q f)
+    accepted p f = accepts _ _ (next-tests run table b grad out) e f
 
-    module _ (h : 128 ≤ length out) where
-      roomy : (p : Printed × EllBuffers × List Float × List ℕ)
-          → p ≡ pick (ltb (run .niter) (run .options .«max_iters»)) (step-printed run table b grad out) (limit-printed run b grad out) → p ≡ next-answer run table b grad out
-      unfolding next-answer
-      roomy p f = accepts _ _ (next-tests run table b grad out) (at-next e (held _ _ (le-leb 128 (length out) h))) f
+    pub next-step : (p : Printed × EllBuffers × List Float × List ℕ) → run .niter < run .options .«max_iters» → p ≡ step-printed run table b grad out
+        → p ≡ next-answer run table b grad out
+    next-step p l f = accepted p (hit _ _ _ _ (lt-ltb (run .niter) (run .options .«max_iters») l) f)
 
-      pub next-step : (p : Printed × EllBuffers × List Float × List ℕ) → run .niter < run .options .«max_iters» → p ≡ step-printed run table b grad out
-          → p ≡ next-answer run table b grad out
-      next-step p l f = roomy p (hit _ _ _ _ (lt-ltb (run .niter) (run .options .«max_iters») l) f)
+    shown-limit : (r : ℕ × List ℕ) → r ≡ put-all out 0 (last-pieces (record { found = false; steps = run .niter }))
+        → (record { run = run; more = false; text = Bytes (r .0) }, b, grad, r .1) ≡ limit-printed run b grad out
+    unfolding limit-printed
+    shown-limit r f =
+        let a : Answer = record { found = false; steps = run .niter } in
+        ap (λ (q : ℕ × List ℕ). (record { run = run; more = false; text = Bytes (q .0) }, b, grad, q .1)) (put-front out (last-pieces a) r (omega (arith, last-most a, roomy)) f)
 
-      shown-limit : (r : ℕ × List ℕ) → r ≡ put-all out 0 (last-pieces (record { found = false; steps = run .niter }))
-          → (record { run = run; more = false; text = Bytes (r .0) }, b, grad, r .1) ≡ limit-printed run b grad out
-      unfolding limit-printed
-      shown-limit r f =
-          let a : Answer = record { found = false; steps = run .niter } in
-          ap (λ (q : ℕ × List ℕ). (record { run = run; more = false; text = Bytes (q .0) }, b, grad, q .1)) (put-front out (last-pieces a) r (omega (arith, last-most a)) f)
-
-      pub next-limit : (r : ℕ × List ℕ) → run .options .«max_iters» ≤ run .niter → r ≡ put-all out 0 (last-pieces (record { found = false; steps = run .niter }))
-          → (record { run = run; more = false; text = Bytes (r .0) }, b, grad, r .1) ≡ next-answer run table b grad out
-      next-limit r l f = roomy _ (skip _ _ _ _ (le-ltb (run .niter) (run .options .«max_iters») l) (shown-limit r f))
+    pub next-limit : (r : ℕ × List ℕ) → run .options .«max_iters» ≤ run .niter → r ≡ put-all out 0 (last-pieces (record { found = false; steps = run .niter }))
+        → (record { run = run; more = false; text = Bytes (r .0) }, b, grad, r .1) ≡ next-answer run table b grad out
+    next-limit r l f = accepted _ (skip _ _ _ _ (le-ltb (run .niter) (run .options .«max_iters») l) (shown-limit r f))

@@ -1,7 +1,7 @@
 -- `drivers::cutting_plane::cutting_plane_optim` meets its contract. Assumes nothing.
 use mathlib.Core.Bool.{false}
 use borrow.Author.Needs.{needs}
-use Rattle.drivers.proofs.cutting_plane.Answers.{optim-wrong, optim-short, optim-done}
+use Rattle.drivers.proofs.cutting_plane.Answers.{optim-faulty, optim-done}
 use Rattle.drivers.proofs.cutting_plane.cutting_plane_optim.Statement.{statement}
 use Rattle.drivers.proofs.cutting_plane.cutting_plane_optim.Tie as tie
 
@@ -9,28 +9,20 @@ returns : tie.Need-returns
 returns c =
     let a = c .before .before .before .before .before .before .before .before .before .before .args in
     let k = c .before .before .before .check in
-    optim-short (a .options) (a .rows) (a .table .now) (record { oracle = a .oracle; ell = a .ell; buffers = record { mq = a .mq .now; xc = a .xc .now; grad-t = a .grad-t .now }; grad = a .grad .now; gamma = a .gamma; found = false; best = a .x-best .now }) (k .result) (k .ensures) (c .before .enum-told .given .1) (c .if1 .taken)
+    let w = c .before .fault .given in
+    optim-faulty (a .options) (a .rows) (a .table .now) (record { oracle = a .oracle; ell = a .ell; buffers = record { mq = a .mq .now; xc = a .xc .now; grad-t = a .grad-t .now }; grad = a .grad .now; gamma = a .gamma; found = false; best = a .x-best .now }) (k .result) (k .ensures) (w .0 .0) (w .0 .1 .0) (w .1)
 
 returns-2 : tie.Need-returns-2
 returns-2 c =
-    let a = c .before .before .before .before .before .before .before .before .before .before .args in
-    let k = c .before .before .before .check in
-    let w = c .before .fault .given in
-    optim-wrong (a .options) (a .rows) (a .table .now) (record { oracle = a .oracle; ell = a .ell; buffers = record { mq = a .mq .now; xc = a .xc .now; grad-t = a .grad-t .now }; grad = a .grad .now; gamma = a .gamma; found = false; best = a .x-best .now }) (k .result) (k .ensures) (w .0 .0) (w .0 .1 .0) (w .1)
-
-returns-3 : tie.Need-returns-3
-returns-3 c =
-    let a = c .before .before .before .before .before .before .before .before .before .before .before .before .before .before .before .before .before .before .before .before .before .before .before .before .before .before .args in
-    let k = c .before .before .before .before .before .before .before .before .before .before .before .before .before .before .before .before .before .before .before .check in
-    optim-done (a .options) (a .rows) (a .table .now) (record { oracle = a .oracle; ell = a .ell; buffers = record { mq = a .mq .now; xc = a .xc .now; grad-t = a .grad-t .now }; grad = a .grad .now; gamma = a .gamma; found = false; best = a .x-best .now }) (k .result) (k .ensures) (c .before .before .before .before .before .before .before .before .before .before .before .before .before .before .before .before .before .enum-told .given .1) (c .before .before .before .before .before .before .before .before .before .before .before .before .before .before .before .before .if1 .left) _ (c .before .before .before .before .before .before .before .before .before .before .run-optim .ensures)
+    let a = c .before .before .before .before .before .before .before .before .before .before .before .before .before .before .before .before .before .before .before .before .before .before .before .before .before .args in
+    let k = c .before .before .before .before .before .before .before .before .before .before .before .before .before .before .before .before .before .before .check in
+    optim-done (a .options) (a .rows) (a .table .now) (record { oracle = a .oracle; ell = a .ell; buffers = record { mq = a .mq .now; xc = a .xc .now; grad-t = a .grad-t .now }; grad = a .grad .now; gamma = a .gamma; found = false; best = a .x-best .now }) (k .result) (k .ensures) (c .before .before .before .before .before .before .before .before .before .before .before .before .before .before .before .before .enum-told .given .1) _ (c .before .before .before .before .before .before .before .before .before .before .run-optim .ensures)
 
 pub cutting-plane-optim-spec : {M : Type 1} → statement M
 cutting-plane-optim-spec =
     tie.close
     (tie.spec
-    (λ c κs. tt) (λ c. search needs) (λ c. search needs)
+    (λ c κs. tt) (λ c. search needs) (λ c. search needs) (λ c κs. tt)
     returns
-    (λ c κs. tt)
-    returns-2
     (λ c. search needs) (λ c. search needs) (λ c. search needs) (λ c. search needs) (λ c. search needs)
-    returns-3)
+    returns-2)
