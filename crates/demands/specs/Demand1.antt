@@ -62,11 +62,11 @@ use Rattle.drivers.specs.Numbered.{feas-number, job-number, read-number, bytes-
 use Rattle.drivers.specs.laws.RunEnds.{run-ends}
 use Rattle.drivers.specs.laws.OptimEnds.{OptimRunEnded, optim-answered}
 use Rattle.drivers.specs.declared.cutting_plane.Options.{Options}
-use Rattle.drivers.specs.declared.cutting_plane.FeasAnswer.{FeasAnswer}
-use Rattle.drivers.specs.declared.cutting_plane.FeasAnswer.the-variants.{Ended}
-use Rattle.drivers.specs.declared.cutting_plane.OptimAnswer.the-variants.{Refused as NotRunOptim}
-use Rattle.drivers.specs.declared.trace.Run.{Run}
-use Rattle.drivers.specs.declared.trace.Printed.{Printed}
+use Rattle.drivers.specs.declared.cutting_plane_feas.FeasAnswer.{FeasAnswer}
+use Rattle.drivers.specs.declared.cutting_plane_feas.FeasAnswer.the-variants.{Ended}
+use Rattle.drivers.specs.declared.cutting_plane_optim.OptimAnswer.the-variants.{Refused as NotRunOptim}
+use Rattle.drivers.specs.declared.run.Run.{Run}
+use Rattle.drivers.specs.declared.run.Printed.{Printed}
 use Rattle.drivers.specs.declared.job.Job.{Job}
 use Rattle.drivers.specs.declared.job.JobAnswer.{JobAnswer}
 use Rattle.drivers.specs.declared.job.JobAnswer.the-variants.{Read as ReadJob, Refused as NoJob}
@@ -292,18 +292,18 @@ pub cutting-plane-feas : (options : Options) (rows : ℕ) (table : List Float) (
 unfolding run.feas-answer
 cutting-plane-feas options rows table s best =
     refuses _ _ _ _ _ _ (λ why place. refl) (λ why place. refl)
-    (λ e. ap feas-number (run-ends rows table (options .tolerance) (options .«max_iters») 0 s (both-sound (run.check-space rows table s) _ e .0) .answer-is))
+    (λ e. ap feas-number (run-ends rows table (options .tolerance) (options .«max_iters») 0 s (both-sound (run.check-state rows table s) _ e .0) .answer-is))
 
 -- `cutting_plane_optim`: a refusal gives everything back ..
 module _ (options : Options) (rows : ℕ) (table : List Float) (s : run.OptimState) where
-  pub optim-refused-by : (why : Refusal) (place : ℕ) → run.run-tests rows table (run.plain s) (s .best) ≡ At why place → run.optim-answer options rows table s ≡ run.leaves (NotRunOptim why) s
+  pub optim-refused-by : (why : Refusal) (place : ℕ) → run.run-tests rows table (run.plain s) (s .best) ≡ At why place → run.optim-answer options rows table s ≡ run.end-of (NotRunOptim why) s
   unfolding run.optim-answer
-  optim-refused-by why place e = ap (λ (f : Fault). unless f (λ w p. run.leaves (NotRunOptim w) s) (run.optim-run rows table (options .tolerance) (options .«max_iters») 0 s)) e
+  optim-refused-by why place e = ap (λ (f : Fault). unless f (λ w p. run.end-of (NotRunOptim w) s) (run.optim-run rows table (options .tolerance) (options .«max_iters») 0 s)) e
 
   -- .. and what is accepted ends, or is halted by 6: "a driver halted midway keeps its finished steps", which are `until` steps from s to `final`
   pub optim-finishes : run.run-tests rows table (run.plain s) (s .best) ≡ Sound → OptimRunEnded rows table s 0 (options .«max_iters») 0 (run.optim-answer options rows table s)
   optim-finishes e =
-      let b = both-sound (run.check-space rows table (run.plain s)) _ e in
+      let b = both-sound (run.check-state rows table (run.plain s)) _ e in
       optim-answered options rows table s (b .0) (leb-true _ _ (ask-sound _ _ _ (b .1)))
 
 pub next : (r : Run) (table : List Float) (b : ell.EllBuffers) (grad : List Float) (out : List ℕ)
@@ -357,16 +357,16 @@ read-done bytes table xc mq = let f = jobs.full-job bytes in (ReadJob (f .job), 
 
 -- `open` tests the input's length, then what `read_job` tests: the slices stay, and `out` has the line that says so, or is as it was where it is too short for a line
 pub open-refused : (bytes : List ℕ) (table xc mq : List Float) (out : List ℕ) (why : Refusal) (place : ℕ) → (trace.input-tests bytes ⨾ jobs.read-job-tests bytes table xc mq) ≡ At why place
-    → trace.open-answer bytes table xc mq out ≡ trace.with-slices table xc mq (trace.opened-over (trace.refused-line-answer why place out))
+    → trace.open-answer bytes table xc mq out ≡ trace.with-slices table xc mq (trace.opened-refused (trace.refused-line-answer why place out))
 unfolding trace.open-answer jobs.read-job-answer
 open-refused bytes table xc mq out why place = go (trace.input-tests bytes) (jobs.read-job-tests bytes table xc mq)
   where
     go : (f g : Fault) → (f ⨾ g) ≡ At why place
-        → unless f (λ w p. trace.with-slices table xc mq (trace.opened-over (trace.refused-line-answer w p out)))
+        → unless f (λ w p. trace.with-slices table xc mq (trace.opened-refused (trace.refused-line-answer w p out)))
         (let r = unless g (λ w p. (NoJob w p, table, xc, mq)) (read-done bytes table xc mq) in trace.with-slices (r .1) (r .2) (r .3) (trace.opened-read out (r .0)))
-        ≡ trace.with-slices table xc mq (trace.opened-over (trace.refused-line-answer why place out))
+        ≡ trace.with-slices table xc mq (trace.opened-refused (trace.refused-line-answer why place out))
     go Sound g e = ap (λ (k : Fault). let r = unless k (λ w p. (NoJob w p, table, xc, mq)) (read-done bytes table xc mq) in trace.with-slices (r .1) (r .2) (r .3) (trace.opened-read out (r .0))) (sym (is-skip _ _ _ refl) ∙ e)
-    go (At w p) g e = ap (λ (k : Fault). unless k (λ w p. trace.with-slices table xc mq (trace.opened-over (trace.refused-line-answer w p out))) (trace.with-slices table xc mq (trace.opened-over (trace.refused-line-answer why place out)))) (sym (is-hit _ _ _ refl) ∙ e)
+    go (At w p) g e = ap (λ (k : Fault). unless k (λ w p. trace.with-slices table xc mq (trace.opened-refused (trace.refused-line-answer w p out))) (trace.with-slices table xc mq (trace.opened-refused (trace.refused-line-answer why place out)))) (sym (is-hit _ _ _ refl) ∙ e)
 
 -- "each accepted call finishes": a run of either driver, within its step limit
 pub record Finishes (limit : ℕ) (said : FeasAnswer) : Type 0 where
@@ -378,7 +378,7 @@ pub feas-finishes : (options : Options) (rows : ℕ) (table : List Float) (s : r
     → Finishes (options .«max_iters») (run.feas-answer options rows table s best .0)
 unfolding run.feas-answer
 feas-finishes options rows table s best e =
-    let r = run-ends rows table (options .tolerance) (options .«max_iters») 0 s (both-sound (run.check-space rows table s) _ e .0) in
+    let r = run-ends rows table (options .tolerance) (options .«max_iters») 0 s (both-sound (run.check-state rows table s) _ e .0) in
     rw e (record { answer = r .answer; answer-is = r .answer-is; within = omega (arith, r .steps-within) })
 
 pub optim-numbers : (options : Options) (rows : ℕ) (table : List Float) (s : run.OptimState) → run.run-tests rows table (run.plain s) (s .best) ≡ Sound

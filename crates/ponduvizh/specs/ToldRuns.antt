@@ -11,15 +11,17 @@ use Rattle.oracles.specs.declared.ell.Ell.{Ell}
 use Rattle.oracles.specs.declared.ell.NewEll.{NewEll}
 use Rattle.oracles.specs.declared.ell.NewEll.the-variants.{Made, Refused as NotMade}
 use Rattle.oracles.specs.declared.lowpass_oracle.LowpassOracle.{LowpassOracle}
-use Rattle.drivers.specs.CuttingPlane.{State, OptimLeft, feas-answer, optim-answer}
+use Rattle.drivers.specs.CuttingPlane.{State}
+use Rattle.drivers.specs.CuttingPlaneOptim.{OptimEnd, optim-answer}
+use Rattle.drivers.specs.CuttingPlaneFeas.{feas-answer}
 use Rattle.drivers.specs.Numbered.{feas-number, optim-number, job-number}
 use Rattle.drivers.specs.Job.{job-oracle}
 use Rattle.drivers.specs.declared.answer.Answer.{Answer}
 use Rattle.drivers.specs.declared.cutting_plane.Options.{Options}
-use Rattle.drivers.specs.declared.cutting_plane.FeasAnswer.{FeasAnswer}
-use Rattle.drivers.specs.declared.cutting_plane.FeasAnswer.the-variants.{Ended, Refused as NotRun}
-use Rattle.drivers.specs.declared.cutting_plane.OptimAnswer.{OptimAnswer}
-use Rattle.drivers.specs.declared.cutting_plane.OptimAnswer.the-variants.{Ended as EndedOptim, Halted, Refused as NotRunOptim}
+use Rattle.drivers.specs.declared.cutting_plane_feas.FeasAnswer.{FeasAnswer}
+use Rattle.drivers.specs.declared.cutting_plane_feas.FeasAnswer.the-variants.{Ended, Refused as NotRun}
+use Rattle.drivers.specs.declared.cutting_plane_optim.OptimAnswer.{OptimAnswer}
+use Rattle.drivers.specs.declared.cutting_plane_optim.OptimAnswer.the-variants.{Ended as EndedOptim, Halted, Refused as NotRunOptim}
 use Rattle.drivers.specs.declared.job.Job.{Job}
 use Rattle.drivers.specs.declared.job.JobAnswer.{JobAnswer}
 use Rattle.drivers.specs.declared.job.JobAnswer.the-variants.{Read, Refused as NotRead}
@@ -77,8 +79,8 @@ unfoldable pub feas-left : FeasAnswer × State × List Float → RunNumbers → 
 feas-left r old = run-left (feas-number (r .0)) (feas-said (r .0) (r .1 .oracle) (r .1 .ell) old) (r .1) (r .2)
 
 -- with gamma
-unfoldable pub optim-left-told : OptimLeft → RunNumbers → RunLeft × Float
-optim-left-told r old = (run-left (optim-number (r .answer)) (optim-said (r .answer) (r .space .oracle) (r .space .ell) old) (r .space) (r .best), r .gamma)
+unfoldable pub optim-left-told : OptimEnd → RunNumbers → RunLeft × Float
+optim-left-told r old = (run-left (optim-number (r .answer)) (optim-said (r .answer) (r .state .oracle) (r .state .ell) old) (r .state) (r .best), r .gamma)
 
 -- the ellipsoid of n and kappa is made first; refusal 1 where it cannot be
 unfoldable pub feas-told : NewEll → LowpassOracle → Options → ℕ → List Float → RunLeft → RunLeft

@@ -1,11 +1,11 @@
 // The drivers. `answer` becomes found, the steps and the oracle's more_alt; `marks` the cursors of pass, middle and stop, idx1 to idx3 and kmax; `values` sp_sq, fmax, kappa and tsq. A refused run leaves them as they were; one halted by 6 does not.
 use crate::numeric::code;
 use drivers::answer::Answer;
-use drivers::cutting_plane::FeasAnswer;
-use drivers::cutting_plane::OptimAnswer;
 use drivers::cutting_plane::Options;
-use drivers::cutting_plane::cutting_plane_feas;
-use drivers::cutting_plane::cutting_plane_optim;
+use drivers::cutting_plane_feas::FeasAnswer;
+use drivers::cutting_plane_feas::cutting_plane_feas;
+use drivers::cutting_plane_optim::OptimAnswer;
+use drivers::cutting_plane_optim::cutting_plane_optim;
 use oracles::ell::Ell;
 use oracles::ell::NewEll;
 use oracles::lowpass_oracle::LowpassOracle;
@@ -14,7 +14,8 @@ ghost use lib.Dec.{eqb};
 ghost use lib.Ieee.{Float};
 ghost use Rattle.oracles.specs.LowpassOracle.{start-oracle};
 ghost use Rattle.oracles.specs.Ell.{new-ell-answer};
-ghost use Rattle.drivers.specs.CuttingPlane.{feas-answer, optim-answer};
+ghost use Rattle.drivers.specs.CuttingPlaneFeas.{feas-answer};
+ghost use Rattle.drivers.specs.CuttingPlaneOptim.{optim-answer};
 ghost use mathlib.Core.Bool.{false};
 ghost use Rattle.ponduvizh.specs.ToldRuns.{RunLeft, marks-of, values-of, flag-of, answer-of, numbers-after, feas-said, optim-said, feas-left, feas-told, optim-left-told, optim-told};
 

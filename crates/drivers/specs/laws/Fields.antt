@@ -23,7 +23,7 @@ use Rattle.numbers.specs.declared.refusal.Fault.the-variants.{Sound, At}
 use Rattle.drivers.specs.declared.rules.Form.{Form}
 use Rattle.drivers.specs.Text.{joined}
 use Rattle.drivers.specs.laws.Text.{joined-append}
-use Rattle.drivers.specs.Record.{tag-at, length-at, index-at, overruns, after, content-of, number-at, numbers-at, fields-of, is-met, noted, field-fault, walk-of, missing-fault, record-fault, lengths-fault, row-count, rows-of}
+use Rattle.drivers.specs.Record.{byte-at, length-at, index-at, overruns, after, content-of, number-at, numbers-at, fields-of, is-met, noted, field-fault, walk-of, missing-fault, record-fault, lengths-fault, row-count, rows-of}
 use Rattle.drivers.specs.laws.Record.{fields-after, fields-start, fields-turn, fields-end}
 use Rattle.drivers.specs.Fields.{Field, header, field-bytes, record-bytes, number-bytes}
 use Rattle.drivers.specs.Rules.{rules, rule-at, is-of, repeats, index-of, rule-length, row-place}
@@ -77,7 +77,7 @@ numbers-read bytes p xs rest h e =
 -- ---- a field that stands in a record, with `rest` behind it
 
 pub record Stands (bytes : List ℕ) (at : ℕ) (f : Field) (rest : List ℕ) : Type 0 where
-  pub tag-is : tag-at bytes at ≡ f .0
+  pub tag-is : byte-at bytes at ≡ f .0
   pub length-is : length-at bytes at ≡ length (f .1)
   pub whole : at + (3 + length (f .1)) ≤ length bytes
   pub content-is : drop (at + 3) bytes ≡ f .1 ++ rest

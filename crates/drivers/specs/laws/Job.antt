@@ -19,8 +19,8 @@ use Rattle.oracles.specs.Scan.{none, is-rows}
 use Rattle.oracles.specs.LowpassOracle.{start-oracle, has-band, bands-fit, cursors-fit}
 use Rattle.oracles.specs.laws.Start.{start-before}
 use Rattle.oracles.specs.declared.lowpass_oracle.LowpassOracle.{LowpassOracle}
-use Rattle.drivers.specs.Record.{length-at, start-of, half-at, fields-of, lengths-fault, place}
-use Rattle.drivers.specs.Job.{row-end, job-oracle, job-at, job-walk, size-fault, job-fault}
+use Rattle.drivers.specs.Record.{size-fault, length-at, start-of, half-at, fields-of, lengths-fault, place}
+use Rattle.drivers.specs.Job.{row-end, job-oracle, job-at, job-walk, job-fault}
 use Rattle.drivers.specs.declared.job.Job.{Job}
 use Rattle.drivers.specs.Rules.{rule-length, bands-place, cursors-place, n-place}
 

@@ -13,14 +13,16 @@ use Rattle.oracles.specs.declared.ell.Ell.{Ell}
 use Rattle.oracles.specs.declared.ell.NewEll.{NewEll}
 use Rattle.oracles.specs.declared.ell.NewEll.the-variants.{Made, Refused as NotMade}
 use Rattle.oracles.specs.declared.lowpass_oracle.LowpassOracle.{LowpassOracle}
-use Rattle.drivers.specs.CuttingPlane.{State, OptimLeft, feas-answer, optim-answer, optim-left}
+use Rattle.drivers.specs.CuttingPlane.{State}
+use Rattle.drivers.specs.CuttingPlaneOptim.{OptimEnd, optim-answer, optim-left}
+use Rattle.drivers.specs.CuttingPlaneFeas.{feas-answer}
 use Rattle.drivers.specs.Numbered.{feas-number, optim-number}
 use Rattle.drivers.specs.declared.cutting_plane.Options.{Options}
 use Rattle.drivers.specs.declared.answer.Answer.{Answer}
-use Rattle.drivers.specs.declared.cutting_plane.FeasAnswer.{FeasAnswer}
-use Rattle.drivers.specs.declared.cutting_plane.FeasAnswer.the-variants.{Ended, Refused}
-use Rattle.drivers.specs.declared.cutting_plane.OptimAnswer.{OptimAnswer}
-use Rattle.drivers.specs.declared.cutting_plane.OptimAnswer.the-variants.{Ended as EndedOptim, Halted, Refused as RefusedOptim}
+use Rattle.drivers.specs.declared.cutting_plane_feas.FeasAnswer.{FeasAnswer}
+use Rattle.drivers.specs.declared.cutting_plane_feas.FeasAnswer.the-variants.{Ended, Refused}
+use Rattle.drivers.specs.declared.cutting_plane_optim.OptimAnswer.{OptimAnswer}
+use Rattle.drivers.specs.declared.cutting_plane_optim.OptimAnswer.the-variants.{Ended as EndedOptim, Halted, Refused as RefusedOptim}
 use Rattle.ponduvizh.specs.ToldRuns.{RunNumbers, RunLeft, coded, answer-of, marks-of, values-of, numbers-after, feas-said, optim-said, feas-left, optim-left-told, feas-told, optim-told}
 use Rattle.ponduvizh.specs.laws.ToldRefused.{feas-told-refused, optim-told-refused}
 
@@ -40,7 +42,7 @@ pub feas-law : (a : FeasAnswer) (o : LowpassOracle) (e : Ell) (b : EllBuffers) (
 unfolding feas-left
 feas-law a o e b grad best code now old r d h t = rw (← d, h, t) refl
 
-pub optim-law : (a : OptimAnswer) (o : LowpassOracle) (e : Ell) (gamma : Float) (b : EllBuffers) (grad best : List Float) (code : ℕ) (now old : RunNumbers) (r : OptimLeft)
+pub optim-law : (a : OptimAnswer) (o : LowpassOracle) (e : Ell) (gamma : Float) (b : EllBuffers) (grad best : List Float) (code : ℕ) (now old : RunNumbers) (r : OptimEnd)
     → optim-left a o e gamma b grad best ≡ r
     → code ≡ optim-number a
     → now ≡ optim-said a o e old

@@ -9,14 +9,16 @@ use Rattle.numbers.specs.declared.refusal.Refusal.{Refusal}
 use Rattle.oracles.specs.declared.ell.NewEll.{NewEll}
 use Rattle.oracles.specs.declared.ell.NewEll.the-variants.{Made, Refused as NotMade}
 use Rattle.oracles.specs.declared.lowpass_oracle.LowpassOracle.{LowpassOracle}
-use Rattle.drivers.specs.CuttingPlane.{State, OptimState, OptimLeft, leaves, feas-answer, optim-answer}
+use Rattle.drivers.specs.CuttingPlane.{State}
+use Rattle.drivers.specs.CuttingPlaneOptim.{OptimState, OptimEnd, end-of, optim-answer}
+use Rattle.drivers.specs.CuttingPlaneFeas.{feas-answer}
 use Rattle.drivers.specs.Numbered.{optim-number}
 use Rattle.drivers.specs.laws.Refused.{feas-refused, optim-refused}
 use Rattle.drivers.specs.declared.cutting_plane.Options.{Options}
-use Rattle.drivers.specs.declared.cutting_plane.FeasAnswer.{FeasAnswer}
-use Rattle.drivers.specs.declared.cutting_plane.FeasAnswer.the-variants.{Ended, Refused as NotRun}
-use Rattle.drivers.specs.declared.cutting_plane.OptimAnswer.{OptimAnswer}
-use Rattle.drivers.specs.declared.cutting_plane.OptimAnswer.the-variants.{Ended as EndedOptim, Halted, Refused as NotRunOptim}
+use Rattle.drivers.specs.declared.cutting_plane_feas.FeasAnswer.{FeasAnswer}
+use Rattle.drivers.specs.declared.cutting_plane_feas.FeasAnswer.the-variants.{Ended, Refused as NotRun}
+use Rattle.drivers.specs.declared.cutting_plane_optim.OptimAnswer.{OptimAnswer}
+use Rattle.drivers.specs.declared.cutting_plane_optim.OptimAnswer.the-variants.{Ended as EndedOptim, Halted, Refused as NotRunOptim}
 use Rattle.ponduvizh.specs.ToldRuns.{RunLeft, coded, feas-left, feas-told, optim-left-told, optim-told}
 
 -- a number that is not 0: the slices and what a run tells are as they were
@@ -44,7 +46,7 @@ optim-told-refused (Made e) o options rows table gamma l = go (optim-answer opti
     s : OptimState
     s = record { oracle = o; ell = e; buffers = l .buffers; grad = l .grad; gamma = gamma; found = false; best = l .best }
 
-    go : (a : OptimAnswer) (r : OptimLeft) → r .answer ≡ a → ((why : Refusal) → r .answer ≡ NotRunOptim why → r ≡ leaves (NotRunOptim why) s)
+    go : (a : OptimAnswer) (r : OptimEnd) → r .answer ≡ a → ((why : Refusal) → r .answer ≡ NotRunOptim why → r ≡ end-of (NotRunOptim why) s)
         → let t = optim-left-told r (l .numbers) in eqb (t .0 .code) 0 ≡ false → eqb (t .0 .code) 6 ≡ false → t ≡ (coded (t .0 .code) l, gamma)
     go (EndedOptim d) r e f h h′ = absurd (true≢false (sym (ap (λ (a : OptimAnswer). eqb (optim-number a) 0) e) ∙ h))
     go (Halted d) r e f h h′ = absurd (true≢false (sym (ap (λ (a : OptimAnswer). eqb (optim-number a) 6) e) ∙ h′))

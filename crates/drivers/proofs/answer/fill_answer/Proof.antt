@@ -20,10 +20,10 @@ use Rattle.drivers.proofs.answer.fill_answer.Tie as tie
 use Rattle.numbers.specs.laws.Over.{over-none, over-front}
 
 module _ (n : ℕ) (bytes places : List ℕ) (point : List Float) (h : ℕ) (e : h ≡ half-at bytes (place places steps-place)) where
-  abbrev Right : Answer → List Float → Type 0
-  Right a out = (a ≡ answer-at bytes places) × (out ≡ fronted (point-at n bytes places) point)
+  abbrev Agrees : Answer → List Float → Type 0
+  Agrees a out = (a ≡ answer-at bytes places) × (out ≡ fronted (point-at n bytes places) point)
 
-  none : place places found-place ≡ 0 → Right (record { found = false; steps = h }) point
+  none : place places found-place ≡ 0 → Agrees (record { found = false; steps = h }) point
   none z =
       let p : has-point places ≡ false = ap not (eq-eqb (place places found-place) 0 z) in
       let q : point-at n bytes places ≡ [] = is-skip (has-point places) (numbers-at bytes (place places found-place) n) [] p in
@@ -31,7 +31,7 @@ module _ (n : ℕ) (bytes places : List ℕ) (point : List Float) (h : ℕ) (e :
 
   -- the part xs has been filled
   found : (place places found-place ≡ 0 → ⊥) → (xs : List Float) → xs ≡ numbers-at bytes (place places found-place) (length (take n point)) → n ≤ length point
-      → Right (record { found = true; steps = h }) (xs ++ drop n point)
+      → Agrees (record { found = true; steps = h }) (xs ++ drop n point)
   found z xs q l =
       let p : has-point places ≡ true = ap not (ne-eqb (place places found-place) 0 z) in
       let w : length (take n point) ≡ n = length-take-le n point l in

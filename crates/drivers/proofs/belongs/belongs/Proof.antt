@@ -7,7 +7,7 @@ use borrow.Author.Needs.{needs}
 use Rattle.oracles.specs.LowpassOracle.{assess-feas-answer}
 use Rattle.oracles.specs.declared.lowpass_oracle.LowpassOracle.{LowpassOracle}
 use Rattle.oracles.specs.declared.lowpass_oracle.Assessed.{Assessed}
-use Rattle.drivers.specs.laws.Belongs.{no-dimension, no-length, belongs-said, said-by}
+use Rattle.drivers.specs.laws.Belongs.{no-dimension, no-length, belongs-by, belonging-of}
 use Rattle.drivers.proofs.belongs.belongs.Statement.{statement}
 use Rattle.drivers.proofs.belongs.belongs.Tie as tie
 use Rattle.numbers.specs.laws.Pick.{hit, skip, says-no, says-yes}
@@ -30,8 +30,8 @@ returns-3 c =
     let oc = c .before .before .before .before .before .before .before .before .before in
     let a = c .before .before .before .before .before .before .before .before .before .before .before .before .before .before .args in
     let t = c .before .before .before .before .before .if3 .taken in
-    belongs-said (a .job) (a .table .now) (a .x .now) (a .answer) (a .point .now) (a .grad .now) (says-yes _ _ refl (c .before .before .before .before .before .before .if2 .left)) _ (hit _ _ _ _ t refl)
-    (f .result) _ (by-oracle _ _ _ _ _ _ _ (oc .oracle .ensures) (f .ensures .0)) _ (c .said-by .ensures ∙ ap (said-by (f .result .verdict)) (sym t))
+    belongs-by (a .job) (a .table .now) (a .x .now) (a .answer) (a .point .now) (a .grad .now) (says-yes _ _ refl (c .before .before .before .before .before .before .if2 .left)) _ (hit _ _ _ _ t refl)
+    (f .result) _ (by-oracle _ _ _ _ _ _ _ (oc .oracle .ensures) (f .ensures .0)) _ (c .belonging-of .ensures ∙ ap (belonging-of (f .result .verdict)) (sym t))
 
 returns-4 : tie.Need-returns-4
 returns-4 c =
@@ -39,8 +39,8 @@ returns-4 c =
     let oc = c .before .before .before .before .before .before .before .before .before in
     let a = c .before .before .before .before .before .before .before .before .before .before .before .before .before .before .args in
     let t = c .before .before .before .before .before .if3 .left in
-    belongs-said (a .job) (a .table .now) (a .x .now) (a .answer) (a .point .now) (a .grad .now) (says-yes _ _ refl (c .before .before .before .before .before .before .if2 .left)) _ (skip _ _ _ _ t refl)
-    (f .result) _ (by-oracle _ _ _ _ _ _ _ (oc .oracle .ensures) (f .ensures .0)) _ (c .said-by2 .ensures ∙ ap (said-by (f .result .verdict)) (sym t))
+    belongs-by (a .job) (a .table .now) (a .x .now) (a .answer) (a .point .now) (a .grad .now) (says-yes _ _ refl (c .before .before .before .before .before .before .if2 .left)) _ (skip _ _ _ _ t refl)
+    (f .result) _ (by-oracle _ _ _ _ _ _ _ (oc .oracle .ensures) (f .ensures .0)) _ (c .belonging-of2 .ensures ∙ ap (belonging-of (f .result .verdict)) (sym t))
 
 pub belongs-spec : {M : Type 1} → statement M
 belongs-spec =

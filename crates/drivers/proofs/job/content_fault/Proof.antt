@@ -8,8 +8,8 @@ use Rattle.numbers.specs.Refusal.{is-fault, _⨾_}
 use Rattle.numbers.specs.laws.Refusal.{stops, passes}
 use Rattle.numbers.specs.declared.refusal.Fault.{Fault}
 use Rattle.drivers.specs.Rules.{n-place}
-use Rattle.drivers.specs.Record.{fields-of, half-at, lengths-fault, place}
-use Rattle.drivers.specs.Job.{job-at, size-fault}
+use Rattle.drivers.specs.Record.{size-fault, fields-of, half-at, lengths-fault, place}
+use Rattle.drivers.specs.Job.{job-at}
 use Rattle.drivers.specs.laws.Job.{oracle-fault, content-fault, size-small}
 use Rattle.drivers.specs.declared.job.Job.{Job}
 use Rattle.drivers.proofs.job.content_fault.Statement.{statement}

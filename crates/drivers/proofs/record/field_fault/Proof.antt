@@ -68,7 +68,7 @@ returns-2 c =
     let ra = io .before in
     let ri = ra .before in
     let ta = ri .before in
-    foreign _ _ _ _ (ta .before .if1 .left) _ (ri .rule-index .ensures ∙ ap index-of (ta .tag-at .ensures)) _ (ra .rule-at .ensures) _ (io .is-of .ensures) (c .if2 .taken)
+    foreign _ _ _ _ (ta .before .if1 .left) _ (ri .rule-index .ensures ∙ ap index-of (ta .byte-at .ensures)) _ (ra .rule-at .ensures) _ (io .is-of .ensures) (c .if2 .taken)
 
 element-copy-out-if3 : tie.Need-element-copy-out-if3
 element-copy-out-if3 c =
@@ -76,7 +76,7 @@ element-copy-out-if3 c =
     let ra = io .before in
     let ri = ra .before in
     let ta = ri .before in
-    listed _ _ _ _ (ri .rule-index .ensures ∙ ap index-of (ta .tag-at .ensures)) _ (ra .rule-at .ensures) _ (io .is-of .ensures) (c .if2 .left)
+    listed _ _ _ _ (ri .rule-index .ensures ∙ ap index-of (ta .byte-at .ensures)) _ (ra .rule-at .ensures) _ (io .is-of .ensures) (c .if2 .left)
 
 returns-3 : tie.Need-returns-3
 returns-3 c =
@@ -85,7 +85,7 @@ returns-3 c =
     let ra = io .before in
     let ri = ra .before in
     let ta = ri .before in
-    again _ _ _ _ (ta .before .if1 .left) _ (ri .rule-index .ensures ∙ ap index-of (ta .tag-at .ensures)) _ (ra .rule-at .ensures) _ (io .is-of .ensures) (test2 .if2 .left) (c .if3 .taken)
+    again _ _ _ _ (ta .before .if1 .left) _ (ri .rule-index .ensures ∙ ap index-of (ta .byte-at .ensures)) _ (ra .rule-at .ensures) _ (io .is-of .ensures) (test2 .if2 .left) (c .if3 .taken)
 
 returns-4 : tie.Need-returns-4
 returns-4 c =
@@ -96,7 +96,7 @@ returns-4 c =
     let ra = io .before in
     let ri = ra .before in
     let ta = ri .before in
-    no-content _ _ _ _ (ta .before .if1 .left) _ (ri .rule-index .ensures ∙ ap index-of (ta .tag-at .ensures)) _ (ra .rule-at .ensures) _ (io .is-of .ensures) (test2 .if2 .left)
+    no-content _ _ _ _ (ta .before .if1 .left) _ (ri .rule-index .ensures ∙ ap index-of (ta .byte-at .ensures)) _ (ra .rule-at .ensures) _ (io .is-of .ensures) (test2 .if2 .left)
     (test3 .if3 .left) _ (la .length-at .ensures) (c .if4 .taken)
 
 returns-5 : tie.Need-returns-5
@@ -108,7 +108,7 @@ returns-5 c =
     let ra = io .before in
     let ri = ra .before in
     let ta = ri .before in
-    sound _ _ _ _ (ta .before .if1 .left) _ (ri .rule-index .ensures ∙ ap index-of (ta .tag-at .ensures)) _ (ra .rule-at .ensures) _ (io .is-of .ensures) (test2 .if2 .left)
+    sound _ _ _ _ (ta .before .if1 .left) _ (ri .rule-index .ensures ∙ ap index-of (ta .byte-at .ensures)) _ (ra .rule-at .ensures) _ (io .is-of .ensures) (test2 .if2 .left)
     (test3 .if3 .left) _ (la .length-at .ensures) (c .if4 .left)
 
 pub field-fault-spec : {M : Type 1} → statement M

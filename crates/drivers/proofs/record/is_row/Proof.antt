@@ -12,4 +12,4 @@ is-row-spec =
     tie.close
     (tie.spec
     (λ c κs. search needs) (λ c κs. search needs)
-    (λ c. ap (λ (i : ℕ). eqb i row-place) (c .rule-index .ensures ∙ ap index-of (c .before .tag-at .ensures))))
+    (λ c. ap (λ (i : ℕ). eqb i row-place) (c .rule-index .ensures ∙ ap index-of (c .before .byte-at .ensures))))

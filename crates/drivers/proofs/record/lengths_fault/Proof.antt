@@ -49,7 +49,7 @@ returns c =
     let in-loop = ta .before in
     let l = in-loop .before in
     let s = l .before .before in
-    let i = ri .rule-index .ensures ∙ ap index-of (ta .tag-at .ensures) in
+    let i = ri .rule-index .ensures ∙ ap index-of (ta .byte-at .ensures) in
     stops _ _ _ _ (l .loop .inv) (in-loop .loop-test .taken) _ _ (la .length-at .ensures) (rl .rule-length .ensures ∙ ap (λ (z : ℕ). rule-length z (s .args .n)) i) (c .if1 .taken)
 
 loop-less : tie.Need-loop-less Inv-loop μ-loop
@@ -67,7 +67,7 @@ loop-again c =
     let in-loop = ta .before in
     let l = in-loop .before in
     let s = l .before .before in
-    let i = ri .rule-index .ensures ∙ ap index-of (ta .tag-at .ensures) in
+    let i = ri .rule-index .ensures ∙ ap index-of (ta .byte-at .ensures) in
     goes-on _ _ _ _ (l .loop .inv) (in-loop .loop-test .taken) _ _ (la .length-at .ensures) (rl .rule-length .ensures ∙ ap (λ (z : ℕ). rule-length z (s .args .n)) i) (test1 .if1 .left) _ (c .next-field .ensures)
 
 pub lengths-fault-spec : {M : Type 1} → statement M

@@ -74,7 +74,7 @@ element-copy-out-first-place c =
     let ff = asked1 .before in
     let in-loop = ff .before .before in
     listed _ _ _ _ _ (in-loop .loop-test .taken) (ff .field-fault .ensures) _ (in-loop .before .loop .inv) (sym (asked1 .is-fault .ensures) ∙ test1 .if1 .left) _
-    (c .rule-index .ensures ∙ ap index-of (ta .tag-at .ensures))
+    (c .rule-index .ensures ∙ ap index-of (ta .byte-at .ensures))
 
 loop-less : tie.Need-loop-less Inv-loop μ-loop
 loop-less c =
@@ -92,7 +92,7 @@ loop-again c =
     let ff = asked1 .before in
     let in-loop = ff .before .before in
     goes-on _ _ _ _ _ (in-loop .loop-test .taken) (ff .field-fault .ensures) _ (in-loop .before .loop .inv) (sym (asked1 .is-fault .ensures) ∙ test1 .if1 .left) _ _ _ _
-    (ri .rule-index .ensures ∙ ap index-of (ta .tag-at .ensures)) (ca .content-at .ensures) (fp .first-place .ensures) (c .next-field .ensures)
+    (ri .rule-index .ensures ∙ ap index-of (ta .byte-at .ensures)) (ca .content-at .ensures) (fp .first-place .ensures) (c .next-field .ensures)
 
 pub walk-spec : {M : Type 1} → statement M
 walk-spec =

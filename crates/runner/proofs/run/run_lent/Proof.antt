@@ -9,10 +9,10 @@ use lib.Ieee.{Float}
 use Rattle.numbers.specs.F64.{0ᶠ}
 use Rattle.drivers.specs.Program.{program-text}
 use Rattle.drivers.specs.laws.Program.{program-prints, run-all-prints, open-held, calls-text}
-use Rattle.drivers.specs.Trace.{open-answer}
-use Rattle.drivers.specs.declared.trace.Run.{Run}
-use Rattle.drivers.specs.declared.trace.Opened.{Opened}
-use Rattle.drivers.specs.declared.trace.Opened.the-variants.{Going}
+use Rattle.drivers.specs.Run.{open-answer}
+use Rattle.drivers.specs.declared.run.Run.{Run}
+use Rattle.drivers.specs.declared.run.Opened.{Opened}
+use Rattle.drivers.specs.declared.run.Opened.the-variants.{Started}
 use Rattle.drivers.specs.laws.Calls.{run-all-text}
 use Rattle.runner.specs.Mark.{marked}
 use Rattle.runner.proofs.run.run_lent.Statement.{statement}
@@ -31,7 +31,7 @@ as-known {table = table} {xc = xc} {mq = mq} {out = out} e h = sym e ∙ ap (λ 
 
 -- the run that `open` gives, over scratch of zeros, prints the program's text
 module _ (bytes : List ℕ) (table xc mq : List Float) (out : List ℕ) (t : length table ≡ 32768) (x : length xc ≡ 32) (m : length mq ≡ 1024) (room : 128 ≤ length out) where
-  run-prints : (run : Run) (table′ xc′ mq′ grad grad-t : List Float) (out′ : List ℕ) → open-answer bytes table xc mq out ≡ (Going run, table′, xc′, mq′, out′)
+  run-prints : (run : Run) (table′ xc′ mq′ grad grad-t : List Float) (out′ : List ℕ) → open-answer bytes table xc mq out ≡ (Started run, table′, xc′, mq′, out′)
       → length xc′ ≡ 32 → grad ≡ replicate 32 0ᶠ → grad-t ≡ replicate 32 0ᶠ
       → let n = run .ell .ndim in
       run-all-text run (take (run .rows * n) table′) (record { mq = take (n * n) mq′; xc = take n xc′; grad-t = take n grad-t }) (take n grad) out′ ≡ program-text bytes

@@ -7,7 +7,7 @@ use borrow.Author.Needs.{needs}
 use lib.ListN.{take}
 use lib.Seq.{length-take-le}
 use lib.Ieee.{Float}
-use Rattle.drivers.specs.declared.trace.Run.{Run}
+use Rattle.drivers.specs.declared.run.Run.{Run}
 use Rattle.drivers.specs.laws.Calls.{run-all-text}
 use Rattle.runner.specs.Mark.{marked}
 use Rattle.runner.proofs.run.run_sized.Statement.{statement}
