@@ -41,7 +41,7 @@ run-fits n rows table mq xc grad grad-t = eqb table (rows * n) && eqb xc n && eq
 unfoldable pub check-of : LowpassOracle → ℕ → ℕ → ℕ → ℕ → ℕ → ℕ → ℕ → Fault
 check-of o n rows table mq xc grad grad-t = oracle-tests o n rows (run-fits n rows table mq xc grad grad-t)
 
--- of a space over a table of so many rows
+-- of a state over a table of so many rows
 abbrev pub check-state : ℕ → List Float → State → Fault
 check-state rows table s =
     check-of (s .oracle) (s .ell .ndim) rows (length table) (length (s .buffers .mq)) (length (s .buffers .xc)) (length (s .grad)) (length (s .buffers .grad-t))

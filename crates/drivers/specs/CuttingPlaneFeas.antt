@@ -53,7 +53,7 @@ feas-ended Feasible k = Ended (record { found = true; steps = k })
 feas-ended (Cut group beta status) k = Ended (record { found = false; steps = k })
 feas-ended (Refused why) k = NotRun why
 
--- the steps k, k + 1, .. of a run of which so many are left, and the space that they leave; without one, none is found at k
+-- the steps k, k + 1, .. of a run of which so many are left, and the state that they leave; without one, none is found at k
 unfoldable pub feas-run : ℕ → List Float → Float → ℕ → ℕ → State → FeasAnswer × State
 feas-run rows table tolerance zero k s = (Ended (record { found = false; steps = k }), s)
 feas-run rows table tolerance (suc left) k s =
@@ -64,7 +64,7 @@ abbrev pub is-found : FeasAnswer → Bool
 is-found (Ended a) = a .found
 is-found (NotRun why) = false
 
--- `cutting_plane_feas`: the answer, the space, and x_best, which has the point if one is found
+-- `cutting_plane_feas`: the answer, the state, and x_best, which has the point if one is found
 unfoldable pub feas-answer : Options → ℕ → List Float → State → List Float → FeasAnswer × State × List Float
 feas-answer options rows table s best =
     let r = feas-run rows table (options .tolerance) (options .«max_iters») 0 s in

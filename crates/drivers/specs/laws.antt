@@ -9,6 +9,7 @@ pub mod Untouched
 pub mod OptimSound
 pub mod Trace
 pub mod Calls
+pub mod OneField
 pub mod Fields
 pub mod RoundTrip
 pub mod RunEnds

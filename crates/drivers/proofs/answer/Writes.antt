@@ -18,7 +18,7 @@ use Rattle.numbers.specs.declared.refusal.Fault.the-variants.{Sound}
 use Rattle.drivers.specs.Text.{joined}
 use Rattle.drivers.specs.laws.Text.{put-then, put-one, put-front, put, put-all}
 use Rattle.drivers.specs.Fields.{Field, field-bytes, record-bytes, number-bytes}
-use Rattle.drivers.specs.laws.Fields.{length-numbers}
+use Rattle.drivers.specs.laws.OneField.{length-numbers}
 use Rattle.drivers.specs.Answer.{outcome-byte, outcome-field, steps-field, point-field, answer-fields, answer-bytes, write-answer-tests, write-answer-answer}
 use Rattle.drivers.specs.declared.answer.Answer.{Answer}
 use Rattle.drivers.specs.declared.answer.AnswerWritten.the-variants.{Bytes, Refused}

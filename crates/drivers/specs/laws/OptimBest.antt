@@ -58,7 +58,7 @@ tighter o offer gamma n rows table x row e h =
 
 -- ---- between the steps
 
--- the space after so many steps
+-- the state after so many steps
 unfoldable pub after-steps : ℕ → List Float → ℕ → OptimState → OptimState
 after-steps rows table zero s = s
 after-steps rows table (suc i) s = optim-step rows table (after-steps rows table i s) .1

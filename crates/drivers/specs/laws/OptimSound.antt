@@ -1,4 +1,4 @@
--- A step of `cutting_plane_optim` from a space that passes the tests of a run is refused by 6 or not at all, and the space that it leaves passes them again. Assumes nothing.
+-- A step of `cutting_plane_optim` from a state that passes the tests of a run is refused by 6 or not at all, and the state that it leaves passes them again. Assumes nothing.
 use Prim.Native.Nat.{ℕ}
 use mathlib.Core.Path.{_≡_, refl, sym, ap, _∙_}
 use mathlib.Core.Bool.{Bool, true, false, _&&_, true≢false}
@@ -69,7 +69,7 @@ pub record Passes (s s′ : OptimState) : Type 0 where
   pub found-stays : s′ .found ≡ s .found
   pub best-stays : s′ .best ≡ s .best
 
--- a step from a space that is right
+-- a step from a state that is sound
 pub record OptimStepped (rows : ℕ) (table : List Float) (s : OptimState) (r : Update × OptimState) : Type 0 where
   pub halts : (why : Refusal) → r .0 ≡ NotUpdated why → Halts rows table s (r .1) why
   pub halted-is : is-halted (r .0) ≡ (is-feasible (judge (offer-asked rows table s)) && no-stop-value (offer-asked rows table s))

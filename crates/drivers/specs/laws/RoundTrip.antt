@@ -26,7 +26,8 @@ use Rattle.drivers.specs.Record.{byte-at, half-at, numbers-at, no-places
 use Rattle.drivers.specs.Fields.{Field, record-bytes}
 use Rattle.drivers.specs.Answer.{has-point, outcome-byte, answer-at, point-at, answer-walk, outcome-fault, answer-fault, read-answer-answer, outcome-field, steps-field, point-field, answer-bytes, write-answer-tests, write-answer-answer}
 use Rattle.drivers.specs.laws.Answer.{room-there}
-use Rattle.drivers.specs.laws.Fields.{AllF64, length-numbers, numbers-read, Writable, Each, Sized, size-row, sizes-sound, walk-tags, record-written, lengths-written, content-written}
+use Rattle.drivers.specs.laws.OneField.{AllF64, length-numbers, numbers-read, Writable, size-row}
+use Rattle.drivers.specs.laws.Fields.{Each, Sized, sizes-sound, walk-tags, record-written, lengths-written, content-written}
 use Rattle.drivers.specs.declared.answer.Answer.{Answer}
 use Rattle.drivers.specs.declared.answer.AnswerRead.the-variants.{Read}
 use Rattle.drivers.specs.declared.answer.AnswerWritten.{AnswerWritten}

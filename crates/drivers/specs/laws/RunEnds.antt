@@ -17,7 +17,7 @@ use Rattle.drivers.specs.declared.cutting_plane_feas.FeasAnswer.{FeasAns
 use Rattle.drivers.specs.declared.cutting_plane_feas.FeasAnswer.the-variants.{Ended}
 use Rattle.numbers.specs.laws.Pick.{by-test}
 
--- whether the centre of a space is feasible
+-- whether the centre of a state is feasible
 abbrev pub centre-feasible : ℕ → List Float → State → Bool
 centre-feasible rows table s = is-feasible (judge (centre-asked rows table s))
 

@@ -1,4 +1,4 @@
--- A step from a space that passes the tests of a run is not refused, and the space that it leaves passes them again. Assumes nothing.
+-- A step from a state that passes the tests of a run is not refused, and the state that it leaves passes them again. Assumes nothing.
 use Prim.Native.Nat.{ℕ, _*_}
 use mathlib.Core.Path.{_≡_, refl, sym, ap, _∙_}
 use mathlib.Core.Bool.{Bool, true, false, true≢false}
@@ -30,7 +30,7 @@ use Rattle.numbers.specs.declared.refusal.Fault.the-variants.{Sound}
 use Rattle.drivers.specs.declared.cutting_plane_feas.StepAnswer.{StepAnswer}
 use Rattle.drivers.specs.declared.cutting_plane_feas.StepAnswer.the-variants.{Feasible, Cut, Refused}
 
--- ---- the tests of a space
+-- ---- the tests of a state
 
 -- what they ask for: n in its range, the lengths that n and the rows say, legal bands and cursors
 pub record Fitting (n rows : ℕ) (table : List Float) (s : State) : Type 0 where
@@ -47,7 +47,7 @@ module _ (rows : ℕ) (table : List Float) (s : State) where
   abbrev state-fits : ℕ → Bool
   state-fits n = run-fits n rows (length table) (length (s .buffers .mq)) (length (s .buffers .xc)) (length (s .grad)) (length (s .buffers .grad-t))
 
-  -- a space that is right has it, and one that has it is right
+  -- a state that is sound has it, and one that has it is sound
   pub sound-fits : check-state rows table s ≡ Sound → Fitting (s .ell .ndim) rows table s
   unfolding check-of
   sound-fits e =
@@ -113,7 +113,7 @@ says-refused Feasible = false
 says-refused (Cut group beta status) = false
 says-refused (Refused why) = true
 
--- a step from a space that is right: it is not refused, it says whether the centre is feasible, it leaves a feasible centre unchanged, and the space that it leaves is right again
+-- a step from a state that is sound: it is not refused, it says whether the centre is feasible, it leaves a feasible centre unchanged, and the state that it leaves is right again
 pub record Stepped (rows : ℕ) (table : List Float) (s : State) (r : StepAnswer × State) : Type 0 where
   pub not-refused : says-refused (r .0) ≡ false
   pub verdict-is : says-feasible (r .0) ≡ is-feasible (judge (centre-asked rows table s))

@@ -91,22 +91,6 @@ pub run-optim-spec : {M : Type 1} → statement M
 run-optim-spec =
     tie.close
     (tie.spec
-    Inv-loop
-    μ-loop
-    loop-holds
-    (λ c κs. tt) (λ c κs. tt) (λ c κs. tt)
-    same-length
-    same-length-2
-    same-length-3
-    same-length-4
-    same-length-5
-    returns
-    add-niter
-    loop-less
-    loop-again
-    (λ c. c .before .before .loop .inv .2)
-    (λ c. c .before .before .loop .inv .3)
-    (λ c. c .before .before .loop .inv .4)
-    (λ c. c .before .before .loop .inv .5)
-    (λ c. c .before .before .loop .inv .6)
-    returns-2)
+    Inv-loop μ-loop loop-holds (λ c κs. tt) (λ c κs. tt) (λ c κs. tt) same-length same-length-2 same-length-3 same-length-4 same-length-5 returns
+    add-niter loop-less loop-again (λ c. c .before .before .loop .inv .2) (λ c. c .before .before .loop .inv .3) (λ c. c .before .before .loop .inv .4)
+    (λ c. c .before .before .loop .inv .5) (λ c. c .before .before .loop .inv .6) returns-2)

@@ -2,7 +2,7 @@
 use borrow.Author.Needs.{needs}
 use Rattle.drivers.specs.laws.Text.{put-then}
 use Rattle.drivers.specs.Fields.{number-bytes}
-use Rattle.drivers.specs.laws.Fields.{length-numbers}
+use Rattle.drivers.specs.laws.OneField.{length-numbers}
 use Rattle.drivers.proofs.fields.Puts.{no-room, in-pieces, field-long, numbers-field}
 use Rattle.drivers.proofs.fields.put_numbers_field.Statement.{statement}
 use Rattle.drivers.proofs.fields.put_numbers_field.Tie as tie
