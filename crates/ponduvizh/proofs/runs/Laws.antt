@@ -14,7 +14,7 @@ use Rattle.oracles.specs.declared.ell.NewEll.{NewEll}
 use Rattle.oracles.specs.declared.ell.NewEll.the-variants.{Made, Refused as NotMade}
 use Rattle.oracles.specs.declared.lowpass_oracle.LowpassOracle.{LowpassOracle}
 use Rattle.drivers.specs.CuttingPlane.{State}
-use Rattle.drivers.specs.CuttingPlaneOptim.{OptimEnd, optim-answer, optim-left}
+use Rattle.drivers.specs.CuttingPlaneOptim.{OptimEnd, optim-end, optim-answer}
 use Rattle.drivers.specs.CuttingPlaneFeas.{feas-answer}
 use Rattle.drivers.specs.Numbered.{feas-number, optim-number}
 use Rattle.drivers.specs.declared.cutting_plane.Options.{Options}
@@ -43,7 +43,7 @@ unfolding feas-left
 feas-law a o e b grad best code now old r d h t = rw (← d, h, t) refl
 
 pub optim-law : (a : OptimAnswer) (o : LowpassOracle) (e : Ell) (gamma : Float) (b : EllBuffers) (grad best : List Float) (code : ℕ) (now old : RunNumbers) (r : OptimEnd)
-    → optim-left a o e gamma b grad best ≡ r
+    → optim-end a o e gamma (b .mq) (b .xc) grad (b .grad-t) best ≡ r
     → code ≡ optim-number a
     → now ≡ optim-said a o e old
     → _≡_ {A = RunLeft × Float} (record { code = code; numbers = now; buffers = b; grad = grad; best = best }, gamma) (optim-left-told r old)
