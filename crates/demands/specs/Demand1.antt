@@ -52,7 +52,10 @@ use Rattle.numbers.specs.declared.refusal.Fault.the-variants.{Sound, At}
 use Rattle.oracles.specs.declared.lowpass_oracle.OptimVerdict.{OptimVerdict}
 use Rattle.oracles.specs.declared.lowpass_oracle.OptimVerdict.the-variants.{Improved, Cut as CutOptim, Refused as NotOptim}
 use Rattle.drivers.specs.CuttingPlane as run
+use Rattle.drivers.specs.CuttingPlaneFeas as feas
+use Rattle.drivers.specs.CuttingPlaneOptim as optim
 use Rattle.drivers.specs.Trace as trace
+use Rattle.drivers.specs.Run as runs
 use Rattle.drivers.specs.Record.{fronted}
 use Rattle.drivers.specs.Job as jobs
 use Rattle.drivers.specs.Answer as answers
@@ -62,11 +65,11 @@ use Rattle.drivers.specs.Numbered.{feas-number, job-number, read-number, bytes-
 use Rattle.drivers.specs.laws.RunEnds.{run-ends}
 use Rattle.drivers.specs.laws.OptimEnds.{OptimRunEnded, optim-answered}
 use Rattle.drivers.specs.declared.cutting_plane.Options.{Options}
-use Rattle.drivers.specs.declared.cutting_plane.FeasAnswer.{FeasAnswer}
-use Rattle.drivers.specs.declared.cutting_plane.FeasAnswer.the-variants.{Ended}
-use Rattle.drivers.specs.declared.cutting_plane.OptimAnswer.the-variants.{Refused as NotRunOptim}
-use Rattle.drivers.specs.declared.trace.Run.{Run}
-use Rattle.drivers.specs.declared.trace.Printed.{Printed}
+use Rattle.drivers.specs.declared.cutting_plane_feas.FeasAnswer.{FeasAnswer}
+use Rattle.drivers.specs.declared.cutting_plane_feas.FeasAnswer.the-variants.{Ended}
+use Rattle.drivers.specs.declared.cutting_plane_optim.OptimAnswer.the-variants.{Refused as NotRunOptim}
+use Rattle.drivers.specs.declared.run.Run.{Run}
+use Rattle.drivers.specs.declared.run.Printed.{Printed}
 use Rattle.drivers.specs.declared.job.Job.{Job}
 use Rattle.drivers.specs.declared.job.JobAnswer.{JobAnswer}
 use Rattle.drivers.specs.declared.job.JobAnswer.the-variants.{Read as ReadJob, Refused as NoJob}
@@ -288,28 +291,28 @@ module _ (o : LowpassOracle) (gamma : Float) (n rows : ℕ) (table x grad : List
 -- ---- drivers and records
 
 pub cutting-plane-feas : (options : Options) (rows : ℕ) (table : List Float) (s : run.State) (best : List Float)
-    → Refuses {L = run.State × List Float} (run.run-tests rows table s best) (λ r. feas-number (r .0)) (λ r. (r .1, r .2)) (s, best) (run.feas-answer options rows table s best)
-unfolding run.feas-answer
+    → Refuses {L = run.State × List Float} (run.run-tests rows table s best) (λ r. feas-number (r .0)) (λ r. (r .1, r .2)) (s, best) (feas.feas-answer options rows table s best)
+unfolding feas.feas-answer
 cutting-plane-feas options rows table s best =
     refuses _ _ _ _ _ _ (λ why place. refl) (λ why place. refl)
-    (λ e. ap feas-number (run-ends rows table (options .tolerance) (options .«max_iters») 0 s (both-sound (run.check-space rows table s) _ e .0) .answer-is))
+    (λ e. ap feas-number (run-ends rows table (options .tolerance) (options .«max_iters») 0 s (both-sound (run.check-state rows table s) _ e .0) .answer-is))
 
 -- `cutting_plane_optim`: a refusal gives everything back ..
-module _ (options : Options) (rows : ℕ) (table : List Float) (s : run.OptimState) where
-  pub optim-refused-by : (why : Refusal) (place : ℕ) → run.run-tests rows table (run.plain s) (s .best) ≡ At why place → run.optim-answer options rows table s ≡ run.leaves (NotRunOptim why) s
-  unfolding run.optim-answer
-  optim-refused-by why place e = ap (λ (f : Fault). unless f (λ w p. run.leaves (NotRunOptim w) s) (run.optim-run rows table (options .tolerance) (options .«max_iters») 0 s)) e
+module _ (options : Options) (rows : ℕ) (table : List Float) (s : optim.OptimState) where
+  pub optim-refused-by : (why : Refusal) (place : ℕ) → run.run-tests rows table (optim.plain s) (s .best) ≡ At why place → optim.optim-answer options rows table s ≡ optim.end-of (NotRunOptim why) s
+  unfolding optim.optim-answer
+  optim-refused-by why place e = ap (λ (f : Fault). unless f (λ w p. optim.end-of (NotRunOptim w) s) (optim.optim-run rows table (options .tolerance) (options .«max_iters») 0 s)) e
 
   -- .. and what is accepted ends, or is halted by 6: "a driver halted midway keeps its finished steps", which are `until` steps from s to `final`
-  pub optim-finishes : run.run-tests rows table (run.plain s) (s .best) ≡ Sound → OptimRunEnded rows table s 0 (options .«max_iters») 0 (run.optim-answer options rows table s)
+  pub optim-finishes : run.run-tests rows table (optim.plain s) (s .best) ≡ Sound → OptimRunEnded rows table s 0 (options .«max_iters») 0 (optim.optim-answer options rows table s)
   optim-finishes e =
-      let b = both-sound (run.check-space rows table (run.plain s)) _ e in
+      let b = both-sound (run.check-state rows table (optim.plain s)) _ e in
       optim-answered options rows table s (b .0) (leb-true _ _ (ask-sound _ _ _ (b .1)))
 
 pub next : (r : Run) (table : List Float) (b : ell.EllBuffers) (grad : List Float) (out : List ℕ)
-    → Refuses {L = Run × ell.EllBuffers × List Float × List ℕ} (trace.next-tests r table b grad out) (λ z. text-number (z .0 .text)) (λ z. (z .0 .run, z .1, z .2, z .3)) (r, b, grad, out)
-    (trace.next-answer r table b grad out)
-unfolding trace.next-answer trace.step-printed trace.limit-printed
+    → Refuses {L = Run × ell.EllBuffers × List Float × List ℕ} (runs.next-tests r table b grad out) (λ z. text-number (z .0 .text)) (λ z. (z .0 .run, z .1, z .2, z .3)) (r, b, grad, out)
+    (runs.next-answer r table b grad out)
+unfolding runs.next-answer runs.step-printed runs.limit-printed
 next r table b grad out =
     refuses _ _ _ _ _ _ (λ why place. refl) (λ why place. refl) (λ e. by-test (λ (z : Printed × ell.EllBuffers × List Float × List ℕ). text-number (z .0 .text) ≡ 0) _ _ _ (λ t. refl) (λ t. refl))
 
@@ -347,7 +350,7 @@ unfolding answers.write-answer-answer
 write-answer n a point out = refuses _ _ _ _ _ _ (λ why place. refl) (λ why place. refl) (λ e. refl)
 
 -- "a bad or overlong record": all that the program prints then is one line, with the number and the place of the first fault
-pub program : (bytes : List ℕ) (why : Refusal) (place : ℕ) → (trace.input-tests bytes ⨾ jobs.job-fault bytes) ≡ At why place → filterrun.program-text bytes ≡ filterrun.refused-text why place
+pub program : (bytes : List ℕ) (why : Refusal) (place : ℕ) → (runs.input-tests bytes ⨾ jobs.job-fault bytes) ≡ At why place → filterrun.program-text bytes ≡ filterrun.refused-text why place
 unfolding filterrun.program-text
 program bytes why place e = sym (refused-at _ _ _ (sym e) refl)
 
@@ -356,17 +359,17 @@ abbrev pub read-done : List ℕ → List Float → List Float → List Float →
 read-done bytes table xc mq = let f = jobs.full-job bytes in (ReadJob (f .job), fronted (f .table) table, fronted (f .point) xc, fronted (f .matrix) mq)
 
 -- `open` tests the input's length, then what `read_job` tests: the slices stay, and `out` has the line that says so, or is as it was where it is too short for a line
-pub open-refused : (bytes : List ℕ) (table xc mq : List Float) (out : List ℕ) (why : Refusal) (place : ℕ) → (trace.input-tests bytes ⨾ jobs.read-job-tests bytes table xc mq) ≡ At why place
-    → trace.open-answer bytes table xc mq out ≡ trace.with-slices table xc mq (trace.opened-over (trace.refused-line-answer why place out))
-unfolding trace.open-answer jobs.read-job-answer
-open-refused bytes table xc mq out why place = go (trace.input-tests bytes) (jobs.read-job-tests bytes table xc mq)
+pub open-refused : (bytes : List ℕ) (table xc mq : List Float) (out : List ℕ) (why : Refusal) (place : ℕ) → (runs.input-tests bytes ⨾ jobs.read-job-tests bytes table xc mq) ≡ At why place
+    → runs.open-answer bytes table xc mq out ≡ runs.with-slices table xc mq (runs.opened-refused (trace.refused-line-answer why place out))
+unfolding runs.open-answer jobs.read-job-answer
+open-refused bytes table xc mq out why place = go (runs.input-tests bytes) (jobs.read-job-tests bytes table xc mq)
   where
     go : (f g : Fault) → (f ⨾ g) ≡ At why place
-        → unless f (λ w p. trace.with-slices table xc mq (trace.opened-over (trace.refused-line-answer w p out)))
-        (let r = unless g (λ w p. (NoJob w p, table, xc, mq)) (read-done bytes table xc mq) in trace.with-slices (r .1) (r .2) (r .3) (trace.opened-read out (r .0)))
-        ≡ trace.with-slices table xc mq (trace.opened-over (trace.refused-line-answer why place out))
-    go Sound g e = ap (λ (k : Fault). let r = unless k (λ w p. (NoJob w p, table, xc, mq)) (read-done bytes table xc mq) in trace.with-slices (r .1) (r .2) (r .3) (trace.opened-read out (r .0))) (sym (is-skip _ _ _ refl) ∙ e)
-    go (At w p) g e = ap (λ (k : Fault). unless k (λ w p. trace.with-slices table xc mq (trace.opened-over (trace.refused-line-answer w p out))) (trace.with-slices table xc mq (trace.opened-over (trace.refused-line-answer why place out)))) (sym (is-hit _ _ _ refl) ∙ e)
+        → unless f (λ w p. runs.with-slices table xc mq (runs.opened-refused (trace.refused-line-answer w p out)))
+        (let r = unless g (λ w p. (NoJob w p, table, xc, mq)) (read-done bytes table xc mq) in runs.with-slices (r .1) (r .2) (r .3) (runs.opened-read out (r .0)))
+        ≡ runs.with-slices table xc mq (runs.opened-refused (trace.refused-line-answer why place out))
+    go Sound g e = ap (λ (k : Fault). let r = unless k (λ w p. (NoJob w p, table, xc, mq)) (read-done bytes table xc mq) in runs.with-slices (r .1) (r .2) (r .3) (runs.opened-read out (r .0))) (sym (is-skip _ _ _ refl) ∙ e)
+    go (At w p) g e = ap (λ (k : Fault). unless k (λ w p. runs.with-slices table xc mq (runs.opened-refused (trace.refused-line-answer w p out))) (runs.with-slices table xc mq (runs.opened-refused (trace.refused-line-answer why place out)))) (sym (is-hit _ _ _ refl) ∙ e)
 
 -- "each accepted call finishes": a run of either driver, within its step limit
 pub record Finishes (limit : ℕ) (said : FeasAnswer) : Type 0 where
@@ -375,12 +378,12 @@ pub record Finishes (limit : ℕ) (said : FeasAnswer) : Type 0 where
   pub within : answer .steps ≤ limit
 
 pub feas-finishes : (options : Options) (rows : ℕ) (table : List Float) (s : run.State) (best : List Float) → run.run-tests rows table s best ≡ Sound
-    → Finishes (options .«max_iters») (run.feas-answer options rows table s best .0)
-unfolding run.feas-answer
+    → Finishes (options .«max_iters») (feas.feas-answer options rows table s best .0)
+unfolding feas.feas-answer
 feas-finishes options rows table s best e =
-    let r = run-ends rows table (options .tolerance) (options .«max_iters») 0 s (both-sound (run.check-space rows table s) _ e .0) in
+    let r = run-ends rows table (options .tolerance) (options .«max_iters») 0 s (both-sound (run.check-state rows table s) _ e .0) in
     rw e (record { answer = r .answer; answer-is = r .answer-is; within = omega (arith, r .steps-within) })
 
-pub optim-numbers : (options : Options) (rows : ℕ) (table : List Float) (s : run.OptimState) → run.run-tests rows table (run.plain s) (s .best) ≡ Sound
-    → (optim-number (run.optim-answer options rows table s .answer) ≡ 0) ⊎ (optim-number (run.optim-answer options rows table s .answer) ≡ 6)
+pub optim-numbers : (options : Options) (rows : ℕ) (table : List Float) (s : optim.OptimState) → run.run-tests rows table (optim.plain s) (s .best) ≡ Sound
+    → (optim-number (optim.optim-answer options rows table s .answer) ≡ 0) ⊎ (optim-number (optim.optim-answer options rows table s .answer) ≡ 6)
 optim-numbers options rows table s e = elim (optim-finishes options rows table s e .outcome) [ inl o ↦ inl (o .1) | inr o ↦ inr (o .1) ]

@@ -19,7 +19,7 @@ use Rattle.drivers.specs.Record.{fronted}
 use Rattle.drivers.specs.Answer.{read-answer-answer, write-answer-answer}
 use Rattle.drivers.specs.Program.{program-text}
 use Rattle.drivers.specs.laws.RoundTrip as again
-use Rattle.drivers.specs.laws.Fields.{AllF64}
+use Rattle.drivers.specs.laws.OneField.{AllF64}
 use Rattle.drivers.specs.laws.Worked as worked-example
 use Rattle.drivers.specs.declared.answer.Answer.{Answer}
 use Rattle.drivers.specs.declared.answer.AnswerRead.the-variants.{Read}

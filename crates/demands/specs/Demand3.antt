@@ -52,7 +52,7 @@ RowBreaks q (Refused why) = Unit {0}
 
 -- "It is feasible exactly when no pass row's rounded dot product lies outside its two limits, no stop row's above its limit or below zero, no middle row's below zero, and the first
 -- coefficient isn't below zero" .. "Otherwise the verdict is the first broken group, in that order, and the cut's row, if any, is one of that group's and breaks it."
-pub record Right (q : Question) (v : Verdict) : Type 0 where
+pub record Agrees (q : Question) (v : Verdict) : Type 0 where
   pub feasible-only : judgement v ≡ feasible → Unbroken q
   pub feasible-if : Unbroken q → judgement v ≡ feasible
   pub otherwise : First q (judgement v)
@@ -111,8 +111,8 @@ row-of q (Cut (Middle row) beta) e =
 row-of q (Cut Sign beta) e = e
 row-of q (Refused why) e = tt
 
-right-of : (q : Question) (v : Verdict) → judgement v ≡ judge q → cut-breaks q v ≡ true → Right q v
-right-of q v e c = record {
+agrees : (q : Question) (v : Verdict) → judgement v ≡ judge q → cut-breaks q v ≡ true → Agrees q v
+agrees q v e c = record {
   feasible-only = λ h. judge-feasible q (sym e ∙ h);
   feasible-if = λ u. e ∙ unbroken-feasible q u;
   otherwise = rw e (judge-first q);
@@ -145,27 +145,27 @@ pub nan-sign : (q : Question) → isNan (getD (q .x) 0 nan) ≡ true → sign-br
 nan-sign q h = nan-above (getD (q .x) 0 nan) 0ᶠ h
 
 module _ (o : LowpassOracle) (n rows : ℕ) (table x grad : List Float) (a : Accepts o n rows table x grad) where
-  abbrev feas-said : Verdict
-  feas-said = assess-feas-answer o n rows table x grad .0 .verdict
+  abbrev feas-verdict : Verdict
+  feas-verdict = assess-feas-answer o n rows table x grad .0 .verdict
 
   -- `assess_feas`: the sp_sq stored in the oracle is asked about
-  pub feas-right : Right (asked o (o .«sp_sq») n rows table x) feas-said
-  feas-right = let r = feas-rule o n rows table x grad a in right-of _ _ (r .verdict-is) (r .cut-is)
+  pub feas-agrees : Agrees (asked o (o .«sp_sq») n rows table x) feas-verdict
+  feas-agrees = let r = feas-rule o n rows table x grad a in agrees _ _ (r .verdict-is) (r .cut-is)
 
   -- "A feasible point's largest stop value, minus infinity where no stop row compares, is one number .. and the row reported with it, if any, has that value."
-  pub feas-largest : judgement feas-said ≡ feasible
+  pub feas-largest : judgement feas-verdict ≡ feasible
       → let left = assess-feas-answer o n rows table x grad .0 .oracle in Peak (asked o (o .«sp_sq») n rows table x) (left .fmax) (left .kmax)
   feas-largest h = let r = feas-rule o n rows table x grad a in r .peak (sym (r .verdict-is) ∙ h)
 
   -- `assess_optim`: the offered one; refusal 6 counts as feasible, and comes exactly where no stop row of a feasible point compares
   module _ (gamma : Float) where
-    abbrev optim-said : Verdict
-    optim-said = as-feas (assess-optim-answer o gamma n rows table x grad .0 .verdict)
+    abbrev optim-verdict : Verdict
+    optim-verdict = as-feas (assess-optim-answer o gamma n rows table x grad .0 .verdict)
 
-    pub optim-right : Right (asked o gamma n rows table x) optim-said
-    optim-right = let r = optim-rule o gamma n rows table x grad a in right-of _ _ (r .verdict-is) (r .cut-is)
+    pub optim-agrees : Agrees (asked o gamma n rows table x) optim-verdict
+    optim-agrees = let r = optim-rule o gamma n rows table x grad a in agrees _ _ (r .verdict-is) (r .cut-is)
 
-    pub optim-largest : judgement optim-said ≡ feasible → is-six (assess-optim-answer o gamma n rows table x grad .0 .verdict) ≡ false
+    pub optim-largest : judgement optim-verdict ≡ feasible → is-six (assess-optim-answer o gamma n rows table x grad .0 .verdict) ≡ false
         → let left = assess-optim-answer o gamma n rows table x grad .0 .oracle in Has (asked o gamma n rows table x) (left .fmax) (left .kmax)
     optim-largest h s = let r = optim-rule o gamma n rows table x grad a in r .peak s (sym (r .verdict-is) ∙ h)
 
@@ -176,28 +176,28 @@ module _ (o : LowpassOracle) (n rows : ℕ) (table x grad : List Float) (a : Acc
 -- two oracles of equal bands and limits, and no more of them
 
 module _ (o o′ : LowpassOracle) (n rows : ℕ) (table x grad grad′ : List Float) (a : Accepts o n rows table x grad) (a′ : Accepts o′ n rows table x grad′) where
-  pub one-verdict : limits o ≡ limits o′ → judgement (feas-said o n rows table x grad a) ≡ judgement (feas-said o′ n rows table x grad′ a′)
+  pub one-verdict : limits o ≡ limits o′ → judgement (feas-verdict o n rows table x grad a) ≡ judgement (feas-verdict o′ n rows table x grad′ a′)
   one-verdict e = same-verdict o o′ n rows table x grad grad′ e a a′
 
   -- "A feasible point's largest stop value is one number whatever the start, both zeros equal"
-  pub one-value : limits o ≡ limits o′ → judgement (feas-said o n rows table x grad a) ≡ feasible
+  pub one-value : limits o ≡ limits o′ → judgement (feas-verdict o n rows table x grad a) ≡ feasible
       → eq (assess-feas-answer o n rows table x grad .0 .oracle .fmax) (assess-feas-answer o′ n rows table x grad′ .0 .oracle .fmax) ≡ true
   one-value e h = same-peak o o′ n rows table x grad grad′ e a a′ h
 
   -- the same of `assess_optim`, whatever sp_sq is stored
   module _ (gamma : Float) (e : limits (offered o gamma) ≡ limits (offered o′ gamma)) where
-    pub one-optim-verdict : judgement (optim-said o n rows table x grad a gamma) ≡ judgement (optim-said o′ n rows table x grad′ a′ gamma)
+    pub one-optim-verdict : judgement (optim-verdict o n rows table x grad a gamma) ≡ judgement (optim-verdict o′ n rows table x grad′ a′ gamma)
     one-optim-verdict = same-optim o o′ n rows table x grad grad′ gamma e a a′ .0
 
     -- 6 comes from both or from neither
     pub one-six : is-six (assess-optim-answer o gamma n rows table x grad .0 .verdict) ≡ is-six (assess-optim-answer o′ gamma n rows table x grad′ .0 .verdict)
     one-six = same-optim o o′ n rows table x grad grad′ gamma e a a′ .1
 
-    pub one-optim-value : judgement (optim-said o n rows table x grad a gamma) ≡ feasible → is-six (assess-optim-answer o gamma n rows table x grad .0 .verdict) ≡ false
+    pub one-optim-value : judgement (optim-verdict o n rows table x grad a gamma) ≡ feasible → is-six (assess-optim-answer o gamma n rows table x grad .0 .verdict) ≡ false
         → eq (assess-optim-answer o gamma n rows table x grad .0 .oracle .fmax) (assess-optim-answer o′ gamma n rows table x grad′ .0 .oracle .fmax) ≡ true
     one-optim-value h s = same-optim-peak o o′ n rows table x grad grad′ gamma e a a′ h s .0
 
     -- and so is the caller's number
-    pub one-offer : judgement (optim-said o n rows table x grad a gamma) ≡ feasible → is-six (assess-optim-answer o gamma n rows table x grad .0 .verdict) ≡ false
+    pub one-offer : judgement (optim-verdict o n rows table x grad a gamma) ≡ feasible → is-six (assess-optim-answer o gamma n rows table x grad .0 .verdict) ≡ false
         → eq (assess-optim-answer o gamma n rows table x grad .0 .gamma) (assess-optim-answer o′ gamma n rows table x grad′ .0 .gamma) ≡ true
     one-offer h s = same-optim-peak o o′ n rows table x grad grad′ gamma e a a′ h s .1

@@ -1,4 +1,2 @@
-mod Answers
 mod Checks
-mod Runs
-mod Steps
+pub mod Left

@@ -11,7 +11,7 @@ use Rattle.numbers.specs.Arr.{is-dimension, sized}
 use Rattle.numbers.specs.declared.refusal.Refusal.the-variants.{Dimension, Room, Outcome}
 use Rattle.numbers.specs.Refusal.{_⨾_, unless, ask, ask-at}
 use Rattle.drivers.specs.Fields.{Field, record-bytes, number-bytes}
-use Rattle.drivers.specs.Record.{tag-at, start-of, half-at, numbers-at, fields-of, no-places, place, is-met, record-fault, lengths-fault, fronted}
+use Rattle.drivers.specs.Record.{byte-at, start-of, half-at, numbers-at, fields-of, no-places, place, is-met, record-fault, lengths-fault, fronted}
 use Rattle.numbers.specs.declared.refusal.Fault.{Fault}
 use Rattle.numbers.specs.Over.{over}
 use Rattle.drivers.specs.declared.answer.Answer.{Answer}
@@ -19,7 +19,7 @@ use Rattle.drivers.specs.declared.answer.AnswerRead.{AnswerRead}
 use Rattle.drivers.specs.declared.answer.AnswerRead.the-variants.{Read, Refused}
 use Rattle.drivers.specs.declared.answer.AnswerWritten.{AnswerWritten}
 use Rattle.drivers.specs.declared.answer.AnswerWritten.the-variants.{Bytes, Refused as NotWritten}
-use Rattle.drivers.specs.Rules.{outcome-place, steps-place, found-place, answer-form}
+use Rattle.drivers.specs.Rules.{outcome-tag, steps-tag, found-tag, outcome-place, steps-place, found-place, answer-form}
 
 -- ---- what a record says; `places` has where the contents begin
 
@@ -46,7 +46,7 @@ answer-walk bytes = record-fault bytes answer-form no-places
 
 -- 12, at tag 20: the outcome is that of a point where tag 22 is there
 unfoldable pub outcome-fault : List ℕ → List ℕ → Fault
-outcome-fault bytes places = ask-at (start-of (place places outcome-place)) (eqb (tag-at bytes (place places outcome-place)) (outcome-byte (has-point places))) Outcome
+outcome-fault bytes places = ask-at (start-of (place places outcome-place)) (eqb (byte-at bytes (place places outcome-place)) (outcome-byte (has-point places))) Outcome
 
 -- the first fault of a record, in document 01's order: the caller's n, the walk and 10, the lengths, 12
 unfoldable pub answer-fault : ℕ → List ℕ → Fault
@@ -73,13 +73,13 @@ read-answer-answer n bytes out =
 
 -- the fields of an answer, their tags rising: the outcome, the steps and, if one was found, the point
 abbrev pub outcome-field : Bool → Field
-outcome-field found = (0x20, le-bytes 1 (outcome-byte found))
+outcome-field found = (outcome-tag, le-bytes 1 (outcome-byte found))
 
 abbrev pub steps-field : ℕ → Field
-steps-field steps = (0x21, le-bytes 2 steps)
+steps-field steps = (steps-tag, le-bytes 2 steps)
 
 abbrev pub point-field : List Float → Field
-point-field point = (0x22, number-bytes point)
+point-field point = (found-tag, number-bytes point)
 
 abbrev pub answer-fields : Answer → List Float → List Field
 answer-fields a point = outcome-field (a .found) ∷ steps-field (a .steps) ∷ pick (a .found) (point-field point ∷ []) []

@@ -2,24 +2,24 @@
 use Prim.Native.Nat.{ℕ, _*_, _/_, _%_, _^_}
 use mathlib.Core.Bool.{Bool, _&&_}
 use mathlib.Core.List.{List}
-use lib.Dec.{leb, ltb, eqb}
+use lib.Dec.{leb, ltb}
 use lib.ListN.{length, drop}
 use lib.IntN.{ℤ, pos, _-ℤ_}
 use lib.Ieee.{Float}
 use Rattle.numbers.specs.Pick.{pick}
 use Rattle.numbers.specs.Bits.{float-of, word-at}
-use Rattle.numbers.specs.declared.refusal.Refusal.the-variants.{Dimension, Length, Band, Cursor, Room}
+use Rattle.numbers.specs.declared.refusal.Refusal.the-variants.{Band, Cursor, Room}
 use Rattle.numbers.specs.Refusal.{_⨾_, unless, ask-at, ask}
 use Rattle.oracles.specs.Scan.{none, is-rows}
 use Rattle.oracles.specs.LowpassOracle.{start-oracle, bands-fit, cursors-fit}
 use Rattle.oracles.specs.declared.lowpass_oracle.LowpassOracle.{LowpassOracle}
-use Rattle.drivers.specs.Record.{length-at, start-of, half-at, number-at, numbers-at, fields-of, no-places, place, record-fault, lengths-fault, row-count, rows-of, fronted}
+use Rattle.drivers.specs.Record.{start-of, half-at, number-at, numbers-at, fields-of, no-places, place, record-fault, size-fault, lengths-fault, row-count, rows-of, fronted}
 use Rattle.numbers.specs.declared.refusal.Fault.{Fault}
 use Rattle.drivers.specs.declared.cutting_plane.Options.{Options}
 use Rattle.drivers.specs.declared.job.Job.{Job}
 use Rattle.drivers.specs.declared.job.JobAnswer.{JobAnswer}
 use Rattle.drivers.specs.declared.job.JobAnswer.the-variants.{Read, Refused}
-use Rattle.drivers.specs.Rules.{rule-length, n-place, bands-place, limits-place, point-place, cursors-place, kappa-place, matrix-place, settings-place, job-form}
+use Rattle.drivers.specs.Rules.{n-place, bands-place, limits-place, point-place, cursors-place, kappa-place, matrix-place, settings-place, job-form}
 
 -- part k of a word of 16-bit numbers, the lowest first
 abbrev pub part-of : ℕ → ℕ → ℕ
@@ -93,12 +93,6 @@ abbrev pub full-job : List ℕ → FullJob
 full-job bytes = full-job-at bytes (job-walk bytes .1)
 
 -- ---- the tests
-
--- a tag that gives a dimension, by its rule and the least value: its own length, then its range
-unfoldable pub size-fault : ℕ → ℕ → List ℕ → ℕ → Fault
-size-fault rule least bytes p =
-    ask-at (start-of p) (eqb (length-at bytes (start-of p)) (rule-length rule 0)) Length
-    ⨾ ask-at (start-of p) (leb least (half-at bytes p) && leb (half-at bytes p) 32) Dimension
 
 -- the first fault of a record, in document 01's order: the walk and 10, tag 01, the other lengths, 3 at tag 02, 4 at tag 06
 unfoldable pub job-fault : List ℕ → Fault

@@ -2,12 +2,15 @@
 pub mod Rules
 pub mod Record
 pub mod CuttingPlane
+pub mod CuttingPlaneFeas
+pub mod CuttingPlaneOptim
 pub mod Job
 pub mod Text
 pub mod Fields
 pub mod Answer
 pub mod Belongs
 pub mod Trace
+pub mod Run
 pub mod Program
 pub mod Numbered
 pub mod laws

@@ -2,10 +2,10 @@
 use Prim.Native.Nat.{ℕ}
 use Rattle.numbers.specs.Refusal.{refusal-number}
 use Rattle.numbers.specs.declared.refusal.Refusal.the-variants.{NoStopValue}
-use Rattle.drivers.specs.declared.cutting_plane.FeasAnswer.{FeasAnswer}
-use Rattle.drivers.specs.declared.cutting_plane.FeasAnswer.the-variants.{Ended, Refused as NotRun}
-use Rattle.drivers.specs.declared.cutting_plane.OptimAnswer.{OptimAnswer}
-use Rattle.drivers.specs.declared.cutting_plane.OptimAnswer.the-variants.{Ended as EndedOptim, Halted, Refused as NotRunOptim}
+use Rattle.drivers.specs.declared.cutting_plane_feas.FeasAnswer.{FeasAnswer}
+use Rattle.drivers.specs.declared.cutting_plane_feas.FeasAnswer.the-variants.{Ended, Refused as NotRun}
+use Rattle.drivers.specs.declared.cutting_plane_optim.OptimAnswer.{OptimAnswer}
+use Rattle.drivers.specs.declared.cutting_plane_optim.OptimAnswer.the-variants.{Ended as EndedOptim, Halted, Refused as NotRunOptim}
 use Rattle.drivers.specs.declared.job.JobAnswer.{JobAnswer}
 use Rattle.drivers.specs.declared.job.JobAnswer.the-variants.{Read as ReadJob, Refused as NoJob}
 use Rattle.drivers.specs.declared.answer.AnswerRead.{AnswerRead}

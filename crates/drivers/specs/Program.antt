@@ -9,15 +9,16 @@ use Rattle.numbers.specs.Refusal.{_⨾_, unless}
 use Rattle.drivers.specs.Text.{joined}
 use Rattle.drivers.specs.CuttingPlane.{State}
 use Rattle.drivers.specs.Job.{FullJob, job-oracle, full-job, job-fault}
-use Rattle.drivers.specs.Trace.{refused-pieces, input-tests, run-text}
+use Rattle.drivers.specs.Trace.{refused-pieces}
+use Rattle.drivers.specs.Run.{input-tests, run-text}
 
 -- the line of a refusal
 abbrev pub refused-text : Refusal → ℕ → List ℕ
 refused-text why place = joined (refused-pieces why place)
 
 -- what the run of a job begins with: its oracle, a new ellipsoid with its matrix and point, and scratch of zeros
-unfoldable pub first-space : FullJob → State
-first-space f =
+unfoldable pub first-state : FullJob → State
+first-state f =
     let n = f .job .n in
     record {
       oracle = job-oracle (f .job);
@@ -28,7 +29,7 @@ first-space f =
 
 -- the text of its run, from step 0 on
 unfoldable pub job-text : FullJob → List ℕ
-job-text f = run-text (f .job .rows) (f .table) (f .job .options .tolerance) (f .job .options .«max_iters») 0 (first-space f)
+job-text f = run-text (f .job .rows) (f .table) (f .job .options .tolerance) (f .job .options .«max_iters») 0 (first-state f)
 
 -- a long input is refused before all else; then a job's first fault; else the job is run, since a program with room for 1,024 rows of 32 has room for every job
 unfoldable pub program-text : List ℕ → List ℕ

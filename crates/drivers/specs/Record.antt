@@ -10,7 +10,7 @@ use Rattle.numbers.specs.Bits.{float-of, word-at}
 use Rattle.numbers.specs.Arr.{tab}
 use Rattle.numbers.specs.Over.{over}
 use Rattle.numbers.specs.Refusal.{is-fault, _⨾_, ask-at}
-use Rattle.numbers.specs.declared.refusal.Refusal.the-variants.{Length, CutShort, ForeignTag, RepeatedTag, MissingTag}
+use Rattle.numbers.specs.declared.refusal.Refusal.the-variants.{Dimension, Length, CutShort, ForeignTag, RepeatedTag, MissingTag}
 use Rattle.numbers.specs.declared.refusal.Fault.{Fault}
 use Rattle.numbers.specs.declared.refusal.Fault.the-variants.{Sound}
 use Rattle.drivers.specs.declared.rules.Form.{Form}
@@ -18,14 +18,14 @@ use Rattle.drivers.specs.Rules.{index-of, is-of, row-place, rule-length,
 
 -- ---- a field: tag, two bytes of length, content; bytes past the end count as 0
 
-abbrev pub tag-at : List ℕ → ℕ → ℕ
-tag-at bytes at = word-at bytes at % 256
+abbrev pub byte-at : List ℕ → ℕ → ℕ
+byte-at bytes at = word-at bytes at % 256
 
 abbrev pub length-at : List ℕ → ℕ → ℕ
 length-at bytes at = word-at bytes at / 256 % 65536
 
 abbrev pub index-at : List ℕ → ℕ → ℕ
-index-at bytes at = index-of (tag-at bytes at)
+index-at bytes at = index-of (byte-at bytes at)
 
 -- whether the content runs past the record's end
 abbrev pub overruns : List ℕ → ℕ → Bool
@@ -109,6 +109,12 @@ unfoldable pub record-fault : List ℕ → Form → List ℕ → Fault × List �
 record-fault bytes form places =
     let w = walk-of bytes form (fields-of bytes) places in
     (w .0 ⨾ missing-fault (length bytes) form (w .1), w .1)
+
+-- a tag that gives a dimension, by its rule and the least value: its own length, then its range
+unfoldable pub size-fault : ℕ → ℕ → List ℕ → ℕ → Fault
+size-fault rule least bytes p =
+    ask-at (start-of p) (eqb (length-at bytes (start-of p)) (rule-length rule 0)) Length
+    ⨾ ask-at (start-of p) (leb least (half-at bytes p) && leb (half-at bytes p) 32) Dimension
 
 -- 2: the first field, in record order, whose length is not what n says
 unfoldable pub lengths-fault : ℕ → List ℕ → List ℕ → Fault

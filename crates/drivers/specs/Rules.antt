@@ -25,6 +25,16 @@ many = 1
 abbrev pub maybe : ℕ
 maybe = 2
 
+-- the tags of an answer, which are written too
+abbrev pub outcome-tag : ℕ
+outcome-tag = 0x20
+
+abbrev pub steps-tag : ℕ
+steps-tag = 0x21
+
+abbrev pub found-tag : ℕ
+found-tag = 0x22
+
 -- document 01's table: tag, forms, base, factor and power of n, how often
 unfoldable pub rules : List Rule
 rules =
@@ -37,9 +47,9 @@ rules =
     ∷ (0x07, in-job, 8, 0, 0, once)
     ∷ (0x08, in-job, 0, 8, 2, once)
     ∷ (0x09, in-job, 10, 0, 0, once)
-    ∷ (0x20, in-answer, 1, 0, 0, once)
-    ∷ (0x21, in-answer, 2, 0, 0, once)
-    ∷ (0x22, in-answer, 0, 8, 1, maybe)
+    ∷ (outcome-tag, in-answer, 1, 0, 0, once)
+    ∷ (steps-tag, in-answer, 2, 0, 0, once)
+    ∷ (found-tag, in-answer, 0, 8, 1, maybe)
     ∷ []
 
 -- its rows by name, and how many there are

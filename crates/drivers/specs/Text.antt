@@ -1,8 +1,15 @@
 -- Text: numbers as digits, and pieces written one after the other. Definitions only.
 use Prim.Native.Nat.{ℕ, zero, suc, _+_, _/_, _%_}
+use Prim.Native.Char.{code}
+use Prim.Native.String.{String, [] as no-more, _∷_ as _and-then_}
 use mathlib.Core.List.{List, [], _∷_, _++_}
 use lib.Dec.{ltb}
 use Rattle.numbers.specs.Pick.{pick}
+
+-- the bytes of a text of ASCII characters
+abbrev pub bytes-of : String → List ℕ
+bytes-of no-more = []
+bytes-of (c and-then s) = code c ∷ bytes-of s
 
 -- pieces as one text
 unfoldable pub joined : List (List ℕ) → List ℕ

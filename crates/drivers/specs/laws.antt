@@ -4,11 +4,12 @@ pub mod Answer
 pub mod Job
 pub mod Belongs
 pub mod Text
-pub mod StepRight
+pub mod StepSound
 pub mod Untouched
-pub mod OptimRight
+pub mod OptimSound
 pub mod Trace
 pub mod Calls
+pub mod OneField
 pub mod Fields
 pub mod RoundTrip
 pub mod RunEnds

@@ -1,17 +1,21 @@
 // The answer record: tag 20, 21 and, if a point was found, 22. Its reader takes the tags in any order, its writer puts them in rising order.
-use crate::fields::HEADER;
 use crate::fields::put_integer_field;
 use crate::fields::put_numbers_field;
+use crate::record::HEADER;
+use crate::record::byte_at;
 use crate::record::half_at;
 use crate::record::lengths_fault;
 use crate::record::numbers_into;
 use crate::record::record_fault;
 use crate::record::start_of;
-use crate::record::tag_at;
 use crate::rules::ANSWER;
 use crate::rules::FOUND;
+use crate::rules::FOUND_TAG;
 use crate::rules::OUTCOME;
+use crate::rules::OUTCOME_TAG;
 use crate::rules::STEPS;
+use crate::rules::STEPS_TAG;
+use crate::rules::TAGS;
 use numbers::arr::is_dimension;
 use numbers::refusal::Fault;
 use numbers::refusal::Refusal;
@@ -26,6 +30,7 @@ ghost use Rattle.numbers.specs.declared.refusal.Fault.the-variants.{Sound};
 ghost use Rattle.drivers.specs.Record.{no-places, fronted};
 ghost use Rattle.drivers.specs.Fields.{field-bytes};
 ghost use Rattle.drivers.specs.Answer.{outcome-byte, answer-walk, outcome-fault, answer-at, point-at, has-point, read-answer-answer, answer-fields, write-answer-answer, read-answer-tests};
+ghost use Rattle.drivers.specs.laws.Answer.{content-fault};
 ghost use Rattle.drivers.specs.laws.Text.{put-all};
 
 // What a run answers, and a record keeps, beside the point: whether there is one, and the steps.
@@ -56,29 +61,21 @@ fn outcome_byte(found: bool) -> u64
 }
 
 // Refusal 12, at tag 20: the outcome is not that of a record with, or without, tag 22.
-fn outcome_fault(bytes: &[u8], places: &[usize; 12]) -> Fault
+fn outcome_fault(bytes: &[u8], places: &[usize; TAGS]) -> Fault
     ensures { λ r. ⌜ r ≡ outcome-fault (now (bytes .entry)) (now (places .entry)) ⌝ }
 {
     let outcome = places[OUTCOME];
-    if tag_at(bytes, outcome) != outcome_byte(places[FOUND] != 0) {
+    if byte_at(bytes, outcome) != outcome_byte(places[FOUND] != 0) {
         return Fault::At(Refusal::Outcome, start_of(outcome));
     }
     Fault::Sound
 }
 
-// The first fault of an answer record, in document 01's order, 11 the last; `places` becomes where the contents of its tags begin.
-fn answer_fault(n: usize, bytes: &[u8], places: &mut [usize; 12], room: usize) -> Fault
-    requires { ⌜ now places ≡ no-places ⌝ }
-    ensures { λ r. ⌜ r ≡ read-answer-tests n (now (bytes .entry)) room ⌝ }
-    ensures { λ r. ⌜ (r ≡ Sound → now (places .exit) ≡ answer-walk (now (bytes .entry)) .1) ⌝ }
+// The tests that follow the walk: the lengths, 12, and the room for a point.
+fn content_fault(n: usize, bytes: &[u8], places: &[usize; TAGS], room: usize) -> Fault
+    requires { ⌜ n ≤ 32 ⌝ }
+    ensures { λ r. ⌜ r ≡ content-fault n (now (bytes .entry)) (now (places .entry)) room ⌝ }
 {
-    if !is_dimension(n) {
-        return Fault::At(Refusal::Dimension, 0);
-    }
-    let fault = record_fault(bytes, ANSWER, places);
-    if is_fault(fault) {
-        return fault;
-    }
     let fault = lengths_fault(bytes, n);
     if is_fault(fault) {
         return fault;
@@ -93,8 +90,24 @@ fn answer_fault(n: usize, bytes: &[u8], places: &mut [usize; 12], room: usize) -
     Fault::Sound
 }
 
+// The first fault of an answer record, in document 01's order, 11 the last; `places` becomes where the contents of its tags begin.
+fn answer_fault(n: usize, bytes: &[u8], places: &mut [usize; TAGS], room: usize) -> Fault
+    requires { ⌜ now places ≡ no-places ⌝ }
+    ensures { λ r. ⌜ r ≡ read-answer-tests n (now (bytes .entry)) room ⌝ }
+    ensures { λ r. ⌜ (r ≡ Sound → now (places .exit) ≡ answer-walk (now (bytes .entry)) .1) ⌝ }
+{
+    if !is_dimension(n) {
+        return Fault::At(Refusal::Dimension, 0);
+    }
+    let fault = record_fault(bytes, ANSWER, places);
+    if is_fault(fault) {
+        return fault;
+    }
+    content_fault(n, bytes, places, room)
+}
+
 // What a sound record says, its point at the front of `point`.
-fn fill_answer(n: usize, bytes: &[u8], places: &[usize; 12], point: &mut [f64]) -> Answer
+fn fill_answer(n: usize, bytes: &[u8], places: &[usize; TAGS], point: &mut [f64]) -> Answer
     requires { ⌜ (n ≤ 32) × (has-point (now places) ≡ true → n ≤ length (now point)) ⌝ }
     ensures { λ r. ⌜ r ≡ answer-at (now (bytes .entry)) (now (places .entry)) ⌝ }
     ensures { λ _. ⌜ now (point .exit) ≡ fronted (point-at n (now (bytes .entry)) (now (places .entry))) (now (point .entry)) ⌝ }
@@ -103,21 +116,18 @@ fn fill_answer(n: usize, bytes: &[u8], places: &[usize; 12], point: &mut [f64]) 
     if places[FOUND] == 0 {
         return Answer {
             found: false,
-            steps: steps,
+            steps,
         };
     }
     numbers_into(bytes, places[FOUND], &mut point[..n]);
-    Answer {
-        found: true,
-        steps: steps,
-    }
+    Answer { found: true, steps }
 }
 
 // Reads an answer record; a point goes to the front of `point`.
 pub fn read_answer(n: usize, bytes: &[u8], point: &mut [f64]) -> AnswerRead
     ensures { λ r. ⌜ (r, now (point .exit)) ≡ read-answer-answer n (now (bytes .entry)) (now (point .entry)) ⌝ }
 {
-    let mut places = [0usize; 12];
+    let mut places = [0usize; TAGS];
     let fault = answer_fault(n, bytes, &mut places, point.len());
     match fault {
         Fault::At(why, place) => AnswerRead::Refused(why, place),
@@ -144,12 +154,12 @@ fn put_answer(out: &mut [u8], answer: Answer, point: &[f64]) -> usize
     requires { ⌜ length (now point) ≤ 32 ⌝ }
     ensures { λ r. ⌜ (r, now (out .exit)) ≡ put-all (now (out .entry)) 0 (map field-bytes (answer-fields answer (now (point .entry)))) ⌝ }
 {
-    let at = put_integer_field(out, 0, 0x20, 1, outcome_byte(answer.found));
-    let at = put_integer_field(out, at, 0x21, 2, answer.steps as u64);
+    let at = put_integer_field(out, 0, OUTCOME_TAG, 1, outcome_byte(answer.found));
+    let at = put_integer_field(out, at, STEPS_TAG, 2, answer.steps as u64);
     if !answer.found {
         return at;
     }
-    put_numbers_field(out, at, 0x22, point)
+    put_numbers_field(out, at, FOUND_TAG, point)
 }
 
 // Writes an answer record to the front of `out`: n numbers of `point`, if one was found.

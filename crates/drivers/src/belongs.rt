@@ -6,7 +6,7 @@ use numbers::refusal::Refusal;
 use oracles::lowpass_oracle::Verdict;
 ghost use mathlib.Core.Path.{_≡_};
 ghost use Rattle.drivers.specs.Belongs.{yes-if, belongs-answer};
-ghost use Rattle.drivers.specs.laws.Belongs.{said-by};
+ghost use Rattle.drivers.specs.laws.Belongs.{belonging-of};
 
 pub enum Belonging {
     Yes,
@@ -15,8 +15,8 @@ pub enum Belonging {
 }
 
 // What a verdict on the point says, of an answer that has one or has none.
-fn said_by(verdict: Verdict, found: bool) -> Belonging
-    ensures { λ r. ⌜ r ≡ said-by verdict «found» ⌝ }
+fn belonging_of(verdict: Verdict, found: bool) -> Belonging
+    ensures { λ r. ⌜ r ≡ belonging-of verdict «found» ⌝ }
 {
     match verdict {
         Verdict::Feasible => yes_if(found),
@@ -56,9 +56,9 @@ pub fn belongs(
     if answer.found {
         let assessed = oracle.assess_feas(n, job.rows, table, point, grad);
         let verdict = assessed.verdict;
-        return said_by(verdict, true);
+        return belonging_of(verdict, true);
     }
     let assessed = oracle.assess_feas(n, job.rows, table, x, grad);
     let verdict = assessed.verdict;
-    said_by(verdict, false)
+    belonging_of(verdict, false)
 }

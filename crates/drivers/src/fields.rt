@@ -1,4 +1,5 @@
 // A record's fields into a lent slice, one after the other, as `text` has its pieces: what does not fit is not written, and the place stays.
+use crate::record::HEADER;
 use numbers::bits::put_bytes;
 use numbers::bits::to_bits;
 ghost use mathlib.Core.Path.{_≡_};
@@ -8,9 +9,6 @@ ghost use lib.ListN.{length};
 ghost use Rattle.numbers.specs.Bits.{le-bytes};
 ghost use Rattle.drivers.specs.Fields.{header, field-bytes, number-pieces, number-bytes};
 ghost use Rattle.drivers.specs.laws.Text.{put, put-all};
-
-// A tag, and two bytes of length.
-pub(crate) const HEADER: usize = 3;
 
 // Whether so many bytes from `at` on are within the slice's.
 fn has_room(bytes: usize, at: usize, size: usize) -> bool

@@ -4,12 +4,12 @@ use crate::record::content_at;
 use crate::record::count_rows;
 use crate::record::half_at;
 use crate::record::is_row;
-use crate::record::length_at;
 use crate::record::lengths_fault;
 use crate::record::next_field;
 use crate::record::number_at;
 use crate::record::numbers_into;
 use crate::record::record_fault;
+use crate::record::size_fault;
 use crate::record::start_of;
 use crate::rules::BANDS;
 use crate::rules::CURSORS;
@@ -20,7 +20,7 @@ use crate::rules::MATRIX;
 use crate::rules::N;
 use crate::rules::POINT;
 use crate::rules::SETTINGS;
-use crate::rules::rule_length;
+use crate::rules::TAGS;
 use numbers::bits::of_bits;
 use numbers::bits::word_at;
 use numbers::refusal::Fault;
@@ -32,9 +32,10 @@ ghost use mathlib.Core.Path.{_≡_};
 ghost use Prim.Native.Nat.{_*_, _+_, _≤_, _<_};
 ghost use lib.ListN.{length};
 ghost use Rattle.drivers.specs.Record.{fields-of, no-places, numbers-at, row-count, rows-in, rows-of, fronted, place};
-ghost use Rattle.drivers.specs.Job.{signed, part-of, row-end, job-oracle, options-of, job-at, full-job-at, job-walk, size-fault, job-fault, has-room, read-into, read-job-answer};
+ghost use Rattle.drivers.specs.Job.{signed, part-of, row-end, job-oracle, options-of, job-at, full-job-at, job-walk, job-fault, has-room, read-into, read-job-answer};
 ghost use Rattle.drivers.specs.Rules.{matrix-place, point-place};
 ghost use Rattle.drivers.specs.laws.Record.{row-filled};
+ghost use Rattle.drivers.specs.laws.Job.{oracle-fault, content-fault};
 ghost use Rattle.numbers.specs.declared.refusal.Fault.the-variants.{Sound};
 
 // What a job record keeps, beside its row table, its point and its matrix, which the reader writes into slices.
@@ -129,7 +130,7 @@ fn job_options(bytes: &[u8], p: usize) -> Options
 }
 
 // The job, beside its three lists.
-fn job_at(bytes: &[u8], places: &[usize; 12]) -> Job
+fn job_at(bytes: &[u8], places: &[usize; TAGS]) -> Job
     ensures { λ r. ⌜ r ≡ job-at (now (bytes .entry)) (now (places .entry)) ⌝ }
 {
     let bands = word_at(bytes, places[BANDS]);
@@ -153,40 +154,10 @@ fn job_at(bytes: &[u8], places: &[usize; 12]) -> Job
 
 // ---- the tests
 
-// Of a tag that gives a dimension: its own length, then its range.
-pub(crate) fn size_fault(bytes: &[u8], rule: usize, least: usize, p: usize) -> Fault
-    ensures { λ r. ⌜ r ≡ size-fault rule least (now (bytes .entry)) p ⌝ }
+// Refusal 3 at tag 02, then 4 at tag 06: the tests of the oracle that the job starts with.
+fn oracle_fault(job: Job, places: &[usize; TAGS]) -> Fault
+    ensures { λ r. ⌜ r ≡ oracle-fault job (now (places .entry)) ⌝ }
 {
-    let place = start_of(p);
-    if length_at(bytes, place) != rule_length(rule, 0) {
-        return Fault::At(Refusal::Length, place);
-    }
-    let size = half_at(bytes, p);
-    if !((least <= size) & (size <= 32)) {
-        return Fault::At(Refusal::Dimension, place);
-    }
-    Fault::Sound
-}
-
-// The first fault of a job record, in document 01's order; `places` becomes where the contents of its tags begin.
-fn job_fault(bytes: &[u8], places: &mut [usize; 12]) -> Fault
-    requires { ⌜ now places ≡ no-places ⌝ }
-    ensures { λ r. ⌜ r ≡ job-fault (now (bytes .entry)) ⌝ }
-    ensures { λ r. ⌜ now (places .exit) ≡ job-walk (now (bytes .entry)) .1 ⌝ }
-{
-    let fault = record_fault(bytes, JOB, places);
-    if is_fault(fault) {
-        return fault;
-    }
-    let fault = size_fault(bytes, N, 2, places[N]);
-    if is_fault(fault) {
-        return fault;
-    }
-    let fault = lengths_fault(bytes, half_at(bytes, places[N]));
-    if is_fault(fault) {
-        return fault;
-    }
-    let job = job_at(bytes, places);
     let oracle = job.oracle();
     if !oracle.bands_fit(job.rows) {
         return Fault::At(Refusal::Band, start_of(places[BANDS]));
@@ -195,6 +166,35 @@ fn job_fault(bytes: &[u8], places: &mut [usize; 12]) -> Fault
         return Fault::At(Refusal::Cursor, start_of(places[CURSORS]));
     }
     Fault::Sound
+}
+
+// The tests that follow the walk: tag 01, the other lengths, 3 and 4.
+fn content_fault(bytes: &[u8], places: &[usize; TAGS]) -> Fault
+    ensures { λ r. ⌜ r ≡ content-fault (now (bytes .entry)) (now (places .entry)) ⌝ }
+{
+    let fault = size_fault(bytes, N, 2, places[N]);
+    if is_fault(fault) {
+        return fault;
+    }
+    let job = job_at(bytes, places);
+    let fault = lengths_fault(bytes, job.n);
+    if is_fault(fault) {
+        return fault;
+    }
+    oracle_fault(job, places)
+}
+
+// The first fault of a job record, in document 01's order; `places` becomes where the contents of its tags begin.
+fn job_fault(bytes: &[u8], places: &mut [usize; TAGS]) -> Fault
+    requires { ⌜ now places ≡ no-places ⌝ }
+    ensures { λ r. ⌜ r ≡ job-fault (now (bytes .entry)) ⌝ }
+    ensures { λ r. ⌜ now (places .exit) ≡ job-walk (now (bytes .entry)) .1 ⌝ }
+{
+    let fault = record_fault(bytes, JOB, places);
+    if is_fault(fault) {
+        return fault;
+    }
+    content_fault(bytes, places)
 }
 
 // Refusal 11: whether the three outputs hold a sound job's numbers.
@@ -237,7 +237,7 @@ fn fill_table(bytes: &[u8], n: usize, table: &mut [f64])
 // The rows, the point and the matrix to the fronts of the three slices.
 fn fill_job(
     bytes: &[u8],
-    places: &[usize; 12],
+    places: &[usize; TAGS],
     n: usize,
     table: &mut [f64],
     xc: &mut [f64],
@@ -257,13 +257,14 @@ fn fill_job(
 // Reads a sound record, unless there is no room.
 fn read_sound(
     bytes: &[u8],
-    places: &[usize; 12],
+    places: &[usize; TAGS],
     table: &mut [f64],
     xc: &mut [f64],
     mq: &mut [f64],
 ) -> JobAnswer
     requires { ⌜ (job-at (now bytes) (now places) .n ≤ 32) × (job-at (now bytes) (now places) .rows ≤ 1024) ⌝ }
-    ensures { λ r. ⌜ (r, now (table .exit), now (xc .exit), now (mq .exit)) ≡ read-into (full-job-at (now (bytes .entry)) (now (places .entry))) Sound (now (table .entry)) (now (xc .entry)) (now (mq .entry)) ⌝ }
+    ensures { λ r. ⌜ (r, now (table .exit), now (xc .exit), now (mq .exit))
+        ≡ read-into (full-job-at (now (bytes .entry)) (now (places .entry))) Sound (now (table .entry)) (now (xc .entry)) (now (mq .entry)) ⌝ }
 {
     let job = job_at(bytes, places);
     if !has_room(job, table.len(), xc.len(), mq.len()) {
@@ -277,7 +278,7 @@ fn read_sound(
 pub fn read_job(bytes: &[u8], table: &mut [f64], xc: &mut [f64], mq: &mut [f64]) -> JobAnswer
     ensures { λ r. ⌜ (r, now (table .exit), now (xc .exit), now (mq .exit)) ≡ read-job-answer (now (bytes .entry)) (now (table .entry)) (now (xc .entry)) (now (mq .entry)) ⌝ }
 {
-    let mut places = [0usize; 12];
+    let mut places = [0usize; TAGS];
     let fault = job_fault(bytes, &mut places);
     match fault {
         Fault::At(why, place) => JobAnswer::Refused(why, place),

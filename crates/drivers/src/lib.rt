@@ -2,10 +2,13 @@
 pub mod answer;
 pub mod belongs;
 pub mod cutting_plane;
+pub mod cutting_plane_feas;
+pub mod cutting_plane_optim;
 pub mod fields;
 pub mod job;
 pub mod numbered;
 pub mod record;
 pub mod rules;
+pub mod run;
 pub mod text;
 pub mod trace;

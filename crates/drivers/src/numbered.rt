@@ -2,8 +2,8 @@
 use crate::answer::AnswerRead;
 use crate::answer::AnswerWritten;
 use crate::belongs::Belonging;
-use crate::cutting_plane::FeasAnswer;
-use crate::cutting_plane::OptimAnswer;
+use crate::cutting_plane_feas::FeasAnswer;
+use crate::cutting_plane_optim::OptimAnswer;
 use crate::job::JobAnswer;
 use crate::trace::Text;
 use numbers::refusal::Refusal;

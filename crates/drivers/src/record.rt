@@ -16,12 +16,15 @@ use numbers::refusal::is_fault;
 ghost use mathlib.Core.Path.{_≡_};
 ghost use Prim.Native.Nat.{_≤_, _<_};
 ghost use lib.ListN.{length};
-ghost use Rattle.drivers.specs.Record.{tag-at, length-at, half-at, number-at, numbers-at, start-of, content-of, is-row, rows-in, after, field-fault, first-place, fields-of, walk-of, missing-fault, record-fault, lengths-fault, row-count};
+ghost use Rattle.drivers.specs.Record.{byte-at, length-at, half-at, number-at, numbers-at, start-of, content-of, is-row, rows-in, after, field-fault, first-place, fields-of, walk-of, missing-fault, record-fault, size-fault, lengths-fault, row-count};
+
+// A tag, and two bytes of length.
+pub(crate) const HEADER: usize = 3;
 
 // ---- a field's header, and numbers in its content; bytes past the end count as 0
 
-pub(crate) fn tag_at(bytes: &[u8], at: usize) -> u64
-    ensures { λ r. ⌜ r ≡ tag-at (now (bytes .entry)) at ⌝ }
+pub(crate) fn byte_at(bytes: &[u8], at: usize) -> u64
+    ensures { λ r. ⌜ r ≡ byte-at (now (bytes .entry)) at ⌝ }
 {
     word_at(bytes, at) % 256
 }
@@ -65,10 +68,10 @@ pub(crate) fn numbers_into(bytes: &[u8], p: usize, out: &mut [f64])
 pub(crate) fn start_of(p: usize) -> usize
     ensures { λ r. ⌜ r ≡ start-of p ⌝ }
 {
-    if p < 3 {
+    if p < HEADER {
         return 0;
     }
-    p - 3
+    p - HEADER
 }
 
 // Where a field's content begins; the end where its header is cut short.
@@ -76,17 +79,17 @@ pub(crate) fn content_at(bytes: &[u8], at: usize) -> usize
     requires { ⌜ at < length (now bytes) ⌝ }
     ensures { λ r. ⌜ r ≡ content-of (now (bytes .entry)) at ⌝ }
 {
-    if bytes.len() - at < 3 {
+    if bytes.len() - at < HEADER {
         return bytes.len();
     }
-    at + 3
+    at + HEADER
 }
 
 // Whether the field is a row of the table.
 pub(crate) fn is_row(bytes: &[u8], at: usize) -> bool
     ensures { λ r. ⌜ r ≡ is-row (now (bytes .entry)) at ⌝ }
 {
-    rule_index(tag_at(bytes, at)) == ROW
+    rule_index(byte_at(bytes, at)) == ROW
 }
 
 // ---- the walk, front to back
@@ -96,7 +99,7 @@ pub(crate) fn next_field(bytes: &[u8], at: usize) -> usize
     requires { ⌜ at < length (now bytes) ⌝ }
     ensures { λ r. ⌜ r ≡ after (now (bytes .entry)) at ⌝ }
 {
-    let whole = 3 + length_at(bytes, at);
+    let whole = HEADER + length_at(bytes, at);
     if bytes.len() - at < whole {
         return bytes.len();
     }
@@ -104,14 +107,14 @@ pub(crate) fn next_field(bytes: &[u8], at: usize) -> usize
 }
 
 // The tests of one field, in document 01's order.
-fn field_fault(bytes: &[u8], form: Form, places: &[usize; 12], at: usize) -> Fault
+fn field_fault(bytes: &[u8], form: Form, places: &[usize; TAGS], at: usize) -> Fault
     requires { ⌜ (at < length (now bytes)) × (0 < form .bit) ⌝ }
     ensures { λ r. ⌜ r ≡ field-fault (now (bytes .entry)) form (now (places .entry)) at ⌝ }
 {
-    if bytes.len() - at < 3 {
+    if bytes.len() - at < HEADER {
         return Fault::At(Refusal::CutShort, at);
     }
-    let i = rule_index(tag_at(bytes, at));
+    let i = rule_index(byte_at(bytes, at));
     let rule = rule_at(i);
     if !is_of(form, rule) {
         return Fault::At(Refusal::ForeignTag, at);
@@ -119,7 +122,7 @@ fn field_fault(bytes: &[u8], form: Form, places: &[usize; 12], at: usize) -> Fau
     if (places[i] != 0) & (rule.5 != MANY) {
         return Fault::At(Refusal::RepeatedTag, at);
     }
-    if bytes.len() - at - 3 < length_at(bytes, at) {
+    if bytes.len() - at - HEADER < length_at(bytes, at) {
         return Fault::At(Refusal::CutShort, at);
     }
     Fault::Sound
@@ -136,7 +139,7 @@ fn first_place(old: usize, p: usize) -> usize
 }
 
 // Tests every field and notes, for each tag of the table, where the content of its first field begins.
-fn walk(bytes: &[u8], form: Form, places: &mut [usize; 12]) -> Fault
+fn walk(bytes: &[u8], form: Form, places: &mut [usize; TAGS]) -> Fault
     requires { ⌜ 0 < form .bit ⌝ }
     ensures { λ r. ⌜ (r, now (places .exit)) ≡ walk-of (now (bytes .entry)) form (fields-of (now (bytes .entry))) (now (places .entry)) ⌝ }
 {
@@ -146,7 +149,7 @@ fn walk(bytes: &[u8], form: Form, places: &mut [usize; 12]) -> Fault
         if is_fault(fault) {
             return fault;
         }
-        let i = rule_index(tag_at(bytes, at));
+        let i = rule_index(byte_at(bytes, at));
         places[i] = first_place(places[i], content_at(bytes, at));
         at = next_field(bytes, at);
     }
@@ -154,7 +157,7 @@ fn walk(bytes: &[u8], form: Form, places: &mut [usize; 12]) -> Fault
 }
 
 // Refusal 10, at the record's end.
-fn missing_fault(end: usize, form: Form, places: &[usize; 12]) -> Fault
+fn missing_fault(end: usize, form: Form, places: &[usize; TAGS]) -> Fault
     requires { ⌜ 0 < form .bit ⌝ }
     ensures { λ r. ⌜ r ≡ missing-fault end form (now (places .entry)) ⌝ }
 {
@@ -170,7 +173,7 @@ fn missing_fault(end: usize, form: Form, places: &[usize; 12]) -> Fault
 }
 
 // The walk, and refusal 10 after it.
-pub(crate) fn record_fault(bytes: &[u8], form: Form, places: &mut [usize; 12]) -> Fault
+pub(crate) fn record_fault(bytes: &[u8], form: Form, places: &mut [usize; TAGS]) -> Fault
     requires { ⌜ 0 < form .bit ⌝ }
     ensures { λ r. ⌜ (r, now (places .exit)) ≡ record-fault (now (bytes .entry)) form (now (places .entry)) ⌝ }
 {
@@ -181,6 +184,21 @@ pub(crate) fn record_fault(bytes: &[u8], form: Form, places: &mut [usize; 12]) -
     missing_fault(bytes.len(), form, places)
 }
 
+// Of a tag that gives a dimension: its own length, then its range.
+pub(crate) fn size_fault(bytes: &[u8], rule: usize, least: usize, p: usize) -> Fault
+    ensures { λ r. ⌜ r ≡ size-fault rule least (now (bytes .entry)) p ⌝ }
+{
+    let place = start_of(p);
+    if length_at(bytes, place) != rule_length(rule, 0) {
+        return Fault::At(Refusal::Length, place);
+    }
+    let size = half_at(bytes, p);
+    if !((least <= size) & (size <= 32)) {
+        return Fault::At(Refusal::Dimension, place);
+    }
+    Fault::Sound
+}
+
 // Refusal 2: the first field, in record order, whose length is not its rule's. Every tag is in the table.
 pub(crate) fn lengths_fault(bytes: &[u8], n: usize) -> Fault
     requires { ⌜ n ≤ 32 ⌝ }
@@ -188,7 +206,7 @@ pub(crate) fn lengths_fault(bytes: &[u8], n: usize) -> Fault
 {
     let mut at = 0;
     while at < bytes.len() {
-        let i = rule_index(tag_at(bytes, at));
+        let i = rule_index(byte_at(bytes, at));
         if length_at(bytes, at) != rule_length(i, n) {
             return Fault::At(Refusal::Length, at);
         }

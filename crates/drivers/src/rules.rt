@@ -35,8 +35,15 @@ pub(crate) const MANY: u8 = 1;
 
 pub(crate) const MAYBE: u8 = 2;
 
+// The tags that are written, too.
+pub(crate) const OUTCOME_TAG: u8 = 0x20;
+
+pub(crate) const STEPS_TAG: u8 = 0x21;
+
+pub(crate) const FOUND_TAG: u8 = 0x22;
+
 // Document 01's table.
-const RULES: [Rule; 12] = [
+const RULES: [Rule; TAGS] = [
     Rule(0x01, IN_JOB, 2, 0, 0, ONCE),
     Rule(0x02, IN_JOB, 4, 0, 0, ONCE),
     Rule(0x03, IN_JOB, 24, 0, 0, ONCE),
@@ -46,9 +53,9 @@ const RULES: [Rule; 12] = [
     Rule(0x07, IN_JOB, 8, 0, 0, ONCE),
     Rule(0x08, IN_JOB, 0, 8, 2, ONCE),
     Rule(0x09, IN_JOB, 10, 0, 0, ONCE),
-    Rule(0x20, IN_ANSWER, 1, 0, 0, ONCE),
-    Rule(0x21, IN_ANSWER, 2, 0, 0, ONCE),
-    Rule(0x22, IN_ANSWER, 0, 8, 1, MAYBE),
+    Rule(OUTCOME_TAG, IN_ANSWER, 1, 0, 0, ONCE),
+    Rule(STEPS_TAG, IN_ANSWER, 2, 0, 0, ONCE),
+    Rule(FOUND_TAG, IN_ANSWER, 0, 8, 1, MAYBE),
 ];
 
 // Its rows by name, which are also the places of their tags, and how many there are.

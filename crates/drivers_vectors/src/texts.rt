@@ -3,10 +3,10 @@ use crate::packed::bytes_at;
 use crate::packed::pad;
 use crate::packed::put_bytes;
 use crate::packed::words_of;
-use drivers::trace::Opened;
-use drivers::trace::Run;
+use drivers::run::Opened;
+use drivers::run::Run;
+use drivers::run::open;
 use drivers::trace::Text;
-use drivers::trace::open;
 use lists::pushes::Bytes;
 use lists::pushes::push;
 use lists::rooms::Room;
@@ -118,8 +118,8 @@ pub(crate) fn replay_text(
     let mut out = [0u8; 128];
     let opened = open(bytes_at(inputs, 1, len), a, b, c, &mut out);
     let end = match opened {
-        Opened::Going(run) => put_run(got, run, a, b, c, d, e),
-        Opened::Over(text) => put_text(got, 8, &out, text),
+        Opened::Started(run) => put_run(got, run, a, b, c, d, e),
+        Opened::Refused(text) => put_text(got, 8, &out, text),
     };
     pad(got, end);
     push(got, 0, wrapping_sub_usize(end, 8) as u64);

@@ -11,15 +11,17 @@ use Rattle.oracles.specs.declared.ell.Ell.{Ell}
 use Rattle.oracles.specs.declared.ell.NewEll.{NewEll}
 use Rattle.oracles.specs.declared.ell.NewEll.the-variants.{Made, Refused as NotMade}
 use Rattle.oracles.specs.declared.lowpass_oracle.LowpassOracle.{LowpassOracle}
-use Rattle.drivers.specs.CuttingPlane.{State, OptimLeft, feas-answer, optim-answer}
+use Rattle.drivers.specs.CuttingPlane.{State}
+use Rattle.drivers.specs.CuttingPlaneFeas.{feas-answer}
+use Rattle.drivers.specs.CuttingPlaneOptim.{OptimEnd, optim-answer}
 use Rattle.drivers.specs.Numbered.{optim-number, job-number}
 use Rattle.drivers.specs.Job.{job-oracle}
 use Rattle.drivers.specs.declared.answer.Answer.{Answer}
 use Rattle.drivers.specs.declared.cutting_plane.Options.{Options}
-use Rattle.drivers.specs.declared.cutting_plane.FeasAnswer.{FeasAnswer}
-use Rattle.drivers.specs.declared.cutting_plane.FeasAnswer.the-variants.{Ended, Refused as NotRun}
-use Rattle.drivers.specs.declared.cutting_plane.OptimAnswer.{OptimAnswer}
-use Rattle.drivers.specs.declared.cutting_plane.OptimAnswer.the-variants.{Ended as EndedOptim, Halted, Refused as NotRunOptim}
+use Rattle.drivers.specs.declared.cutting_plane_feas.FeasAnswer.{FeasAnswer}
+use Rattle.drivers.specs.declared.cutting_plane_feas.FeasAnswer.the-variants.{Ended, Refused as NotRun}
+use Rattle.drivers.specs.declared.cutting_plane_optim.OptimAnswer.{OptimAnswer}
+use Rattle.drivers.specs.declared.cutting_plane_optim.OptimAnswer.the-variants.{Ended as EndedOptim, Halted, Refused as NotRunOptim}
 use Rattle.drivers.specs.declared.job.Job.{Job}
 use Rattle.drivers.specs.declared.job.JobAnswer.{JobAnswer}
 use Rattle.drivers.specs.declared.job.JobAnswer.the-variants.{Read, Refused as NotRead}
@@ -78,24 +80,24 @@ abbrev pub coded : ℕ → RunEnd → RunEnd
 coded code l = run-end code (l .numbers) (l .buffers) (l .grad) (l .best)
 
 -- after a run with this answer
-abbrev pub end-of : OptimAnswer → State → List Float → RunNumbers → RunEnd
-end-of a s best old = run-end (optim-number a) (numbers-by a (s .oracle) (s .ell) old) (s .buffers) (s .grad) best
+abbrev pub run-end-of : OptimAnswer → State → List Float → RunNumbers → RunEnd
+run-end-of a s best old = run-end (optim-number a) (numbers-by a (s .oracle) (s .ell) old) (s .buffers) (s .grad) best
 
-unfoldable pub feas-end : FeasAnswer × State × List Float → RunNumbers → RunEnd
-feas-end r old = end-of (as-optim (r .0)) (r .1) (r .2) old
+unfoldable pub feas-run-end : FeasAnswer × State × List Float → RunNumbers → RunEnd
+feas-run-end r old = run-end-of (as-optim (r .0)) (r .1) (r .2) old
 
 -- with gamma
-unfoldable pub optim-end : OptimLeft → RunNumbers → RunEnd × Float
-optim-end r old = (end-of (r .answer) (r .space) (r .best) old, r .gamma)
+unfoldable pub optim-run-end : OptimEnd → RunNumbers → RunEnd × Float
+optim-run-end r old = (run-end-of (r .answer) (r .state) (r .best) old, r .gamma)
 
 -- the ellipsoid of n and kappa is made first; refusal 1 where it cannot be
 unfoldable pub feas-exported : NewEll → LowpassOracle → Options → ℕ → List Float → RunEnd → RunEnd
-feas-exported (Made e) o options rows table l = feas-end (feas-answer options rows table (record { oracle = o; ell = e; buffers = l .buffers; grad = l .grad }) (l .best)) (l .numbers)
+feas-exported (Made e) o options rows table l = feas-run-end (feas-answer options rows table (record { oracle = o; ell = e; buffers = l .buffers; grad = l .grad }) (l .best)) (l .numbers)
 feas-exported (NotMade why) o options rows table l = coded (refusal-number why) l
 
 unfoldable pub optim-exported : NewEll → LowpassOracle → Options → ℕ → List Float → Float → RunEnd → RunEnd × Float
 optim-exported (Made e) o options rows table gamma l =
-    optim-end (optim-answer options rows table (record { oracle = o; ell = e; buffers = l .buffers; grad = l .grad; gamma = gamma; found = false; best = l .best })) (l .numbers)
+    optim-run-end (optim-answer options rows table (record { oracle = o; ell = e; buffers = l .buffers; grad = l .grad; gamma = gamma; found = false; best = l .best })) (l .numbers)
 optim-exported (NotMade why) o options rows table gamma l = (coded (refusal-number why) l, gamma)
 
 -- ---- a job that was read: n, the rows and the step limit; nwpass and nwstop; the marks; lp_sq, up_sq, sp_sq, kappa and the tolerance

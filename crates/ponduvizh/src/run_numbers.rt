@@ -1,7 +1,7 @@
 // What a run says in numbers: `answer` is found, the steps and the oracle's more_alt; `marks` the cursors of pass, middle and stop, idx1 to idx3 and kmax; `values` sp_sq, fmax, kappa and tsq.
 use drivers::answer::Answer;
-use drivers::cutting_plane::FeasAnswer;
-use drivers::cutting_plane::OptimAnswer;
+use drivers::cutting_plane_feas::FeasAnswer;
+use drivers::cutting_plane_optim::OptimAnswer;
 use oracles::ell::Ell;
 use oracles::lowpass_oracle::LowpassOracle;
 ghost use mathlib.Core.Path.{_≡_};

@@ -3,8 +3,8 @@ use crate::numeric::code;
 use crate::run_numbers::as_optim;
 use crate::run_numbers::put_run;
 use drivers::cutting_plane::Options;
-use drivers::cutting_plane::cutting_plane_feas;
-use drivers::cutting_plane::cutting_plane_optim;
+use drivers::cutting_plane_feas::cutting_plane_feas;
+use drivers::cutting_plane_optim::cutting_plane_optim;
 use oracles::ell::Ell;
 use oracles::ell::NewEll;
 use oracles::lowpass_oracle::LowpassOracle;
@@ -12,10 +12,11 @@ ghost use mathlib.Core.Path.{_≡_};
 ghost use lib.Dec.{eqb};
 ghost use lib.Ieee.{Float};
 ghost use Rattle.oracles.specs.LowpassOracle.{start-oracle};
-ghost use Rattle.drivers.specs.CuttingPlane.{feas-answer, optim-answer};
+ghost use Rattle.drivers.specs.CuttingPlaneFeas.{feas-answer};
+ghost use Rattle.drivers.specs.CuttingPlaneOptim.{optim-answer};
 ghost use mathlib.Core.Bool.{false};
 ghost use Rattle.oracles.specs.Ell.{ell-buffers, new-ell-answer};
-ghost use Rattle.ponduvizh.specs.ExportedRuns.{RunEnd, run-numbers, run-end, feas-end, feas-exported, optim-end, optim-exported};
+ghost use Rattle.ponduvizh.specs.ExportedRuns.{RunEnd, run-numbers, run-end, feas-run-end, feas-exported, optim-run-end, optim-exported};
 
 // The run over an ellipsoid that was made.
 fn feas_made(
@@ -35,7 +36,7 @@ fn feas_made(
 ) -> u64
     ensures { λ r. ⌜ run-end r (run-numbers (now (answer .exit)) (now (marks .exit)) (now (values .exit)))
         (ell-buffers (now (mq .exit)) (now (xc .exit)) (now («grad_t» .exit))) (now (grad .exit)) (now («x_best» .exit))
-        ≡ feas-end
+        ≡ feas-run-end
         (feas-answer options rows (now (table .entry))
         (record { oracle = oracle; ell = ell; buffers = (ell-buffers (now (mq .entry)) (now (xc .entry)) (now («grad_t» .entry))); grad = now (grad .entry) })
         (now («x_best» .entry)))
@@ -82,7 +83,7 @@ fn optim_made(
           (ell-buffers (now (mq .exit)) (now (xc .exit)) (now («grad_t» .exit))) (now (grad .exit)) (now («x_best» .exit)),
       now (gamma .exit),
     )
-        ≡ optim-end
+        ≡ optim-run-end
         (optim-answer options rows (now (table .entry))
         (record {
           oracle = oracle;

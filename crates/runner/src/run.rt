@@ -1,15 +1,16 @@
 // A job from standard input is run by the steps of `cutting_plane_feas` (`Run::next`), and the text of each is handed to standard output as it comes.
 use crate::mark::write;
-use drivers::trace::Opened;
-use drivers::trace::Printed;
-use drivers::trace::Run;
+use drivers::run::Opened;
+use drivers::run::Printed;
+use drivers::run::Run;
+use drivers::run::open;
 use drivers::trace::Text;
-use drivers::trace::open;
 ghost use mathlib.Core.Path.{_≡_};
+ghost use Rattle.oracles.specs.Ell.{ell-buffers};
 ghost use Prim.Native.Nat.{_*_, _≤_};
 ghost use lib.ListN.{length, take, replicate};
 ghost use Rattle.numbers.specs.F64.{0ᶠ};
-ghost use Rattle.drivers.specs.Trace.{next-answer};
+ghost use Rattle.drivers.specs.Run.{next-answer};
 ghost use Rattle.drivers.specs.Program.{program-text};
 ghost use Rattle.drivers.specs.laws.Program.{RunHeld};
 ghost use Rattle.drivers.specs.laws.Trace.{text-in};
@@ -44,7 +45,8 @@ fn step(
     grad_t: &mut [f64],
     out: &mut [u8],
 ) -> Printed
-    ensures { λ r. ⌜ (r, record { mq = now (mq .exit); xc = now (xc .exit); grad-t = now («grad_t» .exit) }, now (grad .exit), now (out .exit)) ≡ next-answer run (now (table .entry)) (record { mq = now (mq .entry); xc = now (xc .entry); grad-t = now («grad_t» .entry) }) (now (grad .entry)) (now (out .entry)) ⌝ }
+    ensures { λ r. ⌜ (r, ell-buffers (now (mq .exit)) (now (xc .exit)) (now («grad_t» .exit)), now (grad .exit), now (out .exit))
+        ≡ next-answer run (now (table .entry)) (ell-buffers (now (mq .entry)) (now (xc .entry)) (now («grad_t» .entry))) (now (grad .entry)) (now (out .entry)) ⌝ }
     ensures { λ r. ⌜ now (mark .exit) ≡ marked (now (mark .entry)) (text-in (r .text) (now (out .exit))) ⌝ }
 {
     let printed = run.next(table, mq, xc, grad, grad_t, out);
@@ -64,8 +66,10 @@ fn run_all(
     grad_t: &mut [f64],
     out: &mut [u8],
 ) -> Printed
-    ensures { λ r. ⌜ (r, record { mq = now (mq .exit); xc = now (xc .exit); grad-t = now («grad_t» .exit) }, now (grad .exit), now (out .exit)) ≡ run-all-answer first (now (table .entry)) (record { mq = now (mq .entry); xc = now (xc .entry); grad-t = now («grad_t» .entry) }) (now (grad .entry)) (now (out .entry)) ⌝ }
-    ensures { λ r. ⌜ now (mark .exit) ≡ marked (now (mark .entry)) (run-all-text first (now (table .entry)) (record { mq = now (mq .entry); xc = now (xc .entry); grad-t = now («grad_t» .entry) }) (now (grad .entry)) (now (out .entry))) ⌝ }
+    ensures { λ r. ⌜ (r, ell-buffers (now (mq .exit)) (now (xc .exit)) (now («grad_t» .exit)), now (grad .exit), now (out .exit))
+        ≡ run-all-answer first (now (table .entry)) (ell-buffers (now (mq .entry)) (now (xc .entry)) (now («grad_t» .entry))) (now (grad .entry)) (now (out .entry)) ⌝ }
+    ensures { λ r. ⌜ now (mark .exit) ≡ marked (now (mark .entry))
+        (run-all-text first (now (table .entry)) (ell-buffers (now (mq .entry)) (now (xc .entry)) (now («grad_t» .entry))) (now (grad .entry)) (now (out .entry))) ⌝ }
 {
     let mut printed = step(mark, first, table, mq, xc, grad, grad_t, out);
     while printed.more {
@@ -87,7 +91,10 @@ fn run_sized(
     out: &mut [u8],
 )
     requires { ⌜ RunHeld run (now table) (now xc) (now mq) × (run .ell .ndim ≤ length (now grad)) × (run .ell .ndim ≤ length (now «grad_t»)) ⌝ }
-    ensures { λ _. ⌜ now (mark .exit) ≡ marked (now (mark .entry)) (run-all-text run (take (run .rows * run .ell .ndim) (now (table .entry))) (record { mq = take (run .ell .ndim * run .ell .ndim) (now (mq .entry)); xc = take (run .ell .ndim) (now (xc .entry)); grad-t = take (run .ell .ndim) (now («grad_t» .entry)) }) (take (run .ell .ndim) (now (grad .entry))) (now (out .entry))) ⌝ }
+    ensures { λ _. ⌜ now (mark .exit) ≡ marked (now (mark .entry))
+        (run-all-text run (take (run .rows * run .ell .ndim) (now (table .entry)))
+        (ell-buffers (take (run .ell .ndim * run .ell .ndim) (now (mq .entry))) (take (run .ell .ndim) (now (xc .entry))) (take (run .ell .ndim) (now («grad_t» .entry))))
+        (take (run .ell .ndim) (now (grad .entry))) (now (out .entry))) ⌝ }
 {
     let n = run.n();
     let numbers = run.rows() * n;
@@ -120,8 +127,8 @@ fn run_lent(
 {
     let opened = open(bytes, table, xc, mq, out);
     match opened {
-        Opened::Going(run) => run_sized(mark, run, table, mq, xc, grad, grad_t, out),
-        Opened::Over(text) => write_text(mark, out, text),
+        Opened::Started(run) => run_sized(mark, run, table, mq, xc, grad, grad_t, out),
+        Opened::Refused(text) => write_text(mark, out, text),
     }
 }
 

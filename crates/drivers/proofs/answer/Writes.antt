@@ -18,7 +18,7 @@ use Rattle.numbers.specs.declared.refusal.Fault.the-variants.{Sound}
 use Rattle.drivers.specs.Text.{joined}
 use Rattle.drivers.specs.laws.Text.{put-then, put-one, put-front, put, put-all}
 use Rattle.drivers.specs.Fields.{Field, field-bytes, record-bytes, number-bytes}
-use Rattle.drivers.specs.laws.Fields.{length-numbers}
+use Rattle.drivers.specs.laws.OneField.{length-numbers}
 use Rattle.drivers.specs.Answer.{outcome-byte, outcome-field, steps-field, point-field, answer-fields, answer-bytes, write-answer-tests, write-answer-answer}
 use Rattle.drivers.specs.declared.answer.Answer.{Answer}
 use Rattle.drivers.specs.declared.answer.AnswerWritten.the-variants.{Bytes, Refused}
@@ -66,15 +66,15 @@ module _ (n : ℕ) (a : Answer) (point : List Float) (out : List ℕ) where
       long : length (answer-bytes a point) ≡ size
       long = answer-long a point n l ∙ sym s
 
-      sizes-right : Sound ≡ sized n (eqb (length point) n)
-      sizes-right = at-next (held _ _ h) (held _ _ (eq-eqb (length point) n l))
+      sizes-sound : Sound ≡ sized n (eqb (length point) n)
+      sizes-sound = at-next (held _ _ h) (held _ _ (eq-eqb (length point) n l))
 
       pub no-room : length out < size → (Refused Room, out) ≡ write-answer-answer n a point out
       unfolding write-answer-answer
-      no-room k = refuses _ _ (write-answer-tests n a point out) (at-next sizes-right (failed (lt-leb _ (length out) (omega (arith, long))))) refl
+      no-room k = refuses _ _ (write-answer-tests n a point out) (at-next sizes-sound (failed (lt-leb _ (length out) (omega (arith, long))))) refl
 
       pub written : (r : ℕ × List ℕ) → size ≤ length out → r ≡ put-all out 0 (map field-bytes (answer-fields a point)) → (Bytes (r .0), r .1) ≡ write-answer-answer n a point out
       unfolding write-answer-answer
       written r k p =
-          accepts _ _ (write-answer-tests n a point out) (at-next sizes-right (held _ _ (le-leb _ (length out) (omega (arith, long)))))
+          accepts _ _ (write-answer-tests n a point out) (at-next sizes-sound (held _ _ (le-leb _ (length out) (omega (arith, long)))))
           (ap (λ (q : ℕ × List ℕ). (Bytes (q .0), q .1)) (put-front out (map field-bytes (answer-fields a point)) r (omega (arith, long)) p))

@@ -16,7 +16,7 @@ use Rattle.numbers.specs.laws.Pick.{says-no, says-yes}
 use Rattle.drivers.specs.Text.{joined}
 use Rattle.drivers.specs.laws.Text.{put-fits as piece-fits, put-none, put-not, put-joined, put, put-all}
 use Rattle.drivers.specs.Fields.{header, field-bytes, number-pieces, number-bytes}
-use Rattle.drivers.specs.laws.Fields.{length-numbers, length-field}
+use Rattle.drivers.specs.laws.OneField.{length-numbers, length-field}
 
 pub none-left : (bytes at size : ℕ) → bytes < at → false ≡ leb (at + size) bytes
 none-left bytes at size h = sym (lt-leb (at + size) bytes (omega arith))

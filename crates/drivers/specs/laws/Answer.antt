@@ -13,10 +13,33 @@ use Rattle.numbers.specs.laws.Pick.{and-parts, is-hit, is-skip}
 use Rattle.numbers.specs.laws.Refusal.{both-sound, ask-sound}
 use Rattle.numbers.specs.laws.Arr.{length-tab}
 use Rattle.numbers.specs.declared.refusal.Refusal.the-variants.{Dimension, Room}
-use Rattle.numbers.specs.declared.refusal.Fault.the-variants.{Sound}
+use Rattle.numbers.specs.declared.refusal.Fault.{Fault}
+use Rattle.numbers.specs.declared.refusal.Fault.the-variants.{Sound, At}
+use Rattle.numbers.specs.Pick.{pick}
 use Rattle.drivers.specs.Rules.{found-place}
 use Rattle.drivers.specs.Record.{number-at, numbers-at, fields-of, place, lengths-fault}
 use Rattle.drivers.specs.Answer.{has-point, point-at, answer-walk, outcome-fault, answer-fault, point-room, read-answer-tests}
+
+-- the tests behind the walk, as the code makes them
+abbrev pub content-fault : ℕ → List ℕ → List ℕ → ℕ → Fault
+content-fault n bytes places room = lengths-fault n bytes (fields-of bytes) ⨾ outcome-fault bytes places ⨾ point-room (point-at n bytes places) room
+
+-- a chain is read from the front, however it is put together
+chain-assoc : (f g h : Fault) → ((f ⨾ g) ⨾ h) ≡ (f ⨾ g ⨾ h)
+unfolding pick
+chain-assoc Sound g h = refl
+chain-assoc (At why place) g h = refl
+
+pub read-chain : (n : ℕ) (bytes : List ℕ) (room : ℕ)
+    → read-answer-tests n bytes room ≡ (ask (is-dimension n) Dimension ⨾ answer-walk bytes .0 ⨾ content-fault n bytes (answer-walk bytes .1) room)
+unfolding answer-fault
+read-chain n bytes room =
+    let d = ask (is-dimension n) Dimension in
+    let w = answer-walk bytes .0 in
+    let l = lengths-fault n bytes (fields-of bytes) in
+    let o = outcome-fault bytes (answer-walk bytes .1) in
+    let p = point-room (point-at n bytes (answer-walk bytes .1)) room in
+    chain-assoc d (w ⨾ l ⨾ o) p ∙ ap (λ (f : Fault). d ⨾ f) (chain-assoc w (l ⨾ o) p ∙ ap (λ (f : Fault). w ⨾ f) (chain-assoc l o p))
 
 -- n is in its range, and a point that is there has room
 pub record AnswerSound (n : ℕ) (places : List ℕ) (room : ℕ) : Type 0 where

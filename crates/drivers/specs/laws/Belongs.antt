@@ -32,10 +32,10 @@ use Rattle.drivers.specs.declared.belongs.Belonging.the-variants.{Refuse
 -- ---- what the code makes of a verdict
 
 -- what a verdict on the point that is asked about says, of an answer that has a point or has none
-abbrev pub said-by : Verdict → Bool → Belonging
-said-by Feasible found = yes-if found
-said-by (Cut group beta) found = yes-if (not found)
-said-by (NotAssessed why) found = Refused why
+abbrev pub belonging-of : Verdict → Bool → Belonging
+belonging-of Feasible found = yes-if found
+belonging-of (Cut group beta) found = yes-if (not found)
+belonging-of (NotAssessed why) found = Refused why
 
 and-true : (t : Bool) → (t && true) ≡ t
 and-true true = refl
@@ -59,7 +59,7 @@ judged q =
     P j = is-refused j ≡ false
 
 -- what a verdict says of an answer, by its judgement
-decided : (v : Verdict) (found : Bool) → is-refused (judgement v) ≡ false → said-by v found ≡ yes-if (pick found (is-feasible (judgement v)) (not (is-feasible (judgement v))))
+decided : (v : Verdict) (found : Bool) → is-refused (judgement v) ≡ false → belonging-of v found ≡ yes-if (pick found (is-feasible (judgement v)) (not (is-feasible (judgement v))))
 unfolding is-refused pick
 decided Feasible true e = refl
 decided Feasible false e = refl
@@ -84,7 +84,7 @@ module _ (j : Job) (table x : List Float) (a : Answer) (point grad : List Float)
 
   -- what the assessment of that point makes of the answer
   abbrev says : Assessed × List Float → Belonging × List Float
-  says r = (said-by (r .0 .verdict) (a .found), r .1)
+  says r = (belonging-of (r .0 .verdict) (a .found), r .1)
 
   -- the lengths that belongs tests are those that the assessment tests
   fits : length x ≡ j .n → length point ≡ j .n
@@ -95,7 +95,7 @@ module _ (j : Job) (table x : List Float) (a : Answer) (point grad : List Float)
       (ap (λ (t : Bool). t && eqb (length grad) (j .n)) (sym (and-true (eqb (length table) (j .rows * j .n) && true))))
 
   -- an accepted assessment decides
-  accepted-says : is-accepted (job-oracle j) (j .n) (j .rows) table (asked-point a x point) grad ≡ true → said-by (assessed .0 .verdict) (a .found) ≡ yes-if (is-of j table x a point)
+  accepted-says : is-accepted (job-oracle j) (j .n) (j .rows) table (asked-point a x point) grad ≡ true → belonging-of (assessed .0 .verdict) (a .found) ≡ yes-if (is-of j table x a point)
   accepted-says h =
       let r = feas-rule (job-oracle j) (j .n) (j .rows) table (asked-point a x point) grad h in
       let v = r .verdict-is in
@@ -128,9 +128,9 @@ module _ (j : Job) (table x : List Float) (a : Answer) (point grad : List Float)
       neither true false v w e = refl
       neither false u v w e = refl
 
-  pub belongs-said : (eqb (length x) (j .n) && eqb (length point) (j .n)) ≡ true → (p : List Float) → p ≡ asked-point a x point → (r : Assessed) (g : List Float)
-      → (r, g) ≡ assess-feas-answer (job-oracle j) (j .n) (j .rows) table p grad → (b : Belonging) → b ≡ said-by (r .verdict) (a .found) → (b, g) ≡ belongs-answer j table x a point grad
-  belongs-said h p ep r g e b eb =
+  pub belongs-by : (eqb (length x) (j .n) && eqb (length point) (j .n)) ≡ true → (p : List Float) → p ≡ asked-point a x point → (r : Assessed) (g : List Float)
+      → (r, g) ≡ assess-feas-answer (job-oracle j) (j .n) (j .rows) table p grad → (b : Belonging) → b ≡ belonging-of (r .verdict) (a .found) → (b, g) ≡ belongs-answer j table x a point grad
+  belongs-by h p ep r g e b eb =
       let w = and-parts (eqb (length x) (j .n)) (eqb (length point) (j .n)) h in
       ap (λ (z : Belonging). (z, g)) eb
       ∙ ap says (e ∙ ap (λ (l : List Float). assess-feas-answer (job-oracle j) (j .n) (j .rows) table l grad) ep)

@@ -11,16 +11,17 @@ use lib.Ieee.{Float}
 use Rattle.oracles.specs.Verdict.{judge, is-feasible}
 use Rattle.oracles.specs.Ell.{EllBuffers}
 use Rattle.drivers.specs.Record.{fronted}
-use Rattle.drivers.specs.CuttingPlane.{State, feas-run, kept, is-found, run-tests, feas-answer}
+use Rattle.drivers.specs.CuttingPlane.{State, kept, run-tests}
+use Rattle.drivers.specs.CuttingPlaneFeas.{feas-run, is-found, feas-answer}
 use Rattle.drivers.specs.Job.{read-job-answer}
 use Rattle.drivers.specs.Belongs.{feasible-for, is-of}
-use Rattle.drivers.specs.laws.StepRight.{right-fits}
+use Rattle.drivers.specs.laws.StepSound.{sound-fits}
 use Rattle.drivers.specs.laws.RunEnds.{RunEnded, asked-again}
 use Rattle.drivers.specs.laws.Job.{JobSound}
-use Rattle.drivers.specs.laws.JobRuns.{JobSlices, job-sound, held-slices, job-space, job-right, job-ends}
+use Rattle.drivers.specs.laws.JobRuns.{JobSlices, job-sound, held-slices, job-state, job-run-sound, job-ends}
 use Rattle.drivers.specs.declared.answer.Answer.{Answer}
-use Rattle.drivers.specs.declared.cutting_plane.FeasAnswer.{FeasAnswer}
-use Rattle.drivers.specs.declared.cutting_plane.FeasAnswer.the-variants.{Ended}
+use Rattle.drivers.specs.declared.cutting_plane_feas.FeasAnswer.{FeasAnswer}
+use Rattle.drivers.specs.declared.cutting_plane_feas.FeasAnswer.the-variants.{Ended}
 use Rattle.drivers.specs.declared.job.Job.{Job}
 use Rattle.drivers.specs.declared.job.JobAnswer.the-variants.{Read}
 use Rattle.numbers.specs.laws.Pick.{is-hit, both-ways}
@@ -37,7 +38,7 @@ pub record Answered (j : Job) (table x : List Float) (r : FeasAnswer × State ×
   pub belongs : 1 ≤ j .options .«max_iters» → is-of j table x answer (take (j .n) (r .2)) ≡ true
 
 module _ (j : Job) (h : JobSound j) (table : List Float) (b : EllBuffers) (grad best : List Float) (l : JobSlices j table b grad) (room : j .n ≤ length best) where
-  pub job-answered : Answered j table (b .xc) (feas-answer (j .options) (j .rows) table (job-space j b grad) best)
+  pub job-answered : Answered j table (b .xc) (feas-answer (j .options) (j .rows) table (job-state j b grad) best)
   unfolding feas-answer
   job-answered =
       subst (λ z. Answered j table (b .xc) z) (sym is) (record {
@@ -49,7 +50,7 @@ module _ (j : Job) (h : JobSound j) (table : List Float) (b : EllBuffers) (grad 
       })
     where
       s : State
-      s = job-space j b grad
+      s = job-state j b grad
 
       r : FeasAnswer × State
       r = feas-run (j .rows) table (j .options .tolerance) (j .options .«max_iters») 0 s
@@ -58,10 +59,10 @@ module _ (j : Job) (h : JobSound j) (table : List Float) (b : EllBuffers) (grad 
       e = job-ends j h table b grad l
 
       is : feas-answer (j .options) (j .rows) table s best ≡ (r .0, r .1, kept (is-found (r .0)) (r .1 .buffers .xc) best)
-      is = sym (accepts _ _ (run-tests (j .rows) table s best) (at-next (sym (job-right j h table b grad l)) (held _ _ (le-leb (j .n) (length best) room))) refl)
+      is = sym (accepts _ _ (run-tests (j .rows) table s best) (at-next (sym (job-run-sound j h table b grad l)) (held _ _ (le-leb (j .n) (length best) room))) refl)
 
       xc-long : length (r .1 .buffers .xc) ≡ j .n
-      xc-long = right-fits (j .rows) table (r .1) (e .right) .long .xc-long ∙ e .ndim-stays
+      xc-long = sound-fits (j .rows) table (r .1) (e .sound) .long .xc-long ∙ e .ndim-stays
 
       point-is : e .answer .found ≡ true → take (j .n) (kept (is-found (r .0)) (r .1 .buffers .xc) best) ≡ r .1 .buffers .xc
       point-is f =
@@ -80,7 +81,7 @@ pub read-answered : (bytes : List ℕ) (table xc mq table′ xc′ mq′ : List 
     → (grad grad-t best : List Float) → length grad ≡ j .n → length grad-t ≡ j .n → j .n ≤ length best
     → let rows = take (j .rows * j .n) table′ in
     let b : EllBuffers = record { mq = take (j .n * j .n) mq′; xc = take (j .n) xc′; grad-t = grad-t } in
-    Answered j rows (take (j .n) xc′) (feas-answer (j .options) (j .rows) rows (job-space j b grad) best)
+    Answered j rows (take (j .n) xc′) (feas-answer (j .options) (j .rows) rows (job-state j b grad) best)
 read-answered bytes table xc mq table′ xc′ mq′ j e grad grad-t best g t room =
     let h = job-sound bytes table xc mq j table′ xc′ mq′ e in
     job-answered j (h .0) _ _ grad best (held-slices j table′ xc′ mq′ grad grad-t (h .1) g t) room

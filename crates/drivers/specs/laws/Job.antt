@@ -19,10 +19,22 @@ use Rattle.oracles.specs.Scan.{none, is-rows}
 use Rattle.oracles.specs.LowpassOracle.{start-oracle, has-band, bands-fit, cursors-fit}
 use Rattle.oracles.specs.laws.Start.{start-before}
 use Rattle.oracles.specs.declared.lowpass_oracle.LowpassOracle.{LowpassOracle}
-use Rattle.drivers.specs.Record.{length-at, start-of, half-at, fields-of, lengths-fault, place}
-use Rattle.drivers.specs.Job.{row-end, job-oracle, job-at, job-walk, size-fault, job-fault}
+use Rattle.drivers.specs.Record.{size-fault, length-at, start-of, half-at, fields-of, lengths-fault, place}
+use Rattle.drivers.specs.Job.{row-end, job-oracle, job-at, job-walk, job-fault}
 use Rattle.drivers.specs.declared.job.Job.{Job}
 use Rattle.drivers.specs.Rules.{rule-length, bands-place, cursors-place, n-place}
+
+-- ---- the tests behind the walk, as the code makes them: of the job's oracle, and before those tag 01's and the other lengths
+
+abbrev pub oracle-fault : Job → List ℕ → Fault
+oracle-fault j places =
+    ask-at (start-of (place places bands-place)) (bands-fit (job-oracle j) (j .rows)) Band
+    ⨾ ask-at (start-of (place places cursors-place)) (cursors-fit (job-oracle j)) Cursor
+
+abbrev pub content-fault : List ℕ → List ℕ → Fault
+content-fault bytes places =
+    let j = job-at bytes places in
+    size-fault n-place 2 bytes (place places n-place) ⨾ lengths-fault (j .n) bytes (fields-of bytes) ⨾ oracle-fault j places
 
 -- the range of a dimension that no fault comes from
 pub size-sound : (rule least : ℕ) (bytes : List ℕ) (p : ℕ) → size-fault rule least bytes p ≡ Sound → (leb least (half-at bytes p) && leb (half-at bytes p) 32) ≡ true
@@ -82,8 +94,8 @@ sound-job bytes e =
     let f₂ = lengths-fault (j .n) bytes (fields-of bytes) in
     let f₃ = ask-at (start-of (place places bands-place)) (bands-fit (job-oracle j) (j .rows)) Band in
     let f₄ = ask-at (start-of (place places cursors-place)) (cursors-fit (job-oracle j)) Cursor in
-    let s₁ = both-sound f₁ (f₂ ⨾ f₃ ⨾ f₄) (both-sound (job-walk bytes .0) (f₁ ⨾ f₂ ⨾ f₃ ⨾ f₄) e .1) in
-    let s₃ = both-sound f₃ f₄ (both-sound f₂ (f₃ ⨾ f₄) (s₁ .1) .1) in
+    let s₁ = both-sound f₁ (f₂ ⨾ oracle-fault j places) (both-sound (job-walk bytes .0) (content-fault bytes places) e .1) in
+    let s₃ = both-sound f₃ f₄ (both-sound f₂ (oracle-fault j places) (s₁ .1) .1) in
     record {
       dimension = size-sound n-place 2 bytes (place places n-place) (s₁ .0);
       bands = ask-sound _ Band _ (s₃ .0);

@@ -20,11 +20,12 @@ use Rattle.numbers.specs.laws.Refusal.{both-sound, ask-sound}
 use Rattle.oracles.specs.Ell.{EllBuffers}
 use Rattle.oracles.specs.laws.EllCalls.{EllLong, ell-makes}
 use Rattle.drivers.specs.Record.{number-at, numbers-at, fields-of, row-count, rows-of, is-row, rows-in, content-of, fronted, place}
-use Rattle.drivers.specs.CuttingPlane.{State, check-space, feas-run}
+use Rattle.drivers.specs.CuttingPlane.{State, check-state}
+use Rattle.drivers.specs.CuttingPlaneFeas.{feas-run}
 use Rattle.drivers.specs.Job.{FullJob, job-oracle, job-at, full-job-at, job-walk, full-job, job-fault, has-room, room-fault, read-job-answer}
 use Rattle.drivers.specs.laws.Job.{JobSound, sound-job}
-use Rattle.drivers.specs.Trace.{run-of, new-run-answer, space-of}
-use Rattle.drivers.specs.laws.StepRight.{fits-right}
+use Rattle.drivers.specs.Run.{run-of, new-run-answer, run-state}
+use Rattle.drivers.specs.laws.StepSound.{fits-sound}
 use Rattle.drivers.specs.laws.RunEnds.{RunEnded, run-ends}
 use Rattle.numbers.specs.declared.refusal.Refusal.the-variants.{Room}
 use Rattle.numbers.specs.declared.refusal.Fault.{Fault}
@@ -32,8 +33,8 @@ use Rattle.numbers.specs.declared.refusal.Fault.the-variants.{Sound, At}
 use Rattle.drivers.specs.declared.job.Job.{Job}
 use Rattle.drivers.specs.declared.job.JobAnswer.{JobAnswer}
 use Rattle.drivers.specs.declared.job.JobAnswer.the-variants.{Read, Refused}
-use Rattle.drivers.specs.declared.trace.Run.{Run}
-use Rattle.drivers.specs.declared.trace.NewRun.the-variants.{Made}
+use Rattle.drivers.specs.declared.run.Run.{Run}
+use Rattle.drivers.specs.declared.run.NewRun.the-variants.{Made}
 use Rattle.drivers.specs.Rules.{matrix-place, point-place}
 use Rattle.numbers.specs.laws.Over.{length-over}
 
@@ -121,8 +122,8 @@ abbrev pub job-run : Job → Run
 job-run j =
     record { oracle = job-oracle j; ell = record { ndim = j .n; kappa = j .kappa; helper = made (j .n); tsq = 0ᶠ }; options = j .options; rows = j .rows; niter = 0 }
 
-abbrev pub job-space : Job → EllBuffers → List Float → State
-job-space j b grad = space-of (job-run j) b grad
+abbrev pub job-state : Job → EllBuffers → List Float → State
+job-state j b grad = run-state (job-run j) b grad
 
 pub run-made : (j : Job) → JobSound j → new-run-answer j ≡ Made (job-run j)
 run-made j h = ap (λ z. run-of j z) (ell-makes (j .n) (j .kappa) (h .dimension))
@@ -144,8 +145,8 @@ held-slices j table xc mq grad grad-t h g t = record {
 
 module _ (j : Job) (h : JobSound j) (table : List Float) (b : EllBuffers) (grad : List Float) (l : JobSlices j table b grad) where
   -- so its run is not refused
-  pub job-right : check-space (j .rows) table (job-space j b grad) ≡ Sound
-  job-right = fits-right (j .rows) table (job-space j b grad) (j .n) (record {
+  pub job-run-sound : check-state (j .rows) table (job-state j b grad) ≡ Sound
+  job-run-sound = fits-sound (j .rows) table (job-state j b grad) (j .n) (record {
     ndim-is = refl;
     dimension = h .dimension;
     table-long = l .table-long;
@@ -157,5 +158,5 @@ module _ (j : Job) (h : JobSound j) (table : List Float) (b : EllBuffers) (grad 
 
   -- nor is any step of it: it ends with an answer, within the job's step limit
   pub job-ends : let left = j .options .«max_iters» in
-      RunEnded (j .rows) table left 0 (job-space j b grad) (feas-run (j .rows) table (j .options .tolerance) left 0 (job-space j b grad))
-  job-ends = run-ends (j .rows) table (j .options .tolerance) (j .options .«max_iters») 0 (job-space j b grad) job-right
+      RunEnded (j .rows) table left 0 (job-state j b grad) (feas-run (j .rows) table (j .options .tolerance) left 0 (job-state j b grad))
+  job-ends = run-ends (j .rows) table (j .options .tolerance) (j .options .«max_iters») 0 (job-state j b grad) job-run-sound

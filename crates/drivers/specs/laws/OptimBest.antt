@@ -14,9 +14,10 @@ use Rattle.oracles.specs.Verdict.{feasible, Has, asked, judge, value-in}
 use Rattle.oracles.specs.laws.Judge.{judge-feasible, unbroken-feasible}
 use Rattle.oracles.specs.declared.lowpass_oracle.LowpassOracle.{LowpassOracle}
 use Rattle.drivers.specs.Record.{fronted}
-use Rattle.drivers.specs.CuttingPlane.{OptimState, check-space, kept, plain, optim-step}
-use Rattle.drivers.specs.laws.StepRight.{right-fits}
-use Rattle.drivers.specs.laws.OptimRight.{offer-asked, Keeps, Passes, optim-step-right}
+use Rattle.drivers.specs.CuttingPlaneOptim.{OptimState, plain, optim-step}
+use Rattle.drivers.specs.CuttingPlane.{check-state, kept}
+use Rattle.drivers.specs.laws.StepSound.{sound-fits}
+use Rattle.drivers.specs.laws.OptimSound.{offer-asked, Keeps, Passes, optim-step-sound}
 use Rattle.numbers.specs.declared.refusal.Fault.the-variants.{Sound}
 use Rattle.numbers.specs.laws.Pick.{or-parts, is-hit, by-test}
 use Rattle.numbers.specs.laws.Over.{front-over, length-over}
@@ -57,7 +58,7 @@ tighter o offer gamma n rows table x row e h =
 
 -- ---- between the steps
 
--- the space after so many steps
+-- the state after so many steps
 unfoldable pub after-steps : ℕ → List Float → ℕ → OptimState → OptimState
 after-steps rows table zero s = s
 after-steps rows table (suc i) s = optim-step rows table (after-steps rows table i s) .1
@@ -89,28 +90,28 @@ module _ (rows : ℕ) (table : List Float) (s₀ : OptimState) (k₀ : ℕ) wher
     pub unwritten : s .found ≡ false → (s .best ≡ s₀ .best) × (s .gamma ≡ s₀ .gamma)
 
   -- s stands before step k of a run that began with s₀ at step k₀: the tests pass, and the questions stay
-  pub record Going (k : ℕ) (s : OptimState) : Type 0 where
+  pub record BeforeStep (k : ℕ) (s : OptimState) : Type 0 where
     pub taken : ℕ
     pub k-is : k ≡ k₀ + taken
     pub reached : s ≡ after-steps rows table taken s₀
-    pub right : check-space rows table (plain s) ≡ Sound
+    pub sound : check-state rows table (plain s) ≡ Sound
     pub ndim-is : s .ell .ndim ≡ n
     pub asks-same : (gamma : Float) (m : ℕ) (x : List Float) → asked (s .oracle) gamma m rows table x ≡ asked (s₀ .oracle) gamma m rows table x
     pub held : Held taken s
 
-  pub start : check-space rows table (plain s₀) ≡ Sound → Going k₀ s₀
+  pub start : check-state rows table (plain s₀) ≡ Sound → BeforeStep k₀ s₀
   unfolding after-steps
-  start right = record {
+  start sound = record {
     taken = 0;
     k-is = omega arith;
     reached = refl;
-    right = right;
+    sound = sound;
     ndim-is = refl;
     asks-same = λ gamma m x. refl;
     held = record { best-long = refl; best-is = λ f _ t. absurd (true≢false (sym t ∙ f)); unwritten = λ _. (refl, refl) };
   }
 
-  module _ (k : ℕ) (s : OptimState) (g : Going k s) where
+  module _ (k : ℕ) (s : OptimState) (g : BeforeStep k s) where
     -- a step that keeps its centre, and one that does not
     keeps-held : (s′ : OptimState) → Keeps rows table s s′ → Held (suc (g .taken)) s′
     keeps-held s′ p = record {
@@ -131,7 +132,7 @@ module _ (rows : ℕ) (table : List Float) (s₀ : OptimState) (k₀ : ℕ) wher
         front : n ≤ length (s₀ .best) → take n (s′ .best) ≡ xc
         front room =
             ap (λ (z : List Float). take n z) (p .best-is)
-            ∙ kept-front n xc (s .best) (right-fits rows table (plain s) (g .right) .long .xc-long ∙ g .ndim-is) (omega (arith, room, g .held .best-long))
+            ∙ kept-front n xc (s .best) (sound-fits rows table (plain s) (g .sound) .long .xc-long ∙ g .ndim-is) (omega (arith, room, g .held .best-long))
 
         same : n ≤ length (s₀ .best) → offer-asked rows table s ≡ asked (s₀ .oracle) (s .gamma) n rows table (take n (s′ .best))
         same room =
@@ -146,16 +147,16 @@ module _ (rows : ℕ) (table : List Float) (s₀ : OptimState) (k₀ : ℕ) wher
       unwritten = λ f. let w = g .held .unwritten (sym (p .found-stays) ∙ f) in (p .best-stays ∙ w .0, p .gamma-stays ∙ w .1);
     }
 
-    pub next : Going (suc k) (optim-step rows table s .1)
+    pub next : BeforeStep (suc k) (optim-step rows table s .1)
     unfolding after-steps
     next =
         let s′ = optim-step rows table s .1 in
-        let h = optim-step-right rows table s (g .right) in
+        let h = optim-step-sound rows table s (g .sound) in
         record {
           taken = suc (g .taken);
           k-is = omega (arith, g .k-is);
           reached = ap (λ (z : OptimState). optim-step rows table z .1) (g .reached);
-          right = h .right;
+          sound = h .sound;
           ndim-is = h .ndim-stays ∙ g .ndim-is;
           asks-same = λ gamma m x. h .asks-same gamma m x ∙ g .asks-same gamma m x;
           held = elim (h .keeps-or-passes) [ inl p ↦ keeps-held s′ p | inr p ↦ passes-held s′ p ];

@@ -16,22 +16,23 @@ use Rattle.oracles.specs.Ell.{EllBuffers}
 use Rattle.drivers.specs.Record.{fronted}
 use Rattle.drivers.specs.Job.{FullJob, job-oracle, options-of, job-at, full-job-at, job-walk, full-job, job-fault, has-room, room-fault, read-into, read-job-answer}
 use Rattle.drivers.specs.laws.Job.{JobSound, n-to, rows-to, sound-job}
-use Rattle.drivers.specs.Trace.{text-room, printed, input-tests, new-run-answer, opened-run, opened-read, with-slices, run-text, open-answer}
+use Rattle.drivers.specs.Trace.{text-room, printed}
+use Rattle.drivers.specs.Run.{input-tests, new-run-answer, opened-run, opened-read, with-slices, run-text, open-answer}
 use Rattle.numbers.specs.laws.Over.{front-over}
 use Rattle.drivers.specs.laws.Trace.{calls-print, text-in, printed-by}
 use Rattle.drivers.specs.laws.Calls.{calls-enough, run-all-text}
-use Rattle.drivers.specs.laws.JobRuns.{JobHeld, FullLong, full-long, room-held, job-sound, held-slices, job-run, job-right, run-made}
-use Rattle.drivers.specs.Program.{refused-text, first-space, job-text, program-text}
+use Rattle.drivers.specs.laws.JobRuns.{JobHeld, FullLong, full-long, room-held, job-sound, held-slices, job-run, job-run-sound, run-made}
+use Rattle.drivers.specs.Program.{refused-text, first-state, job-text, program-text}
 use Rattle.numbers.specs.declared.refusal.Fault.{Fault}
 use Rattle.numbers.specs.declared.refusal.Fault.the-variants.{Sound, At}
 use Rattle.drivers.specs.declared.job.Job.{Job}
 use Rattle.drivers.specs.declared.job.JobAnswer.{JobAnswer}
 use Rattle.drivers.specs.declared.job.JobAnswer.the-variants.{Read, Refused}
-use Rattle.drivers.specs.declared.trace.Run.{Run}
-use Rattle.drivers.specs.declared.trace.NewRun.{NewRun}
-use Rattle.drivers.specs.declared.trace.NewRun.the-variants.{Made, Refused as NoRun}
-use Rattle.drivers.specs.declared.trace.Opened.{Opened}
-use Rattle.drivers.specs.declared.trace.Opened.the-variants.{Going, Over}
+use Rattle.drivers.specs.declared.run.Run.{Run}
+use Rattle.drivers.specs.declared.run.NewRun.{NewRun}
+use Rattle.drivers.specs.declared.run.NewRun.the-variants.{Made, Refused as NoRun}
+use Rattle.drivers.specs.declared.run.Opened.{Opened}
+use Rattle.drivers.specs.declared.run.Opened.the-variants.{Started, Refused as NotStarted}
 use Rattle.drivers.specs.declared.trace.Text.{Text}
 use Rattle.drivers.specs.declared.trace.Text.the-variants.{Bytes, Refused as NoLine}
 use Rattle.numbers.specs.laws.Pick.{is-skip, is-hit}
@@ -40,8 +41,8 @@ use Rattle.numbers.specs.laws.Pick.{is-skip, is-hit}
 
 -- what is printed after `open` has answered, by so many calls of `next` at most
 abbrev pub opened-text : ℕ → Opened → List Float → List Float → List Float → List ℕ → List ℕ
-opened-text calls (Over text) table xc mq out = text-in text out
-opened-text calls (Going run) table xc mq out =
+opened-text calls (NotStarted text) table xc mq out = text-in text out
+opened-text calls (Started run) table xc mq out =
     let n = run .ell .ndim in
     printed-by calls run (take (run .rows * n) table) (record { mq = take (n * n) mq; xc = take n xc; grad-t = replicate n 0ᶠ }) (replicate n 0ᶠ) out
 
@@ -90,8 +91,8 @@ module _ (calls : ℕ) (enough : 65536 ≤ calls) (bytes : List ℕ) (out : List
   -- the run of a sound job
   sound-prints : (f : FullJob) (table xc mq : List Float) → FullLong f → f .job .options .«max_iters» < 65536
       → JobSound (f .job) → JobHeld (f .job) (fronted (f .table) table) (fronted (f .point) xc) (fronted (f .matrix) mq)
-      → opened-text calls (Going (job-run (f .job))) (fronted (f .table) table) (fronted (f .point) xc) (fronted (f .matrix) mq) out ≡ job-text f
-  unfolding first-space job-text
+      → opened-text calls (Started (job-run (f .job))) (fronted (f .table) table) (fronted (f .point) xc) (fronted (f .matrix) mq) out ≡ job-text f
+  unfolding first-state job-text
   sound-prints f table xc mq l small h held =
       let j = f .job in
       let n = j .n in
@@ -99,8 +100,8 @@ module _ (calls : ℕ) (enough : 65536 ≤ calls) (bytes : List ℕ) (out : List
       let rows = take (j .rows * n) (fronted (f .table) table) in
       let b : EllBuffers = record { mq = take (n * n) (fronted (f .matrix) mq); xc = take n (fronted (f .point) xc); grad-t = zeros } in
       let long : length zeros ≡ n = length-replicate n 0ᶠ in
-      let right = job-right j h rows b zeros (held-slices j _ _ _ zeros zeros held long long) in
-      calls-print calls (job-run j) rows b zeros out right room (omega arith)
+      let sound = job-run-sound j h rows b zeros (held-slices j _ _ _ zeros zeros held long long) in
+      calls-print calls (job-run j) rows b zeros out sound room (omega arith)
       ∙ run-text-is (j .rows) (job-oracle j) (job-run j .ell) (j .options .tolerance) (j .options .«max_iters») zeros zeros
       (front-is (f .table) table (j .rows * n) (l .table-is)) (front-is (f .matrix) mq (n * n) (l .matrix-is)) (front-is (f .point) xc n (l .point-is))
 
@@ -137,13 +138,13 @@ module _ (calls : ℕ) (enough : 65536 ≤ calls) (bytes : List ℕ) (out : List
 
 -- Its two ways. The answer of `open` is a line that refuses the job ..
 pub refused-prints : (bytes : List ℕ) (table xc mq table′ xc′ mq′ : List Float) (out out′ : List ℕ) (k : ℕ) → length table ≡ 32768 → length xc ≡ 32 → length mq ≡ 1024
-    → 128 ≤ length out → open-answer bytes table xc mq out ≡ (Over (Bytes k), table′, xc′, mq′, out′) → take k out′ ≡ program-text bytes
+    → 128 ≤ length out → open-answer bytes table xc mq out ≡ (NotStarted (Bytes k), table′, xc′, mq′, out′) → take k out′ ≡ program-text bytes
 refused-prints bytes table xc mq table′ xc′ mq′ out out′ k t x m room e =
     sym (ap (calls-text 65536) e) ∙ program-prints 65536 (omega arith) bytes out room table xc mq t x m
 
 -- .. or a run, whose calls print it.
 pub run-prints-program : (bytes : List ℕ) (table xc mq table′ xc′ mq′ : List Float) (out out′ : List ℕ) (run : Run) → length table ≡ 32768 → length xc ≡ 32
-    → length mq ≡ 1024 → 128 ≤ length out → open-answer bytes table xc mq out ≡ (Going run, table′, xc′, mq′, out′)
+    → length mq ≡ 1024 → 128 ≤ length out → open-answer bytes table xc mq out ≡ (Started run, table′, xc′, mq′, out′)
     → (calls : ℕ) → 65536 ≤ calls
     → let n = run .ell .ndim in
     let zeros = replicate n 0ᶠ in
@@ -153,7 +154,7 @@ run-prints-program bytes table xc mq table′ xc′ mq′ out out′ run t x m r
 
 -- So do all of its calls, and no more can be made.
 pub run-all-prints : (bytes : List ℕ) (table xc mq table′ xc′ mq′ : List Float) (out out′ : List ℕ) (run : Run) → length table ≡ 32768 → length xc ≡ 32
-    → length mq ≡ 1024 → 128 ≤ length out → open-answer bytes table xc mq out ≡ (Going run, table′, xc′, mq′, out′)
+    → length mq ≡ 1024 → 128 ≤ length out → open-answer bytes table xc mq out ≡ (Started run, table′, xc′, mq′, out′)
     → let n = run .ell .ndim in
     let zeros = replicate n 0ᶠ in
     run-all-text run (take (run .rows * n) table′) (record { mq = take (n * n) mq′; xc = take n xc′; grad-t = zeros }) zeros out′ ≡ program-text bytes
@@ -164,13 +165,13 @@ run-all-prints bytes table xc mq table′ xc′ mq′ out out′ run t x m room 
 
 -- Given room, `open` always goes one of these two ways: it never ends without a line.
 abbrev Speaks : Opened → Type 0
-Speaks (Going run) = Unit {0}
-Speaks (Over (Bytes k)) = Unit {0}
-Speaks (Over (NoLine why)) = ⊥
+Speaks (Started run) = Unit {0}
+Speaks (NotStarted (Bytes k)) = Unit {0}
+Speaks (NotStarted (NoLine why)) = ⊥
 
-printed-speaks : (text out : List ℕ) → 128 ≤ length out → Speaks (Over (printed text out .0))
+printed-speaks : (text out : List ℕ) → 128 ≤ length out → Speaks (NotStarted (printed text out .0))
 unfolding printed
-printed-speaks text out h = subst (λ (r : Text × List ℕ). Speaks (Over (r .0))) (accepts _ _ (text-room out) (held _ _ (le-leb 128 (length out) h)) refl) tt
+printed-speaks text out h = subst (λ (r : Text × List ℕ). Speaks (NotStarted (r .0))) (accepts _ _ (text-room out) (held _ _ (le-leb 128 (length out) h)) refl) tt
 
 run-speaks : (r : NewRun) (out : List ℕ) → 128 ≤ length out → Speaks (opened-run out r .0)
 run-speaks (Made run) out h = tt
@@ -180,7 +181,7 @@ read-speaks : (r : JobAnswer) (out : List ℕ) → 128 ≤ length out → Speaks
 read-speaks (Read j) out h = run-speaks (new-run-answer j) out h
 read-speaks (Refused why place) out h = printed-speaks (refused-text why place) out h
 
-pub open-speaks : (bytes : List ℕ) (table xc mq : List Float) (out : List ℕ) → 128 ≤ length out → (why : Refusal) → open-answer bytes table xc mq out .0 ≡ Over (NoLine why) → ⊥
+pub open-speaks : (bytes : List ℕ) (table xc mq : List Float) (out : List ℕ) → 128 ≤ length out → (why : Refusal) → open-answer bytes table xc mq out .0 ≡ NotStarted (NoLine why) → ⊥
 unfolding open-answer
 open-speaks bytes table xc mq out h why e =
     subst Speaks e
@@ -189,8 +190,8 @@ open-speaks bytes table xc mq out h why e =
 
 -- A run that goes has its numbers at the fronts of the slices.
 abbrev Held : Opened × List Float × List Float × List Float × List ℕ → Type 0
-Held (Going run, table, xc, mq, out) = RunHeld run table xc mq
-Held (Over text, table, xc, mq, out) = Unit {0}
+Held (Started run, table, xc, mq, out) = RunHeld run table xc mq
+Held (NotStarted text, table, xc, mq, out) = Unit {0}
 
 module _ (bytes : List ℕ) (table xc mq : List Float) (out : List ℕ) where
   read-held : (r : JobAnswer) (table′ xc′ mq′ : List Float) → read-job-answer bytes table xc mq ≡ (r, table′, xc′, mq′) → Held (with-slices table′ xc′ mq′ (opened-read out r))
@@ -200,7 +201,7 @@ module _ (bytes : List ℕ) (table xc mq : List Float) (out : List ℕ) where
       (record { table-long = h .1 .table-long; xc-long = h .1 .xc-long; mq-long = h .1 .mq-long })
   read-held (Refused why place) table′ xc′ mq′ e = tt
 
-  pub open-held : (run : Run) (table′ xc′ mq′ : List Float) (out′ : List ℕ) → open-answer bytes table xc mq out ≡ (Going run, table′, xc′, mq′, out′) → RunHeld run table′ xc′ mq′
+  pub open-held : (run : Run) (table′ xc′ mq′ : List Float) (out′ : List ℕ) → open-answer bytes table xc mq out ≡ (Started run, table′, xc′, mq′, out′) → RunHeld run table′ xc′ mq′
   unfolding open-answer
   open-held run table′ xc′ mq′ out′ e =
       subst Held e

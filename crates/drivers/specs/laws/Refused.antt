@@ -10,16 +10,18 @@ use lib.Ieee.{Float}
 use Rattle.numbers.specs.declared.refusal.Refusal.{Refusal}
 use Rattle.numbers.specs.laws.Refusal.{both-sound, of-test, of-chain, by-tests}
 use Rattle.oracles.specs.laws.CursorRule.{NotSix, not-six}
-use Rattle.drivers.specs.CuttingPlane.{State, OptimState, OptimLeft, check-of, check-space, run-tests, plain, leaves, feas-answer, optim-answer}
+use Rattle.drivers.specs.CuttingPlane.{State, check-of, check-state, run-tests}
+use Rattle.drivers.specs.CuttingPlaneOptim.{OptimState, OptimEnd, plain, end-of, optim-answer}
+use Rattle.drivers.specs.CuttingPlaneFeas.{feas-answer}
 use Rattle.drivers.specs.Numbered.{optim-number}
 use Rattle.drivers.specs.laws.RunEnds.{run-ends}
 use Rattle.drivers.specs.laws.OptimEnds.{optim-run-ends}
 use Rattle.drivers.specs.declared.answer.Answer.{Answer}
 use Rattle.drivers.specs.declared.cutting_plane.Options.{Options}
-use Rattle.drivers.specs.declared.cutting_plane.FeasAnswer.{FeasAnswer}
-use Rattle.drivers.specs.declared.cutting_plane.FeasAnswer.the-variants.{Ended, Refused as NotRun}
-use Rattle.drivers.specs.declared.cutting_plane.OptimAnswer.{OptimAnswer}
-use Rattle.drivers.specs.declared.cutting_plane.OptimAnswer.the-variants.{Ended as EndedOptim, Halted, Refused as NotRunOptim}
+use Rattle.drivers.specs.declared.cutting_plane_feas.FeasAnswer.{FeasAnswer}
+use Rattle.drivers.specs.declared.cutting_plane_feas.FeasAnswer.the-variants.{Ended, Refused as NotRun}
+use Rattle.drivers.specs.declared.cutting_plane_optim.OptimAnswer.{OptimAnswer}
+use Rattle.drivers.specs.declared.cutting_plane_optim.OptimAnswer.the-variants.{Ended as EndedOptim, Halted, Refused as NotRunOptim}
 
 abbrev is-refused : FeasAnswer → Bool
 is-refused (Ended a) = false
@@ -46,7 +48,7 @@ module _ (options : Options) (rows : ℕ) (table : List Float) where
   unfolding feas-answer
   feas-refused s best why =
       by-tests P (run-tests rows table s best) _ _ (λ w place e. back w)
-      (λ e h. absurd (true≢false (sym (ap is-refused h) ∙ ap is-refused (run-ends rows table (options .tolerance) (options .«max_iters») 0 s (both-sound (check-space rows table s) _ e .0) .answer-is))))
+      (λ e h. absurd (true≢false (sym (ap is-refused h) ∙ ap is-refused (run-ends rows table (options .tolerance) (options .«max_iters») 0 s (both-sound (check-state rows table s) _ e .0) .answer-is))))
     where
       P : FeasAnswer × State × List Float → Type 0
       P r = r .0 ≡ NotRun why → r ≡ (NotRun why, s, best)
@@ -55,19 +57,19 @@ module _ (options : Options) (rows : ℕ) (table : List Float) where
       back w h = ap (λ (a : FeasAnswer). (a, s, best)) h
 
   -- `cutting_plane_optim`
-  pub optim-refused : (s : OptimState) (why : Refusal) → optim-answer options rows table s .answer ≡ NotRunOptim why → optim-answer options rows table s ≡ leaves (NotRunOptim why) s
+  pub optim-refused : (s : OptimState) (why : Refusal) → optim-answer options rows table s .answer ≡ NotRunOptim why → optim-answer options rows table s ≡ end-of (NotRunOptim why) s
   unfolding optim-answer
   optim-refused s why =
       by-tests P (run-tests rows table (plain s) (s .best)) _ _ (λ w place e. back w)
       (λ e h.
-      let r = optim-run-ends rows table s 0 (both-sound (check-space rows table (plain s)) _ e .0) (options .tolerance) (options .«max_iters») in
+      let r = optim-run-ends rows table s 0 (both-sound (check-state rows table (plain s)) _ e .0) (options .tolerance) (options .«max_iters») in
       absurd (true≢false (sym (ap is-refused-optim h) ∙ begun _ (r .answer) (r .outcome))))
     where
-      P : OptimLeft → Type 0
-      P r = r .answer ≡ NotRunOptim why → r ≡ leaves (NotRunOptim why) s
+      P : OptimEnd → Type 0
+      P r = r .answer ≡ NotRunOptim why → r ≡ end-of (NotRunOptim why) s
 
-      back : (w : Refusal) → P (leaves (NotRunOptim w) s)
-      back w h = ap (λ (a : OptimAnswer). leaves a s) h
+      back : (w : Refusal) → P (end-of (NotRunOptim w) s)
+      back w h = ap (λ (a : OptimAnswer). end-of a s) h
 
       begun : (a : OptimAnswer) (d : Answer) → ((a ≡ EndedOptim d) × (optim-number a ≡ 0)) ⊎ ((a ≡ Halted d) × (optim-number a ≡ 6)) → is-refused-optim a ≡ false
       begun a d (inl e) = ap is-refused-optim (e .0)
@@ -79,10 +81,10 @@ module _ (options : Options) (rows : ℕ) (table : List Float) where
   six-halted s =
       by-tests P (run-tests rows table (plain s) (s .best)) _ _ (λ w place e. subst NotSix e (run-not-six rows table (plain s) (s .best)) .no)
       (λ e.
-      let r = optim-run-ends rows table s 0 (both-sound (check-space rows table (plain s)) _ e .0) (options .tolerance) (options .«max_iters») in
+      let r = optim-run-ends rows table s 0 (both-sound (check-state rows table (plain s)) _ e .0) (options .tolerance) (options .«max_iters») in
       begun _ (r .answer) (r .outcome))
     where
-      P : OptimLeft → Type 0
+      P : OptimEnd → Type 0
       P r = eqb (optim-number (r .answer)) 6 ≡ was-halted (r .answer)
 
       begun : (a : OptimAnswer) (d : Answer) → ((a ≡ EndedOptim d) × (optim-number a ≡ 0)) ⊎ ((a ≡ Halted d) × (optim-number a ≡ 6)) → eqb (optim-number a) 6 ≡ was-halted a

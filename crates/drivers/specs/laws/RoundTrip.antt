@@ -22,11 +22,12 @@ use Rattle.numbers.specs.declared.refusal.Refusal.the-variants.{Dimension, Leng
 use Rattle.numbers.specs.declared.refusal.Fault.{Fault}
 use Rattle.numbers.specs.declared.refusal.Fault.the-variants.{Sound}
 use Rattle.drivers.specs.Text.{joined}
-use Rattle.drivers.specs.Record.{tag-at, half-at, numbers-at, no-places, place, missing-fault, fronted}
+use Rattle.drivers.specs.Record.{byte-at, half-at, numbers-at, no-places, place, missing-fault, fronted}
 use Rattle.drivers.specs.Fields.{Field, record-bytes}
 use Rattle.drivers.specs.Answer.{has-point, outcome-byte, answer-at, point-at, answer-walk, outcome-fault, answer-fault, read-answer-answer, outcome-field, steps-field, point-field, answer-bytes, write-answer-tests, write-answer-answer}
 use Rattle.drivers.specs.laws.Answer.{room-there}
-use Rattle.drivers.specs.laws.Fields.{AllF64, length-numbers, numbers-read, Writable, Each, Sized, size-row, sizes-sound, walk-tags, record-written, lengths-written, content-written}
+use Rattle.drivers.specs.laws.OneField.{AllF64, length-numbers, numbers-read, Writable, size-row}
+use Rattle.drivers.specs.laws.Fields.{Each, Sized, sizes-sound, walk-tags, record-written, lengths-written, content-written}
 use Rattle.drivers.specs.declared.answer.Answer.{Answer}
 use Rattle.drivers.specs.declared.answer.AnswerRead.the-variants.{Read}
 use Rattle.drivers.specs.declared.answer.AnswerWritten.{AnswerWritten}
@@ -45,7 +46,7 @@ module _ (n : ℕ) (fs : List Field) (places : List ℕ) (point : List Float) wh
     sized : Each (Sized n) fs
     walked : walk-tags answer-form 0 fs no-places ≡ (Sound, places)
     none-missing : missing-fault (length bytes) answer-form places ≡ Sound
-    outcome : tag-at bytes (place places outcome-place) ≡ outcome-byte (has-point places)
+    outcome : byte-at bytes (place places outcome-place) ≡ outcome-byte (has-point places)
     room : (has-point places && ltb (length point) n) ≡ false
 
   module _ (t : Taken) where
@@ -74,7 +75,7 @@ module _ (n s : ℕ) (point : List Float) (dimension : is-dimension n ≡ true) 
     abbrev written : List ℕ
     written = record-bytes (outcome-field t ∷ steps-field s ∷ fs)
 
-    outcome-read : tag-at written 3 ≡ outcome-byte t
+    outcome-read : byte-at written 3 ≡ outcome-byte t
     unfolding joined
     outcome-read = word-low written 3 1 (outcome-byte t) _ (omega arith) o (content-written [] (outcome-field t) (steps-field s ∷ fs))
 

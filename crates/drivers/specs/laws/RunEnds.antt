@@ -6,17 +6,18 @@ use mathlib.Core.List.{List}
 use native.Mathlib.Omega.{arith}
 use lib.Ieee.{Float}
 use Rattle.oracles.specs.Verdict.{Limits, limits, asked, judge, is-feasible}
-use Rattle.drivers.specs.CuttingPlane.{State, check-space, feas-step, goes-on, feas-ended, feas-run}
-use Rattle.drivers.specs.laws.StepRight.{centre-asked, says-feasible, Stepped, step-right}
+use Rattle.drivers.specs.CuttingPlane.{State, check-state}
+use Rattle.drivers.specs.CuttingPlaneFeas.{feas-step, goes-on, feas-ended, feas-run}
+use Rattle.drivers.specs.laws.StepSound.{centre-asked, says-feasible, Stepped, step-sound}
 use Rattle.drivers.specs.declared.answer.Answer.{Answer}
 use Rattle.numbers.specs.declared.refusal.Fault.the-variants.{Sound}
-use Rattle.drivers.specs.declared.cutting_plane.Said.{Said}
-use Rattle.drivers.specs.declared.cutting_plane.Said.the-variants.{Feasible, Cut, Refused}
-use Rattle.drivers.specs.declared.cutting_plane.FeasAnswer.{FeasAnswer}
-use Rattle.drivers.specs.declared.cutting_plane.FeasAnswer.the-variants.{Ended}
+use Rattle.drivers.specs.declared.cutting_plane_feas.StepAnswer.{StepAnswer}
+use Rattle.drivers.specs.declared.cutting_plane_feas.StepAnswer.the-variants.{Feasible, Cut, Refused}
+use Rattle.drivers.specs.declared.cutting_plane_feas.FeasAnswer.{FeasAnswer}
+use Rattle.drivers.specs.declared.cutting_plane_feas.FeasAnswer.the-variants.{Ended}
 use Rattle.numbers.specs.laws.Pick.{by-test}
 
--- whether the centre of a space is feasible
+-- whether the centre of a state is feasible
 abbrev pub centre-feasible : ℕ → List Float → State → Bool
 centre-feasible rows table s = is-feasible (judge (centre-asked rows table s))
 
@@ -32,7 +33,7 @@ pub record RunEnded (rows : ℕ) (table : List Float) (left k : ℕ) (s : State)
   pub none-feasible : answer .found ≡ false → 1 ≤ left → centre-feasible rows table s ≡ false
   pub ndim-stays : r .1 .ell .ndim ≡ s .ell .ndim
   pub limits-stay : limits (r .1 .oracle) ≡ limits (s .oracle)
-  pub right : check-space rows table (r .1) ≡ Sound
+  pub sound : check-state rows table (r .1) ≡ Sound
 
 module _ (rows : ℕ) (table : List Float) where
   -- what is asked about the centre of s′ is what the oracle of s would be asked about it
@@ -43,7 +44,7 @@ module _ (rows : ℕ) (table : List Float) where
       ∙ ap (λ (l : Limits). record { n = s .ell .ndim; rows = rows; limits = l; table = table; x = s′ .buffers .xc }) l-is
 
   -- a step that is the last
-  last-step : (left k : ℕ) (s : State) (said : Said) (s′ : State) → Stepped rows table s (said, s′) → RunEnded rows table (suc left) k s (feas-ended said k, s′)
+  last-step : (left k : ℕ) (s : State) (answer : StepAnswer) (s′ : State) → Stepped rows table s (answer, s′) → RunEnded rows table (suc left) k s (feas-ended answer k, s′)
   last-step left k s Feasible s′ h = record {
     answer = record { found = true; steps = k };
     answer-is = refl;
@@ -58,7 +59,7 @@ module _ (rows : ℕ) (table : List Float) where
     none-feasible = λ e _. absurd (true≢false e);
     ndim-stays = h .ndim-stays;
     limits-stay = h .limits-stay;
-    right = h .right;
+    sound = h .sound;
   }
   last-step left k s (Cut group beta status) s′ h = record {
     answer = record { found = false; steps = k };
@@ -70,19 +71,19 @@ module _ (rows : ℕ) (table : List Float) where
     none-feasible = λ _ _. sym (h .verdict-is);
     ndim-stays = h .ndim-stays;
     limits-stay = h .limits-stay;
-    right = h .right;
+    sound = h .sound;
   }
   last-step left k s (Refused why) s′ h = absurd (true≢false (h .not-refused))
 
   -- a step after which the run goes on, and the run from there
-  goes-infeasible : (said : Said) (tsq tolerance : Float) → goes-on said tsq tolerance ≡ true → says-feasible said ≡ false
+  goes-infeasible : (answer : StepAnswer) (tsq tolerance : Float) → goes-on answer tsq tolerance ≡ true → says-feasible answer ≡ false
   goes-infeasible Feasible tsq tolerance e = sym e
   goes-infeasible (Cut group beta status) tsq tolerance e = refl
   goes-infeasible (Refused why) tsq tolerance e = refl
 
-  pub run-ends : (tolerance : Float) (left k : ℕ) (s : State) → check-space rows table s ≡ Sound → RunEnded rows table left k s (feas-run rows table tolerance left k s)
+  pub run-ends : (tolerance : Float) (left k : ℕ) (s : State) → check-state rows table s ≡ Sound → RunEnded rows table left k s (feas-run rows table tolerance left k s)
   unfolding feas-run
-  run-ends tolerance zero k s right = record {
+  run-ends tolerance zero k s sound = record {
     answer = record { found = false; steps = k };
     answer-is = refl;
     steps-from = omega arith;
@@ -92,14 +93,14 @@ module _ (rows : ℕ) (table : List Float) where
     none-feasible = λ _ l. absurd (omega (arith, l));
     ndim-stays = refl;
     limits-stay = refl;
-    right = right;
+    sound = sound;
   }
-  run-ends tolerance (suc left) k s right =
+  run-ends tolerance (suc left) k s sound =
       let r = feas-step rows table s in
-      let h = step-right rows table s right in
+      let h = step-sound rows table s sound in
       by-test (λ z. RunEnded rows table (suc left) k s z) (goes-on (r .0) (r .1 .ell .tsq) tolerance) (feas-run rows table tolerance left (suc k) (r .1)) (feas-ended (r .0) k, r .1)
       (λ t.
-      let e = run-ends tolerance left (suc k) (r .1) (h .right) in
+      let e = run-ends tolerance left (suc k) (r .1) (h .sound) in
       record {
         answer = e .answer;
         answer-is = e .answer-is;
@@ -110,6 +111,6 @@ module _ (rows : ℕ) (table : List Float) where
         none-feasible = λ _ _. sym (h .verdict-is) ∙ goes-infeasible (r .0) (r .1 .ell .tsq) tolerance t;
         ndim-stays = e .ndim-stays ∙ h .ndim-stays;
         limits-stay = e .limits-stay ∙ h .limits-stay;
-        right = e .right;
+        sound = e .sound;
       })
       (λ _. last-step left k s (r .0) (r .1) h)

@@ -26,18 +26,20 @@ use Rattle.oracles.specs.declared.lowpass_oracle.Group.{Group}
 use Rattle.oracles.specs.declared.lowpass_oracle.Group.the-variants.{Pass, Stop, Middle, Sign}
 use Rattle.drivers.specs.Text.{joined, hex}
 use Rattle.drivers.specs.laws.Text.{length-decimal, length-hex, most-more, most-on, most-none, put-front, joined-append, joined-none, put-all}
-use Rattle.drivers.specs.Trace.{group-word, row-text, side-word, beta-pieces, status-word, said-pieces, outcome-word, last-pieces, ended-pieces, refused-pieces, text-room, printed, step-text, space-of, run-at, step-printed, limit-printed, next-tests, next-answer, run-text}
-use Rattle.drivers.specs.CuttingPlane.{State, check-space, feas-step, goes-on, feas-ended, feas-run}
-use Rattle.drivers.specs.laws.StepRight.{step-right}
+use Rattle.drivers.specs.Trace.{group-word, row-text, side-word, beta-pieces, status-word, answer-pieces, outcome-word, last-pieces, ended-pieces, refused-pieces, text-room, printed, step-text}
+use Rattle.drivers.specs.Run.{run-state, run-at, step-printed, limit-printed, next-tests, next-answer, run-text}
+use Rattle.drivers.specs.CuttingPlane.{State, check-state}
+use Rattle.drivers.specs.CuttingPlaneFeas.{feas-step, goes-on, feas-ended, feas-run}
+use Rattle.drivers.specs.laws.StepSound.{step-sound}
 use Rattle.drivers.specs.declared.answer.Answer.{Answer}
-use Rattle.drivers.specs.declared.cutting_plane.Said.{Said}
-use Rattle.drivers.specs.declared.cutting_plane.Said.the-variants.{Feasible, Cut, Refused as NotStepped}
-use Rattle.drivers.specs.declared.cutting_plane.FeasAnswer.{FeasAnswer}
-use Rattle.drivers.specs.declared.cutting_plane.FeasAnswer.the-variants.{Ended, Refused as NotRun}
+use Rattle.drivers.specs.declared.cutting_plane_feas.StepAnswer.{StepAnswer}
+use Rattle.drivers.specs.declared.cutting_plane_feas.StepAnswer.the-variants.{Feasible, Cut, Refused as NotStepped}
+use Rattle.drivers.specs.declared.cutting_plane_feas.FeasAnswer.{FeasAnswer}
+use Rattle.drivers.specs.declared.cutting_plane_feas.FeasAnswer.the-variants.{Ended, Refused as NotRun}
 use Rattle.numbers.specs.declared.refusal.Fault.the-variants.{Sound}
 use Rattle.numbers.specs.laws.Refusal.{held, at-next, accepts, failed, refuses}
-use Rattle.drivers.specs.declared.trace.Run.{Run}
-use Rattle.drivers.specs.declared.trace.Printed.{Printed}
+use Rattle.drivers.specs.declared.run.Run.{Run}
+use Rattle.drivers.specs.declared.run.Printed.{Printed}
 use Rattle.drivers.specs.declared.trace.Text.the-variants.{Bytes, Refused}
 use Rattle.drivers.specs.declared.trace.Text.{Text}
 
@@ -47,11 +49,11 @@ unfoldable pub cut-lines : ℕ → List Float → Float → ℕ → ℕ → Stat
 cut-lines rows table tolerance zero k s = []
 cut-lines rows table tolerance (suc left) k s =
     let r = feas-step rows table s in
-    joined (said-pieces k (r .0)) ++ pick (goes-on (r .0) (r .1 .ell .tsq) tolerance) (cut-lines rows table tolerance left (suc k) (r .1)) []
+    joined (answer-pieces k (r .0)) ++ pick (goes-on (r .0) (r .1 .ell .tsq) tolerance) (cut-lines rows table tolerance left (suc k) (r .1)) []
 
 -- what a run has still to print
 abbrev pub text-left : Run → List Float → EllBuffers → List Float → List ℕ
-text-left run table b grad = run-text (run .rows) table (run .options .tolerance) (run .options .«max_iters» - run .niter) (run .niter) (space-of run b grad)
+text-left run table b grad = run-text (run .rows) table (run .options .tolerance) (run .options .«max_iters» - run .niter) (run .niter) (run-state run b grad)
 
 -- the text that a call has put at the front of `out`
 abbrev pub text-in : Text → List ℕ → List ℕ
@@ -96,15 +98,15 @@ status-most Success = omega arith
 status-most NoSoln = omega arith
 status-most NoEffect = omega arith
 
-said-most : (k : ℕ) (said : Said) → length (joined (said-pieces k said)) ≤ 98
-said-most k Feasible = omega (arith, most-none)
-said-most k (Cut group beta status) =
+answer-most : (k : ℕ) (answer : StepAnswer) → length (joined (answer-pieces k answer)) ≤ 98
+answer-most k Feasible = omega (arith, most-none)
+answer-most k (Cut group beta status) =
     most-more 20 78 _ _ (length-decimal k)
     (most-more 8 70 _ _ (group-most group)
     (most-more 20 50 _ _ (row-most group)
     (most-more 7 43 _ _ (side-most (group-side group))
     (most-on 33 10 _ _ (betas-most beta) (most-more 10 0 _ _ (status-most status) most-none)))))
-said-most k (NotStepped why) = omega (arith, most-none)
+answer-most k (NotStepped why) = omega (arith, most-none)
 
 outcome-most : (found : Bool) → length (outcome-word found) ≤ 6
 outcome-most true = omega arith
@@ -123,11 +125,11 @@ refused-most why place =
     (most-more 20 22 _ _ (length-decimal (refusal-number why))
     (most-more 1 21 _ _ (omega arith) (most-more 20 1 _ _ (length-decimal place) (most-more 1 0 _ _ (omega arith) most-none))))
 
-pub step-most : (k : ℕ) (more : Bool) (said : Said) → length (step-text k more said) ≤ 125
+pub step-most : (k : ℕ) (more : Bool) (answer : StepAnswer) → length (step-text k more answer) ≤ 125
 unfolding step-text
-step-most k more said =
-    most-on 98 27 _ _ (said-most k said)
-    (by-test (λ (ps : List (List ℕ)). length (joined ps) ≤ 27) more _ _ (λ _. omega (arith, most-none)) (λ _. ended-most (feas-ended said k)))
+step-most k more answer =
+    most-on 98 27 _ _ (answer-most k answer)
+    (by-test (λ (ps : List (List ℕ)). length (joined ps) ≤ 27) more _ _ (λ _. omega (arith, most-none)) (λ _. ended-most (feas-ended answer k)))
 
 -- ---- where they are written
 
@@ -143,26 +145,26 @@ printed-in out texts r h l e =
     accepts _ _ (text-room out) (held _ _ (le-leb 128 (length out) h)) (ap (λ (q : ℕ × List ℕ). (Bytes (q .0), q .1)) (put-front out texts r f e))
 
 -- a step's pieces, and those of the answer where it is the last
-pub step-pieces : (out : List ℕ) (k : ℕ) (more : Bool) (said : Said) (rest : List (List ℕ)) (r : ℕ × List ℕ) → 128 ≤ length out
-    → rest ≡ pick more [] (ended-pieces (feas-ended said k)) → r ≡ put-all out 0 (said-pieces k said ++ rest)
-    → r ≡ (length (step-text k more said), over out 0 (step-text k more said))
+pub step-pieces : (out : List ℕ) (k : ℕ) (more : Bool) (answer : StepAnswer) (rest : List (List ℕ)) (r : ℕ × List ℕ) → 128 ≤ length out
+    → rest ≡ pick more [] (ended-pieces (feas-ended answer k)) → r ≡ put-all out 0 (answer-pieces k answer ++ rest)
+    → r ≡ (length (step-text k more answer), over out 0 (step-text k more answer))
 unfolding step-text
-step-pieces out k more said rest r h e f =
-    let l : length (step-text k more said) ≤ length out = omega (arith, step-most k more said) in
-    put-front out _ r l (f ∙ ap (λ (ps : List (List ℕ)). put-all out 0 (said-pieces k said ++ ps)) e)
+step-pieces out k more answer rest r h e f =
+    let l : length (step-text k more answer) ≤ length out = omega (arith, step-most k more answer) in
+    put-front out _ r l (f ∙ ap (λ (ps : List (List ℕ)). put-all out 0 (answer-pieces k answer ++ ps)) e)
 
 -- ---- the run
 
 -- a step, and what the rest of the run prints
-one-step : (k : ℕ) (more : Bool) (said : Said) (text lines : List ℕ) (answer : FeasAnswer) → text ≡ lines ++ joined (ended-pieces answer)
-    → step-text k more said ++ pick more text [] ≡ (joined (said-pieces k said) ++ pick more lines []) ++ joined (ended-pieces (pick more answer (feas-ended said k)))
+one-step : (k : ℕ) (more : Bool) (answer : StepAnswer) (text lines : List ℕ) (end : FeasAnswer) → text ≡ lines ++ joined (ended-pieces end)
+    → step-text k more answer ++ pick more text [] ≡ (joined (answer-pieces k answer) ++ pick more lines []) ++ joined (ended-pieces (pick more end (feas-ended answer k)))
 unfolding step-text pick
-one-step k true said text lines answer e =
-    let p = joined (said-pieces k said) in
-    ap (λ (l : List ℕ). l ++ text) (joined-append (said-pieces k said) [])
-    ∙ rw (joined-none, append-nil p, e) (sym (append-assoc p lines (joined (ended-pieces answer))))
-one-step k false said text lines answer e =
-    rw (append-nil, append-nil) (joined-append (said-pieces k said) (ended-pieces (feas-ended said k)))
+one-step k true answer text lines end e =
+    let p = joined (answer-pieces k answer) in
+    ap (λ (l : List ℕ). l ++ text) (joined-append (answer-pieces k answer) [])
+    ∙ rw (joined-none, append-nil p, e) (sym (append-assoc p lines (joined (ended-pieces end))))
+one-step k false answer text lines end e =
+    rw (append-nil, append-nil) (joined-append (answer-pieces k answer) (ended-pieces (feas-ended answer k)))
 
 module _ (rows : ℕ) (table : List Float) (tolerance : Float) where
   -- a run prints the lines of its cuts, and last the answer of `feas-run`, which `cutting_plane_feas` gives where it is not refused
@@ -174,7 +176,7 @@ module _ (rows : ℕ) (table : List Float) (tolerance : Float) where
       let r = feas-step rows table s in
       let more = goes-on (r .0) (r .1 .ell .tsq) tolerance in
       one-step k more (r .0) _ _ _ (run-prints left (suc k) (r .1))
-      ∙ ap (λ (a : FeasAnswer). (joined (said-pieces k (r .0)) ++ pick more (cut-lines rows table tolerance left (suc k) (r .1)) []) ++ joined (ended-pieces a))
+      ∙ ap (λ (a : FeasAnswer). (joined (answer-pieces k (r .0)) ++ pick more (cut-lines rows table tolerance left (suc k) (r .1)) []) ++ joined (ended-pieces a))
       (sym (pick-map (λ (p : FeasAnswer × State). p .0) more (feas-run rows table tolerance left (suc k) (r .1)) (feas-ended (r .0) k, r .1)))
 
 -- ---- its calls
@@ -189,7 +191,7 @@ module _ (run : Run) (table : List Float) (b : EllBuffers) (grad : List Float) (
   limit-prints h =
       let none : run .options .«max_iters» - run .niter ≡ 0 = omega arith in
       let text = joined (last-pieces (record { found = false; steps = run .niter })) in
-      ap (λ (j : ℕ). run-text (run .rows) table (run .options .tolerance) j (run .niter) (space-of run b grad)) none
+      ap (λ (j : ℕ). run-text (run .rows) table (run .options .tolerance) j (run .niter) (run-state run b grad)) none
       ∙ sym (front-over out text) ∙ sym (append-nil (take (length text) (over out 0 text)))
       ∙ ap (λ (l : List ℕ). take (length text) (over out 0 text) ++ l) (skip false (text-left run table b grad) [] [] refl refl)
 
@@ -199,7 +201,7 @@ module _ (run : Run) (table : List Float) (b : EllBuffers) (grad : List Float) (
       let k = run .niter in
       let m = run .options .«max_iters» in
       let some : m - k ≡ suc (m - suc k) = omega arith in
-      let r = feas-step (run .rows) table (space-of run b grad) in
+      let r = feas-step (run .rows) table (run-state run b grad) in
       let more = goes-on (r .0) (r .1 .ell .tsq) (run .options .tolerance) in
       let text = step-text k more (r .0) in
       rw some
@@ -211,11 +213,11 @@ module _ (run : Run) (table : List Float) (b : EllBuffers) (grad : List Float) (
 
   -- what follows where there is more: another call, with fewer steps left
   record Goes (p : Printed × EllBuffers × List Float × List ℕ) : Type 0 where
-    right : check-space (p .0 .run .rows) table (space-of (p .0 .run) (p .1) (p .2)) ≡ Sound
+    sound : check-state (p .0 .run .rows) table (run-state (p .0 .run) (p .1) (p .2)) ≡ Sound
     room : 128 ≤ length (p .3)
     fewer : p .0 .run .options .«max_iters» - p .0 .run .niter < run .options .«max_iters» - run .niter
 
-  module _ (e : check-space (run .rows) table (space-of run b grad) ≡ Sound) (h : 128 ≤ length out) where
+  module _ (e : check-state (run .rows) table (run-state run b grad) ≡ Sound) (h : 128 ≤ length out) where
     by-next : (P : Printed × EllBuffers × List Float × List ℕ → Type 0) → (run .niter < run .options .«max_iters» → P (step-printed run table b grad out))
         → (run .options .«max_iters» ≤ run .niter → P (limit-printed run b grad out)) → P (next-answer run table b grad out)
     unfolding next-answer
@@ -232,12 +234,12 @@ module _ (run : Run) (table : List Float) (b : EllBuffers) (grad : List Float) (
     unfolding step-printed
     step-goes l m =
         let k = run .niter in
-        let s = space-of run b grad in
+        let s = run-state run b grad in
         let r = feas-step (run .rows) table s in
         let text = step-text k (goes-on (r .0) (r .1 .ell .tsq) (run .options .tolerance)) (r .0) in
         let next : pick (goes-on (r .0) (r .1 .ell .tsq) (run .options .tolerance)) (suc k) k ≡ suc k = is-hit _ (suc k) k m in
         record {
-          right = step-right (run .rows) table s e .right;
+          sound = step-sound (run .rows) table s e .sound;
           room = rw (length-over out 0 text (omega (arith, step-most k (goes-on (r .0) (r .1 .ell .tsq) (run .options .tolerance)) (r .0)))) h;
           fewer = omega (arith, next);
         }
@@ -248,7 +250,7 @@ module _ (run : Run) (table : List Float) (b : EllBuffers) (grad : List Float) (
 
 -- enough calls of `next` print all of a run that passes the check
 pub calls-print : (calls : ℕ) (run : Run) (table : List Float) (b : EllBuffers) (grad : List Float) (out : List ℕ)
-    → check-space (run .rows) table (space-of run b grad) ≡ Sound → 128 ≤ length out → run .options .«max_iters» - run .niter < calls
+    → check-state (run .rows) table (run-state run b grad) ≡ Sound → 128 ≤ length out → run .options .«max_iters» - run .niter < calls
     → printed-by calls run table b grad out ≡ text-left run table b grad
 unfolding printed-by
 calls-print zero run table b grad out e h l = absurd (omega (arith, l))
@@ -258,20 +260,20 @@ calls-print (suc calls) run table b grad out e h l =
     (pick-cong (p .0 .more)
     (λ m.
     let g = next-goes run table b grad out e h m in
-    calls-print calls (p .0 .run) table (p .1) (p .2) (p .3) (g .right) (g .room) (omega (arith, g .fewer)))
+    calls-print calls (p .0 .run) table (p .1) (p .2) (p .3) (g .sound) (g .room) (omega (arith, g .fewer)))
     (λ _. refl))
     ∙ sym (next-prints run table b grad out e h)
 
 -- so a run from its first step on prints the lines of its cuts, and last the answer of `feas-run`
 pub run-printed : (run : Run) (table : List Float) (b : EllBuffers) (grad : List Float) (out : List ℕ)
-    → check-space (run .rows) table (space-of run b grad) ≡ Sound → 128 ≤ length out → run .niter ≡ 0
+    → check-state (run .rows) table (run-state run b grad) ≡ Sound → 128 ≤ length out → run .niter ≡ 0
     → (let m = run .options .«max_iters» in
     let t = run .options .tolerance in
-    let s = space-of run b grad in
+    let s = run-state run b grad in
     printed-by (m + 1) run table b grad out ≡ cut-lines (run .rows) table t m 0 s ++ joined (ended-pieces (feas-run (run .rows) table t m 0 s .0)))
 run-printed run table b grad out e h z =
     let m = run .options .«max_iters» in
     let left : m - run .niter ≡ m = omega arith in
     calls-print (m + 1) run table b grad out e h (omega arith)
-    ∙ (λ i. run-text (run .rows) table (run .options .tolerance) (left i) (z i) (space-of run b grad))
-    ∙ run-prints (run .rows) table (run .options .tolerance) m 0 (space-of run b grad)
+    ∙ (λ i. run-text (run .rows) table (run .options .tolerance) (left i) (z i) (run-state run b grad))
+    ∙ run-prints (run .rows) table (run .options .tolerance) m 0 (run-state run b grad)

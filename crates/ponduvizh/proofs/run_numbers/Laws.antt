@@ -8,8 +8,8 @@ use Rattle.numbers.specs.declared.refusal.Refusal.{Refusal}
 use Rattle.oracles.specs.declared.ell.Ell.{Ell}
 use Rattle.oracles.specs.declared.lowpass_oracle.LowpassOracle.{LowpassOracle}
 use Rattle.drivers.specs.declared.answer.Answer.{Answer}
-use Rattle.drivers.specs.declared.cutting_plane.OptimAnswer.{OptimAnswer}
-use Rattle.drivers.specs.declared.cutting_plane.OptimAnswer.the-variants.{Ended, Halted, Refused}
+use Rattle.drivers.specs.declared.cutting_plane_optim.OptimAnswer.{OptimAnswer}
+use Rattle.drivers.specs.declared.cutting_plane_optim.OptimAnswer.the-variants.{Ended, Halted, Refused}
 use Rattle.ponduvizh.specs.ExportedRuns.{RunNumbers, run-numbers, answer-of, marks-of, values-of, numbers-after, numbers-by}
 
 pub state-law : (a : Answer) (o : LowpassOracle) (e : Ell) (answer : List ℕ) (marks : List ℤ) (values : List Float)

@@ -12,12 +12,14 @@ use Rattle.oracles.specs.declared.ell.Ell.{Ell}
 use Rattle.oracles.specs.declared.ell.NewEll.{NewEll}
 use Rattle.oracles.specs.declared.ell.NewEll.the-variants.{Made, Refused as NotMade}
 use Rattle.oracles.specs.declared.lowpass_oracle.LowpassOracle.{LowpassOracle}
-use Rattle.drivers.specs.CuttingPlane.{State, OptimLeft, feas-answer, optim-answer, optim-left}
+use Rattle.drivers.specs.CuttingPlane.{State}
+use Rattle.drivers.specs.CuttingPlaneFeas.{feas-answer}
+use Rattle.drivers.specs.CuttingPlaneOptim.{OptimEnd, optim-end, optim-answer}
 use Rattle.drivers.specs.Numbered.{optim-number}
 use Rattle.drivers.specs.declared.cutting_plane.Options.{Options}
-use Rattle.drivers.specs.declared.cutting_plane.FeasAnswer.{FeasAnswer}
-use Rattle.drivers.specs.declared.cutting_plane.OptimAnswer.{OptimAnswer}
-use Rattle.ponduvizh.specs.ExportedRuns.{RunNumbers, RunEnd, run-end, coded, as-optim, numbers-by, feas-end, optim-end, feas-exported, optim-exported}
+use Rattle.drivers.specs.declared.cutting_plane_feas.FeasAnswer.{FeasAnswer}
+use Rattle.drivers.specs.declared.cutting_plane_optim.OptimAnswer.{OptimAnswer}
+use Rattle.ponduvizh.specs.ExportedRuns.{RunNumbers, RunEnd, run-end, coded, as-optim, numbers-by, feas-run-end, optim-run-end, feas-exported, optim-exported}
 use Rattle.ponduvizh.specs.laws.Refused.{feas-exported-refused, optim-exported-refused}
 
 pub feas-law : (a : FeasAnswer) (a′ : OptimAnswer) (o : LowpassOracle) (e : Ell) (b : EllBuffers) (grad best : List Float) (code : ℕ) (now old : RunNumbers) (r : FeasAnswer × State × List Float)
@@ -25,16 +27,16 @@ pub feas-law : (a : FeasAnswer) (a′ : OptimAnswer) (o : LowpassOracle) (e : El
     → a′ ≡ as-optim a
     → code ≡ optim-number a′
     → now ≡ numbers-by a′ o e old
-    → run-end code now b grad best ≡ feas-end r old
-unfolding feas-end
+    → run-end code now b grad best ≡ feas-run-end r old
+unfolding feas-run-end
 feas-law a a′ o e b grad best code now old r d m h t = rw (← d, h, t, m) refl
 
-pub optim-law : (a : OptimAnswer) (o : LowpassOracle) (e : Ell) (gamma : Float) (b : EllBuffers) (grad best : List Float) (code : ℕ) (now old : RunNumbers) (r : OptimLeft)
-    → optim-left a o e gamma b grad best ≡ r
+pub optim-law : (a : OptimAnswer) (o : LowpassOracle) (e : Ell) (gamma : Float) (b : EllBuffers) (grad best : List Float) (code : ℕ) (now old : RunNumbers) (r : OptimEnd)
+    → optim-end a o e gamma (b .mq) (b .xc) grad (b .grad-t) best ≡ r
     → code ≡ optim-number a
     → now ≡ numbers-by a o e old
-    → _≡_ {A = RunEnd × Float} (run-end code now b grad best, gamma) (optim-end r old)
-unfolding optim-end
+    → _≡_ {A = RunEnd × Float} (run-end code now b grad best, gamma) (optim-run-end r old)
+unfolding optim-run-end
 optim-law a o e gamma b grad best code now old r d h t = rw (← d, h, t) refl
 
 -- Both promises, from the ellipsoid x that was asked for, which the definition calls y, and from the oracle and the options by either name: what is left, and that a refusal leaves all as it was.
@@ -49,7 +51,7 @@ module _ (x y : NewEll) (o o′ : LowpassOracle) (p p′ : Options) (rows : ℕ)
   feas-promised r d =
       (d, λ h. d ∙ feas-exported-refused y o′ p′ rows table (was 0) (sym (ap (λ (z : RunEnd). eqb (z .code) 0) d) ∙ h) ∙ ap (λ (z : RunEnd). was (z .code)) (sym d))
 
-  pub feas-made : (e : Ell) (r : RunEnd) → x ≡ Made e → r ≡ feas-end (feas-answer p rows table (record { oracle = o; ell = e; buffers = b; grad = grad }) best) t → FeasPromise r
+  pub feas-made : (e : Ell) (r : RunEnd) → x ≡ Made e → r ≡ feas-run-end (feas-answer p rows table (record { oracle = o; ell = e; buffers = b; grad = grad }) best) t → FeasPromise r
   unfolding feas-exported
   feas-made e r m h = feas-promised r (rw (← ex, m, ← eo, ← ep) h)
 
@@ -72,7 +74,7 @@ module _ (x y : NewEll) (o o′ : LowpassOracle) (p p′ : Options) (rows : ℕ)
     )
 
     pub optim-made : (e : Ell) (r : RunEnd × Float) → x ≡ Made e
-        → r ≡ optim-end (optim-answer p rows table (record { oracle = o; ell = e; buffers = b; grad = grad; gamma = gamma; found = false; best = best })) t
+        → r ≡ optim-run-end (optim-answer p rows table (record { oracle = o; ell = e; buffers = b; grad = grad; gamma = gamma; found = false; best = best })) t
         → OptimPromise r
     unfolding optim-exported
     optim-made e r m h = optim-promised r (rw (← ex, m, ← eo, ← ep) h)

@@ -20,10 +20,10 @@ use Rattle.drivers.proofs.answer.fill_answer.Tie as tie
 use Rattle.numbers.specs.laws.Over.{over-none, over-front}
 
 module _ (n : ℕ) (bytes places : List ℕ) (point : List Float) (h : ℕ) (e : h ≡ half-at bytes (place places steps-place)) where
-  abbrev Right : Answer → List Float → Type 0
-  Right a out = (a ≡ answer-at bytes places) × (out ≡ fronted (point-at n bytes places) point)
+  abbrev Agrees : Answer → List Float → Type 0
+  Agrees a out = (a ≡ answer-at bytes places) × (out ≡ fronted (point-at n bytes places) point)
 
-  none : place places found-place ≡ 0 → Right (record { found = false; steps = h }) point
+  none : place places found-place ≡ 0 → Agrees (record { found = false; steps = h }) point
   none z =
       let p : has-point places ≡ false = ap not (eq-eqb (place places found-place) 0 z) in
       let q : point-at n bytes places ≡ [] = is-skip (has-point places) (numbers-at bytes (place places found-place) n) [] p in
@@ -31,7 +31,7 @@ module _ (n : ℕ) (bytes places : List ℕ) (point : List Float) (h : ℕ) (e :
 
   -- the part xs has been filled
   found : (place places found-place ≡ 0 → ⊥) → (xs : List Float) → xs ≡ numbers-at bytes (place places found-place) (length (take n point)) → n ≤ length point
-      → Right (record { found = true; steps = h }) (xs ++ drop n point)
+      → Agrees (record { found = true; steps = h }) (xs ++ drop n point)
   found z xs q l =
       let p : has-point places ≡ true = ap not (ne-eqb (place places found-place) 0 z) in
       let w : length (take n point) ≡ n = length-take-le n point l in
@@ -48,28 +48,10 @@ rejoined n xs point e l = length-append xs (drop n point) ∙ omega (arith, e, l
 roomy : (places : List ℕ) {n : ℕ} {l : ℕ} → (has-point places ≡ true → n ≤ l) → (place places found-place ≡ 0 → ⊥) → n ≤ l
 roomy places h z = h (ap not (ne-eqb (place places found-place) 0 z))
 
-element-copy-out-half-at : tie.Need-element-copy-out-half-at
-element-copy-out-half-at c = search needs
-
-half-at-requires : tie.Need-half-at-requires
-half-at-requires c κs = tt
-
-cast-steps : tie.Need-cast-steps
-cast-steps c = record { fits = omega (arith, c .half-at .ensures) }
-
-element-copy-out-if1 : tie.Need-element-copy-out-if1
-element-copy-out-if1 c = search needs
-
 returns : tie.Need-returns
 returns c =
     let a = c .before .before .before .before .before .before .args in
     none (a .n) (a .bytes .now) (a .places .now) (a .point .now) _ (c .before .before .half-at .ensures) (c .if1 .taken)
-
-element-copy-out-numbers-into : tie.Need-element-copy-out-numbers-into
-element-copy-out-numbers-into c = search needs
-
-slice-relend-prefix-numbers-into : tie.Need-slice-relend-prefix-numbers-into
-slice-relend-prefix-numbers-into c = let s = c .before .before .before .before .before .before .before in roomy (s .args .places .now) (s .pre .1) (c .before .if1 .left)
 
 slice-aggregate-numbers-into : tie.Need-slice-aggregate-numbers-into
 slice-aggregate-numbers-into c =
@@ -98,5 +80,14 @@ returns-2 c =
 pub fill-answer-spec : {M : Type 1} → statement M
 fill-answer-spec =
     tie.close
-    (tie.spec element-copy-out-half-at half-at-requires cast-steps element-copy-out-if1 returns element-copy-out-numbers-into slice-relend-prefix-numbers-into
-    slice-aggregate-numbers-into numbers-into-requires same-length returns-2)
+    (tie.spec
+    (λ c. search needs) (λ c κs. tt)
+    (λ c. record { fits = omega (arith, c .half-at .ensures) })
+    (λ c. search needs)
+    returns
+    (λ c. search needs)
+    (λ c. let s = c .before .before .before .before .before .before .before in roomy (s .args .places .now) (s .pre .1) (c .before .if1 .left))
+    slice-aggregate-numbers-into
+    numbers-into-requires
+    same-length
+    returns-2)

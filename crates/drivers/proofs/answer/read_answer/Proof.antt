@@ -32,15 +32,6 @@ module _ (n : ℕ) (bytes : List ℕ) (point : List Float) (f : Fault) (e : f �
     sound : AnswerSound n places (length point)
     sound = rw (p v) (answer-sound n bytes (length point) (sym e ∙ v))
 
-answer-fault-requires : tie.Need-answer-fault-requires
-answer-fault-requires c κs = refl
-
-enum-known-fault : tie.Need-enum-known-fault
-enum-known-fault c = search needs
-
-enum-told : tie.Need-enum-told
-enum-told c = search needs
-
 fill-answer-requires : tie.Need-fill-answer-requires
 fill-answer-requires c κs =
     let a = c .before .before .before .before .before .before .before .before .args in
@@ -54,9 +45,6 @@ returns c =
     let k = c .before .fault .given in
     refused (a .n) (a .bytes .now) (a .point .now) _ (c .before .before .before .answer-fault .ensures .0) (k .0 .0) (k .0 .1 .0) (k .1)
 
-same-length : tie.Need-same-length
-same-length c = search needs
-
 returns-2 : tie.Need-returns-2
 returns-2 c =
     let a = c .before .before .before .before .before .before .before .before .before .before .before .args in
@@ -65,4 +53,12 @@ returns-2 c =
     read (a .n) (a .bytes .now) (a .point .now) _ (f .0) (c .before .before .before .before .before .enum-told .given .1) _ (f .1) _ _ (r .0) (r .1)
 
 pub read-answer-spec : {M : Type 1} → statement M
-read-answer-spec = tie.close (tie.spec answer-fault-requires enum-known-fault enum-told fill-answer-requires returns same-length returns-2)
+read-answer-spec =
+    tie.close
+    (tie.spec
+    (λ c κs. refl)
+    (λ c. search needs) (λ c. search needs)
+    fill-answer-requires
+    returns
+    (λ c. search needs)
+    returns-2)

@@ -7,18 +7,6 @@ use Rattle.drivers.proofs.answer.Writes.{wrong-n, wrong-point, no-room,
 use Rattle.drivers.proofs.answer.write_answer.Statement.{statement}
 use Rattle.drivers.proofs.answer.write_answer.Tie as tie
 
-is-dimension-requires : tie.Need-is-dimension-requires
-is-dimension-requires c κs = tt
-
-returns : tie.Need-returns
-returns c = wrong-n _ _ _ _ (says-no _ _ (c .before .is-dimension .ensures) (c .if1 .taken))
-
-returns-2 : tie.Need-returns-2
-returns-2 c = wrong-point _ _ _ _ (says-yes _ _ (c .before .before .is-dimension .ensures) (c .before .if1 .left)) (c .if2 .taken)
-
-answer-size-requires : tie.Need-answer-size-requires
-answer-size-requires c κs = dimension-most _ (says-yes _ _ (c .before .before .is-dimension .ensures) (c .before .if1 .left))
-
 returns-3 : tie.Need-returns-3
 returns-3 c =
     let lengths = c .before .before in
@@ -31,9 +19,6 @@ put-answer-requires c κs =
     let test = lengths .before in
     omega (arith, lengths .if2 .left, dimension-most (test .before .before .before .before .args .n) (says-yes _ _ (test .before .is-dimension .ensures) (test .if1 .left)))
 
-same-length : tie.Need-same-length
-same-length c = search needs
-
 returns-4 : tie.Need-returns-4
 returns-4 c =
     let put = c .before .before in
@@ -45,4 +30,12 @@ returns-4 c =
 pub write-answer-spec : {M : Type 1} → statement M
 write-answer-spec =
     tie.close
-    (tie.spec is-dimension-requires returns returns-2 answer-size-requires returns-3 put-answer-requires same-length returns-4)
+    (tie.spec
+    (λ c κs. tt)
+    (λ c. wrong-n _ _ _ _ (says-no _ _ (c .before .is-dimension .ensures) (c .if1 .taken)))
+    (λ c. wrong-point _ _ _ _ (says-yes _ _ (c .before .before .is-dimension .ensures) (c .before .if1 .left)) (c .if2 .taken))
+    (λ c κs. dimension-most _ (says-yes _ _ (c .before .before .is-dimension .ensures) (c .before .if1 .left)))
+    returns-3
+    put-answer-requires
+    (λ c. search needs)
+    returns-4)

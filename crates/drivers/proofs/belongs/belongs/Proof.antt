@@ -7,7 +7,7 @@ use borrow.Author.Needs.{needs}
 use Rattle.oracles.specs.LowpassOracle.{assess-feas-answer}
 use Rattle.oracles.specs.declared.lowpass_oracle.LowpassOracle.{LowpassOracle}
 use Rattle.oracles.specs.declared.lowpass_oracle.Assessed.{Assessed}
-use Rattle.drivers.specs.laws.Belongs.{no-dimension, no-length, belongs-said, said-by}
+use Rattle.drivers.specs.laws.Belongs.{no-dimension, no-length, belongs-by, belonging-of}
 use Rattle.drivers.proofs.belongs.belongs.Statement.{statement}
 use Rattle.drivers.proofs.belongs.belongs.Tie as tie
 use Rattle.numbers.specs.laws.Pick.{hit, skip, says-no, says-yes}
@@ -15,12 +15,6 @@ use Rattle.numbers.specs.laws.Pick.{hit, skip, says-no, says-yes}
 -- the oracle of a job assesses as what it starts with
 by-oracle : (o o′ : LowpassOracle) (n rows : ℕ) (table x grad : List Float) {r : Assessed × List Float} → o ≡ o′ → r ≡ assess-feas-answer o n rows table x grad → r ≡ assess-feas-answer o′ n rows table x grad
 by-oracle o o′ n rows table x grad h e = e ∙ ap (λ (q : LowpassOracle). assess-feas-answer q n rows table x grad) h
-
-oracle-requires : tie.Need-oracle-requires
-oracle-requires c κs = tt
-
-is-dimension-requires : tie.Need-is-dimension-requires
-is-dimension-requires c κs = tt
 
 returns : tie.Need-returns
 returns c = let a = c .before .before .before .before .before .before .before .args in no-dimension (a .job) (a .table .now) (a .x .now) (a .answer) (a .point .now) (a .grad .now) (says-no _ _ (c .before .is-dimension .ensures) (c .if1 .taken))
@@ -30,32 +24,14 @@ returns-2 c =
     let a = c .before .before .before .before .before .before .before .before .args in
     no-length (a .job) (a .table .now) (a .x .now) (a .answer) (a .point .now) (a .grad .now) (says-yes _ _ (c .before .before .is-dimension .ensures) (c .before .if1 .left)) (says-no _ _ refl (c .if2 .taken))
 
-assess-feas-requires : tie.Need-assess-feas-requires
-assess-feas-requires c κs = tt
-
-said-by-requires : tie.Need-said-by-requires
-said-by-requires c κs = tt
-
-same-length : tie.Need-same-length
-same-length c = search needs
-
 returns-3 : tie.Need-returns-3
 returns-3 c =
     let f = c .before .before .before .assess-feas in
     let oc = c .before .before .before .before .before .before .before .before .before in
     let a = c .before .before .before .before .before .before .before .before .before .before .before .before .before .before .args in
     let t = c .before .before .before .before .before .if3 .taken in
-    belongs-said (a .job) (a .table .now) (a .x .now) (a .answer) (a .point .now) (a .grad .now) (says-yes _ _ refl (c .before .before .before .before .before .before .if2 .left)) _ (hit _ _ _ _ t refl)
-    (f .result) _ (by-oracle _ _ _ _ _ _ _ (oc .oracle .ensures) (f .ensures .0)) _ (c .said-by .ensures ∙ ap (said-by (f .result .verdict)) (sym t))
-
-assess-feas-requires-2 : tie.Need-assess-feas-requires-2
-assess-feas-requires-2 c κs = tt
-
-said-by-requires-2 : tie.Need-said-by-requires-2
-said-by-requires-2 c κs = tt
-
-same-length-2 : tie.Need-same-length-2
-same-length-2 c = search needs
+    belongs-by (a .job) (a .table .now) (a .x .now) (a .answer) (a .point .now) (a .grad .now) (says-yes _ _ refl (c .before .before .before .before .before .before .if2 .left)) _ (hit _ _ _ _ t refl)
+    (f .result) _ (by-oracle _ _ _ _ _ _ _ (oc .oracle .ensures) (f .ensures .0)) _ (c .belonging-of .ensures ∙ ap (belonging-of (f .result .verdict)) (sym t))
 
 returns-4 : tie.Need-returns-4
 returns-4 c =
@@ -63,10 +39,17 @@ returns-4 c =
     let oc = c .before .before .before .before .before .before .before .before .before in
     let a = c .before .before .before .before .before .before .before .before .before .before .before .before .before .before .args in
     let t = c .before .before .before .before .before .if3 .left in
-    belongs-said (a .job) (a .table .now) (a .x .now) (a .answer) (a .point .now) (a .grad .now) (says-yes _ _ refl (c .before .before .before .before .before .before .if2 .left)) _ (skip _ _ _ _ t refl)
-    (f .result) _ (by-oracle _ _ _ _ _ _ _ (oc .oracle .ensures) (f .ensures .0)) _ (c .said-by2 .ensures ∙ ap (said-by (f .result .verdict)) (sym t))
+    belongs-by (a .job) (a .table .now) (a .x .now) (a .answer) (a .point .now) (a .grad .now) (says-yes _ _ refl (c .before .before .before .before .before .before .if2 .left)) _ (skip _ _ _ _ t refl)
+    (f .result) _ (by-oracle _ _ _ _ _ _ _ (oc .oracle .ensures) (f .ensures .0)) _ (c .belonging-of2 .ensures ∙ ap (belonging-of (f .result .verdict)) (sym t))
 
 pub belongs-spec : {M : Type 1} → statement M
 belongs-spec =
     tie.close
-    (tie.spec oracle-requires is-dimension-requires returns returns-2 assess-feas-requires said-by-requires same-length returns-3 assess-feas-requires-2 said-by-requires-2 same-length-2 returns-4)
+    (tie.spec
+    (λ c κs. tt) (λ c κs. tt)
+    returns
+    returns-2
+    (λ c κs. tt) (λ c κs. tt) (λ c. search needs)
+    returns-3
+    (λ c κs. tt) (λ c κs. tt) (λ c. search needs)
+    returns-4)

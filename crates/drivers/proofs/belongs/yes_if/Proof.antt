@@ -4,11 +4,9 @@ use Rattle.drivers.proofs.belongs.yes_if.Statement.{statement}
 use Rattle.drivers.proofs.belongs.yes_if.Tie as tie
 use Rattle.numbers.specs.laws.Pick.{hit, skip}
 
-returns : tie.Need-returns
-returns c = hit _ _ _ _ (c .if1 .taken) refl
-
-returns-2 : tie.Need-returns-2
-returns-2 c = skip _ _ _ _ (c .if1 .left) refl
-
 pub yes-if-spec : {M : Type 1} → statement M
-yes-if-spec = tie.close (tie.spec returns returns-2)
+yes-if-spec =
+    tie.close
+    (tie.spec
+    (λ c. hit _ _ _ _ (c .if1 .taken) refl)
+    (λ c. skip _ _ _ _ (c .if1 .left) refl))

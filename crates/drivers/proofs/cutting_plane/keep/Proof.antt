@@ -34,41 +34,17 @@ Inv-loop is-kept xc x-best₀ i₀ x-best i = FilledTo (λ k. getD xc k nan) x-b
 abbrev μ-loop : tie.MeasureT-loop
 μ-loop is-kept xc x-best₀ i₀ x-best i = length xc - i
 
-returns : tie.Need-returns Inv-loop μ-loop
-returns c = skip _ _ _ _ (not-true _ (c .if1 .taken)) refl
-
-loop-holds : tie.Need-loop-holds Inv-loop μ-loop
-loop-holds c = (filled-start _ _, omega arith)
-
-mul-x-best : tie.Need-mul-x-best Inv-loop μ-loop
-mul-x-best c = search needs
-
-shared-slice-read-x-best : tie.Need-shared-slice-read-x-best Inv-loop μ-loop
-shared-slice-read-x-best c = search needs
-
-mul-x-best-2 : tie.Need-mul-x-best-2 Inv-loop μ-loop
-mul-x-best-2 c = search needs
-
 slice-write-x-best : tie.Need-slice-write-x-best Inv-loop μ-loop
 slice-write-x-best c =
     let l = c .before .before .loop in
     let a = c .before .before .before .before .args in
     omega (arith, room (a .is-kept) (a .xc .now) (a .x-best .now) (c .before .before .before .if1 .left), l .inv .0 .long, c .before .loop-test .taken)
 
-add-i : tie.Need-add-i Inv-loop μ-loop
-add-i c = search needs
-
-loop-less : tie.Need-loop-less Inv-loop μ-loop
-loop-less c = search needs
-
 loop-again : tie.Need-loop-again Inv-loop μ-loop
 loop-again c =
     let l = c .before .before .loop in
     let a = c .before .before .before .before .args in
     (filled-turn _ _ (l .x-best) (l .i) _ (l .inv .0) (omega (arith, room (a .is-kept) (a .xc .now) (a .x-best .now) (c .before .before .before .if1 .left), c .before .loop-test .taken)) refl, omega (arith, c .before .loop-test .taken))
-
-same-length : tie.Need-same-length Inv-loop μ-loop
-same-length c = search needs
 
 returns-2 : tie.Need-returns-2 Inv-loop μ-loop
 returns-2 c =
@@ -77,4 +53,16 @@ returns-2 c =
     done (a .is-kept) (a .xc .now) (a .x-best .now) (l .x-best) (l .i) (c .before .before .if1 .left) (l .inv .0) (omega (arith, l .inv .1, c .loop-test .left))
 
 pub keep-spec : {M : Type 1} → statement M
-keep-spec = tie.close (tie.spec Inv-loop μ-loop returns loop-holds mul-x-best shared-slice-read-x-best mul-x-best-2 slice-write-x-best add-i loop-less loop-again same-length returns-2)
+keep-spec =
+    tie.close
+    (tie.spec
+    Inv-loop
+    μ-loop
+    (λ c. skip _ _ _ _ (not-true _ (c .if1 .taken)) refl)
+    (λ c. (filled-start _ _, omega arith))
+    (λ c. search needs) (λ c. search needs) (λ c. search needs)
+    slice-write-x-best
+    (λ c. search needs) (λ c. search needs)
+    loop-again
+    (λ c. search needs)
+    returns-2)

@@ -7,24 +7,12 @@ use Rattle.drivers.proofs.fields.Puts.{no-room, integer-put, integer-ro
 use Rattle.drivers.proofs.fields.put_integer.Statement.{statement}
 use Rattle.drivers.proofs.fields.put_integer.Tie as tie
 
-has-room-requires : tie.Need-has-room-requires
-has-room-requires c κs = tt
-
-returns : tie.Need-returns
-returns c = no-room _ _ _ _ (length-bytes _ _) _ (c .before .has-room .ensures) (c .if1 .taken)
-
-put-bytes-requires : tie.Need-put-bytes-requires
-put-bytes-requires c κs = tt
-
 add-result : tie.Need-add-result
 add-result c =
     let test = c .before .before .before .before in
     let a = test .before .before .before .args in
     let h : a .at + a .k ≤ length (a .out .now) = integer-room (a .out .now) (a .at) (a .k) _ (test .before .has-room .ensures) (test .if1 .left) in
     search needs
-
-same-length : tie.Need-same-length
-same-length c = search needs
 
 returns-2 : tie.Need-returns-2
 returns-2 c =
@@ -35,4 +23,10 @@ returns-2 c =
 pub put-integer-spec : {M : Type 1} → statement M
 put-integer-spec =
     tie.close
-    (tie.spec has-room-requires returns put-bytes-requires add-result same-length returns-2)
+    (tie.spec
+    (λ c κs. tt)
+    (λ c. no-room _ _ _ _ (length-bytes _ _) _ (c .before .has-room .ensures) (c .if1 .taken))
+    (λ c κs. tt)
+    add-result
+    (λ c. search needs)
+    returns-2)

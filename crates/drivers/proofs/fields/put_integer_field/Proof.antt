@@ -7,23 +7,8 @@ use Rattle.drivers.proofs.fields.Puts.{no-room, in-pieces, field-long, 
 use Rattle.drivers.proofs.fields.put_integer_field.Statement.{statement}
 use Rattle.drivers.proofs.fields.put_integer_field.Tie as tie
 
-add-has-room : tie.Need-add-has-room
-add-has-room c = search needs
-
-has-room-requires : tie.Need-has-room-requires
-has-room-requires c κs = tt
-
 returns : tie.Need-returns
 returns c = let a = c .before .before .before .args in no-room _ _ _ _ (field-long (a .tag) (le-bytes (a .k) (a .w)) _ (length-bytes (a .k) (a .w))) _ (c .before .has-room .ensures) (c .if1 .taken)
-
-put-header-requires : tie.Need-put-header-requires
-put-header-requires c κs = search needs
-
-put-integer-requires : tie.Need-put-integer-requires
-put-integer-requires c κs = tt
-
-same-length : tie.Need-same-length
-same-length c = search needs
 
 returns-2 : tie.Need-returns-2
 returns-2 c =
@@ -37,4 +22,8 @@ returns-2 c =
 pub put-integer-field-spec : {M : Type 1} → statement M
 put-integer-field-spec =
     tie.close
-    (tie.spec add-has-room has-room-requires returns put-header-requires put-integer-requires same-length returns-2)
+    (tie.spec
+    (λ c. search needs) (λ c κs. tt)
+    returns
+    (λ c κs. search needs) (λ c κs. tt) (λ c. search needs)
+    returns-2)

@@ -16,27 +16,6 @@ Inv-loop out₀ at xs end₀ i₀ out end i = (i ≤ length xs) × (length out �
 abbrev μ-loop : tie.MeasureT-loop
 μ-loop out₀ at xs end₀ i₀ out end i = length xs - i
 
-loop-holds : tie.Need-loop-holds Inv-loop μ-loop
-loop-holds c = (omega arith, refl, refl)
-
-mul-to-bits : tie.Need-mul-to-bits Inv-loop μ-loop
-mul-to-bits c = search needs
-
-shared-slice-read-to-bits : tie.Need-shared-slice-read-to-bits Inv-loop μ-loop
-shared-slice-read-to-bits c = search needs
-
-to-bits-requires : tie.Need-to-bits-requires Inv-loop μ-loop
-to-bits-requires c κs = tt
-
-put-integer-requires : tie.Need-put-integer-requires Inv-loop μ-loop
-put-integer-requires c κs = tt
-
-add-i : tie.Need-add-i Inv-loop μ-loop
-add-i c = search needs
-
-loop-less : tie.Need-loop-less Inv-loop μ-loop
-loop-less c = search needs
-
 loop-again : tie.Need-loop-again Inv-loop μ-loop
 loop-again c =
     let put = c .before .before in
@@ -44,13 +23,15 @@ loop-again c =
     let loop = bits .before .before .before .before .loop in
     (search needs, search needs, loop .inv .2 ∙ numbers-turn _ _ _ (loop .i) _ _ (search needs) (bits .to-bits .ensures) (put .put-integer .ensures))
 
-same-length : tie.Need-same-length Inv-loop μ-loop
-same-length c = c .before .loop .inv .1
-
-returns : tie.Need-returns Inv-loop μ-loop
-returns c = numbers-done _ _ _ (c .before .loop .i) _ (search needs) (c .before .loop .inv .2)
-
 pub put-numbers-spec : {M : Type 1} → statement M
 put-numbers-spec =
     tie.close
-    (tie.spec Inv-loop μ-loop loop-holds mul-to-bits shared-slice-read-to-bits to-bits-requires put-integer-requires add-i loop-less loop-again same-length returns)
+    (tie.spec
+    Inv-loop
+    μ-loop
+    (λ c. (omega arith, refl, refl))
+    (λ c. search needs) (λ c. search needs) (λ c κs. tt) (λ c κs. tt) (λ c. search needs)
+    (λ c. search needs)
+    loop-again
+    (λ c. c .before .loop .inv .1)
+    (λ c. numbers-done _ _ _ (c .before .loop .i) _ (search needs) (c .before .loop .inv .2)))

@@ -2,31 +2,13 @@
 use borrow.Author.Needs.{needs}
 use Rattle.drivers.specs.laws.Text.{put-then}
 use Rattle.drivers.specs.Fields.{number-bytes}
-use Rattle.drivers.specs.laws.Fields.{length-numbers}
+use Rattle.drivers.specs.laws.OneField.{length-numbers}
 use Rattle.drivers.proofs.fields.Puts.{no-room, in-pieces, field-long, numbers-field}
 use Rattle.drivers.proofs.fields.put_numbers_field.Statement.{statement}
 use Rattle.drivers.proofs.fields.put_numbers_field.Tie as tie
 
-mul-size : tie.Need-mul-size
-mul-size c = search needs
-
-add-has-room : tie.Need-add-has-room
-add-has-room c = search needs
-
-has-room-requires : tie.Need-has-room-requires
-has-room-requires c κs = tt
-
 returns : tie.Need-returns
 returns c = let a = c .before .before .before .before .args in no-room _ _ _ _ (field-long (a .tag) (number-bytes (a .xs .now)) _ (length-numbers (a .xs .now))) _ (c .before .has-room .ensures) (c .if1 .taken)
-
-put-header-requires : tie.Need-put-header-requires
-put-header-requires c κs = search needs
-
-put-numbers-requires : tie.Need-put-numbers-requires
-put-numbers-requires c κs = tt
-
-same-length : tie.Need-same-length
-same-length c = search needs
 
 returns-2 : tie.Need-returns-2
 returns-2 c =
@@ -40,4 +22,8 @@ returns-2 c =
 pub put-numbers-field-spec : {M : Type 1} → statement M
 put-numbers-field-spec =
     tie.close
-    (tie.spec mul-size add-has-room has-room-requires returns put-header-requires put-numbers-requires same-length returns-2)
+    (tie.spec
+    (λ c. search needs) (λ c. search needs) (λ c κs. tt)
+    returns
+    (λ c κs. search needs) (λ c κs. tt) (λ c. search needs)
+    returns-2)

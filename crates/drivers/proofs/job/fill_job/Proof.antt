@@ -23,31 +23,10 @@ front bytes p m ys out e h =
 square : (n : ℕ) → n ≤ 32 → n * n ≤ 1024
 square n h = mul-le-mul h h
 
-mul-nn : tie.Need-mul-nn
-mul-nn c = let h = square _ (c .before .before .before .before .pre .0) in record { fits = omega arith }
-
-fill-table-requires : tie.Need-fill-table-requires
-fill-table-requires c κs = let s = c .before .before .before .before .before in (omega (arith, s .pre .0), s .pre .1)
-
-element-copy-out-numbers-into : tie.Need-element-copy-out-numbers-into
-element-copy-out-numbers-into c = search needs
-
-slice-relend-prefix-numbers-into : tie.Need-slice-relend-prefix-numbers-into
-slice-relend-prefix-numbers-into c = search needs
-
-slice-aggregate-numbers-into : tie.Need-slice-aggregate-numbers-into
-slice-aggregate-numbers-into c = sym (length-take-le _ _ (c .before .before .before .before .before .before .before .before .before .before .pre .2))
-
 numbers-into-requires : tie.Need-numbers-into-requires
 numbers-into-requires c κs =
     let s = c .before .before .before .before .before .before .before .before .before .before in
     rw (length-take-le _ _ (s .pre .2)) (omega (arith, s .pre .0))
-
-element-copy-out-numbers-into-2 : tie.Need-element-copy-out-numbers-into-2
-element-copy-out-numbers-into-2 c = search needs
-
-slice-relend-prefix-numbers-into-2 : tie.Need-slice-relend-prefix-numbers-into-2
-slice-relend-prefix-numbers-into-2 c = search needs
 
 slice-aggregate-numbers-into-2 : tie.Need-slice-aggregate-numbers-into-2
 slice-aggregate-numbers-into-2 c = sym (length-take-le _ _ (c .before .before .before .before .before .before .before .before .before .before .before .before .before .before .before .pre .3))
@@ -56,15 +35,6 @@ numbers-into-requires-2 : tie.Need-numbers-into-requires-2
 numbers-into-requires-2 c κs =
     let s = c .before .before .before .before .before .before .before .before .before .before .before .before .before .before .before in
     rw (length-take-le _ _ (s .pre .3)) (omega (arith, square _ (s .pre .0)))
-
-same-length : tie.Need-same-length
-same-length c = search needs
-
-same-length-2 : tie.Need-same-length-2
-same-length-2 c = search needs
-
-same-length-3 : tie.Need-same-length-3
-same-length-3 c = search needs
 
 returns : tie.Need-returns
 returns c =
@@ -78,17 +48,13 @@ pub fill-job-spec : {M : Type 1} → statement M
 fill-job-spec =
     tie.close
     (tie.spec
-    mul-nn
-    fill-table-requires
-    element-copy-out-numbers-into
-    slice-relend-prefix-numbers-into
-    slice-aggregate-numbers-into
+    (λ c. let h = square _ (c .before .before .before .before .pre .0) in record { fits = omega arith })
+    (λ c κs. let s = c .before .before .before .before .before in (omega (arith, s .pre .0), s .pre .1))
+    (λ c. search needs) (λ c. search needs)
+    (λ c. sym (length-take-le _ _ (c .before .before .before .before .before .before .before .before .before .before .pre .2)))
     numbers-into-requires
-    element-copy-out-numbers-into-2
-    slice-relend-prefix-numbers-into-2
+    (λ c. search needs) (λ c. search needs)
     slice-aggregate-numbers-into-2
     numbers-into-requires-2
-    same-length
-    same-length-2
-    same-length-3
+    (λ c. search needs) (λ c. search needs) (λ c. search needs)
     returns)

@@ -37,27 +37,9 @@ module _ (bytes : List ℕ) (at n k : ℕ) (t : Bool) (e : t ≡ is-row bytes at
       m : k + n - k ≡ n
       m = omega arith
 
-is-row-requires : tie.Need-is-row-requires
-is-row-requires c κs = search needs
-
 returns : tie.Need-returns
 unfolding row-filled
 returns c = skip _ _ _ _ (says-no _ _ (c .before .is-row .ensures) (c .if1 .taken)) refl
-
-add-end : tie.Need-add-end
-add-end c = search needs
-
-content-at-requires : tie.Need-content-at-requires
-content-at-requires c κs = search needs
-
-mul-numbers-into : tie.Need-mul-numbers-into
-mul-numbers-into c = search needs
-
-sub-numbers-into : tie.Need-sub-numbers-into
-sub-numbers-into c = search needs
-
-part-numbers-into-start : tie.Need-part-numbers-into-start
-part-numbers-into-start c = search needs
 
 part-numbers-into-end : tie.Need-part-numbers-into-end
 part-numbers-into-end c =
@@ -66,12 +48,6 @@ part-numbers-into-end c =
     let s = ir .before .before .before in
     let h = room _ _ (s .args .n) (s .args .k) _ (ir .is-row .ensures) (test1 .if1 .left) _ (s .pre .2) in
     search needs
-
-numbers-into-requires : tie.Need-numbers-into-requires
-numbers-into-requires c κs = search needs
-
-same-length : tie.Need-same-length
-same-length c = search needs
 
 returns-2 : tie.Need-returns-2
 returns-2 c =
@@ -85,5 +61,11 @@ returns-2 c =
 pub fill-row-spec : {M : Type 1} → statement M
 fill-row-spec =
     tie.close
-    (tie.spec is-row-requires returns add-end content-at-requires mul-numbers-into sub-numbers-into part-numbers-into-start
-    part-numbers-into-end numbers-into-requires same-length returns-2)
+    (tie.spec
+    (λ c κs. search needs)
+    returns
+    (λ c. search needs) (λ c κs. search needs) (λ c. search needs) (λ c. search needs)
+    (λ c. search needs)
+    part-numbers-into-end
+    (λ c κs. search needs) (λ c. search needs)
+    returns-2)

@@ -100,15 +100,6 @@ Inv-loop bytes n table₀ at₀ k₀ table at k = Filling bytes n table₀ at (k
 abbrev μ-loop : tie.MeasureT-loop
 μ-loop bytes n table₀ at₀ k₀ table at k = length bytes - at
 
-loop-holds : tie.Need-loop-holds Inv-loop μ-loop
-loop-holds c = starts _ _ _ (c .before .before .pre .1)
-
-fill-row-requires : tie.Need-fill-row-requires Inv-loop μ-loop
-fill-row-requires c κs = (c .before .loop-test .taken, search needs, fits _ _ _ _ _ _ (c .before .before .loop .inv) (c .before .loop-test .taken))
-
-next-field-requires : tie.Need-next-field-requires Inv-loop μ-loop
-next-field-requires c κs = search needs
-
 loop-less : tie.Need-loop-less Inv-loop μ-loop
 loop-less c =
     let in-loop = c .before .before .before .before .before in
@@ -121,13 +112,16 @@ loop-again c =
     let l = in-loop .before in
     turn _ _ _ _ _ _ (l .loop .inv) (in-loop .loop-test .taken) _ _ (c .next-field .ensures) (fr .fill-row .ensures)
 
-same-length : tie.Need-same-length Inv-loop μ-loop
-same-length c = c .before .loop .inv .long
-
-returns : tie.Need-returns Inv-loop μ-loop
-returns c = done _ _ _ _ _ _ (c .before .loop .inv) (c .loop-test .left)
-
 pub fill-table-spec : {M : Type 1} → statement M
 fill-table-spec =
     tie.close
-    (tie.spec Inv-loop μ-loop loop-holds fill-row-requires next-field-requires loop-less loop-again same-length returns)
+    (tie.spec
+    Inv-loop
+    μ-loop
+    (λ c. starts _ _ _ (c .before .before .pre .1))
+    (λ c κs. (c .before .loop-test .taken, search needs, fits _ _ _ _ _ _ (c .before .before .loop .inv) (c .before .loop-test .taken)))
+    (λ c κs. search needs)
+    loop-less
+    loop-again
+    (λ c. c .before .loop .inv .long)
+    (λ c. done _ _ _ _ _ _ (c .before .loop .inv) (c .loop-test .left)))

@@ -18,8 +18,10 @@ mul-result-2 c =
     let h : s .args .job .n * s .args .job .n ≤ 32 * 32 = mul-le-mul (s .pre .0) (s .pre .0) in
     record { fits = omega arith }
 
-returns : tie.Need-returns
-returns c = refl
-
 pub has-room-spec : {M : Type 1} → statement M
-has-room-spec = tie.close (tie.spec mul-result mul-result-2 returns)
+has-room-spec =
+    tie.close
+    (tie.spec
+    mul-result
+    mul-result-2
+    (λ c. refl))

@@ -38,81 +38,6 @@ is : (bytes places : List ℕ) (n rows : ℕ) (np ns : ℤ) (x y z : Float) (p q
 unfolding job-at
 is bytes places n rows np ns x y z p q r k o e₁ e₂ e₃ e₄ e₅ e₆ e₇ e₈ e₉ f₁ f₂ f₃ = rw (e₁, e₂, e₃, e₄, e₅, e₆, e₇, e₈, e₉, f₁, f₂, f₃)
 
-element-copy-out-word-at : tie.Need-element-copy-out-word-at
-element-copy-out-word-at c = search needs
-
-word-at-requires : tie.Need-word-at-requires
-word-at-requires c κs = search needs
-
-element-copy-out-limits : tie.Need-element-copy-out-limits
-element-copy-out-limits c = search needs
-
-element-copy-out-word-at-2 : tie.Need-element-copy-out-word-at-2
-element-copy-out-word-at-2 c = search needs
-
-word-at-requires-2 : tie.Need-word-at-requires-2
-word-at-requires-2 c κs = search needs
-
-element-copy-out-half-at : tie.Need-element-copy-out-half-at
-element-copy-out-half-at c = search needs
-
-half-at-requires : tie.Need-half-at-requires
-half-at-requires c κs = search needs
-
-count-rows-requires : tie.Need-count-rows-requires
-count-rows-requires c κs = search needs
-
-part-requires : tie.Need-part-requires
-part-requires c κs = search needs
-
-cast-t18 : tie.Need-cast-t18
-cast-t18 c = search needs
-
-part-requires-2 : tie.Need-part-requires-2
-part-requires-2 c κs = search needs
-
-cast-t20 : tie.Need-cast-t20
-cast-t20 c = search needs
-
-number-at-requires : tie.Need-number-at-requires
-number-at-requires c κs = search needs
-
-number-at-requires-2 : tie.Need-number-at-requires-2
-number-at-requires-2 c κs = search needs
-
-number-at-requires-3 : tie.Need-number-at-requires-3
-number-at-requires-3 c κs = search needs
-
-part-requires-3 : tie.Need-part-requires-3
-part-requires-3 c κs = search needs
-
-signed-requires : tie.Need-signed-requires
-signed-requires c κs = search needs
-
-part-requires-4 : tie.Need-part-requires-4
-part-requires-4 c κs = search needs
-
-signed-requires-2 : tie.Need-signed-requires-2
-signed-requires-2 c κs = search needs
-
-part-requires-5 : tie.Need-part-requires-5
-part-requires-5 c κs = search needs
-
-signed-requires-3 : tie.Need-signed-requires-3
-signed-requires-3 c κs = search needs
-
-element-copy-out-number-at : tie.Need-element-copy-out-number-at
-element-copy-out-number-at c = search needs
-
-number-at-requires-4 : tie.Need-number-at-requires-4
-number-at-requires-4 c κs = search needs
-
-element-copy-out-job-options : tie.Need-element-copy-out-job-options
-element-copy-out-job-options c = search needs
-
-job-options-requires : tie.Need-job-options-requires
-job-options-requires c κs = search needs
-
 returns : tie.Need-returns
 returns c =
     let na4 = c .before .before in
@@ -143,29 +68,11 @@ pub job-at-spec : {M : Type 1} → statement M
 job-at-spec =
     tie.close
     (tie.spec
-    element-copy-out-word-at
-    word-at-requires
-    element-copy-out-limits
-    element-copy-out-word-at-2
-    word-at-requires-2
-    element-copy-out-half-at
-    half-at-requires
-    count-rows-requires
-    part-requires
-    cast-t18
-    part-requires-2
-    cast-t20
-    number-at-requires
-    number-at-requires-2
-    number-at-requires-3
-    part-requires-3
-    signed-requires
-    part-requires-4
-    signed-requires-2
-    part-requires-5
-    signed-requires-3
-    element-copy-out-number-at
-    number-at-requires-4
-    element-copy-out-job-options
-    job-options-requires
+    (λ c. search needs) (λ c κs. search needs) (λ c. search needs) (λ c. search needs)
+    (λ c κs. search needs) (λ c. search needs) (λ c κs. search needs) (λ c κs. search needs)
+    (λ c κs. search needs) (λ c. search needs) (λ c κs. search needs) (λ c. search needs)
+    (λ c κs. search needs) (λ c κs. search needs) (λ c κs. search needs) (λ c κs. search needs)
+    (λ c κs. search needs) (λ c κs. search needs) (λ c κs. search needs) (λ c κs. search needs)
+    (λ c κs. search needs) (λ c. search needs) (λ c κs. search needs) (λ c. search needs)
+    (λ c κs. search needs)
     returns)

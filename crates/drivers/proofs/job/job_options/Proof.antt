@@ -28,36 +28,6 @@ module _ (bytes : List ℕ) (p : ℕ) (o : Options) where
       let t : take (length bytes - p) (drop p bytes) ≡ drop p bytes = take-all (length bytes - p) (drop p bytes) (rw (length-drop p bytes) (omega arith)) in
       e ∙ rw (d, a, b, t)
 
-new-requires : tie.Need-new-requires
-new-requires c κs = search needs
-
-returns : tie.Need-returns
-returns c = past _ _ _ (c .before .if1 .taken) (c .new .ensures)
-
-sub-content : tie.Need-sub-content
-sub-content c = search needs
-
-part-content-start : tie.Need-part-content-start
-part-content-start c = search needs
-
-part-content-end : tie.Need-part-content-end
-part-content-end c = search needs
-
-word-at-requires : tie.Need-word-at-requires
-word-at-requires c κs = search needs
-
-cast-new : tie.Need-cast-new
-cast-new c = search needs
-
-word-at-requires-2 : tie.Need-word-at-requires-2
-word-at-requires-2 c κs = search needs
-
-of-bits-requires : tie.Need-of-bits-requires
-of-bits-requires c κs = search needs
-
-new-requires-2 : tie.Need-new-requires-2
-new-requires-2 c κs = search needs
-
 returns-2 : tie.Need-returns-2
 returns-2 c =
     let ob = c .before in
@@ -68,5 +38,9 @@ returns-2 c =
 pub job-options-spec : {M : Type 1} → statement M
 job-options-spec =
     tie.close
-    (tie.spec new-requires returns sub-content part-content-start part-content-end word-at-requires cast-new word-at-requires-2 of-bits-requires
-    new-requires-2 returns-2)
+    (tie.spec
+    (λ c κs. search needs)
+    (λ c. past _ _ _ (c .before .if1 .taken) (c .new .ensures))
+    (λ c. search needs) (λ c. search needs) (λ c. search needs) (λ c κs. search needs)
+    (λ c. search needs) (λ c κs. search needs) (λ c κs. search needs) (λ c κs. search needs)
+    returns-2)

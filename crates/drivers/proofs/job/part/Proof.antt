@@ -15,14 +15,10 @@ middle w k e = rw e
 high : (w k : ℕ) → k ≡ 2 → w / 4294967296 % 65536 ≡ part-of w k
 high w k e = rw e
 
-returns : tie.Need-returns
-returns c = low _ _ (c .if1 .taken)
-
-returns-2 : tie.Need-returns-2
-returns-2 c = middle _ _ (c .if2 .taken)
-
-returns-3 : tie.Need-returns-3
-returns-3 c = high _ (c .before .before .args .k) (omega arith)
-
 pub part-spec : {M : Type 1} → statement M
-part-spec = tie.close (tie.spec returns returns-2 returns-3)
+part-spec =
+    tie.close
+    (tie.spec
+    (λ c. low _ _ (c .if1 .taken))
+    (λ c. middle _ _ (c .if2 .taken))
+    (λ c. high _ (c .before .before .args .k) (omega arith)))

@@ -44,32 +44,11 @@ small : (bytes : List ℕ) (fault : Fault) → fault ≡ job-fault bytes → fau
     → (job-at bytes places .n ≤ 32) × (job-at bytes places .rows ≤ 1024)
 small bytes fault e d places p = let h = sound-job bytes (sym e ∙ d) in rw p (n-to _ h, rows-to _ h)
 
-job-fault-requires : tie.Need-job-fault-requires
-job-fault-requires c κs = refl
-
-enum-known-fault : tie.Need-enum-known-fault
-enum-known-fault c = search needs
-
-enum-told : tie.Need-enum-told
-enum-told c = search needs
-
 read-sound-requires : tie.Need-read-sound-requires
 read-sound-requires c κs =
     let m = c .before .before .before .before .before in
     let jf = m .before in
     small _ _ (jf .job-fault .ensures .0) (sound _ (m .match .keys2)) _ (jf .job-fault .ensures .1)
-
-returns : tie.Need-returns
-returns c = refused _ _ _ _ _ (c .before .before .before .job-fault .ensures .0) _ _ (c .before .fault .given .1)
-
-same-length : tie.Need-same-length
-same-length c = search needs
-
-same-length-2 : tie.Need-same-length-2
-same-length-2 c = search needs
-
-same-length-3 : tie.Need-same-length-3
-same-length-3 c = search needs
 
 returns-2 : tie.Need-returns-2
 returns-2 c =
@@ -81,4 +60,10 @@ returns-2 c =
 pub read-job-spec : {M : Type 1} → statement M
 read-job-spec =
     tie.close
-    (tie.spec job-fault-requires enum-known-fault enum-told read-sound-requires returns same-length same-length-2 same-length-3 returns-2)
+    (tie.spec
+    (λ c κs. refl)
+    (λ c. search needs) (λ c. search needs)
+    read-sound-requires
+    (λ c. refused _ _ _ _ _ (c .before .before .before .job-fault .ensures .0) _ _ (c .before .fault .given .1))
+    (λ c. search needs) (λ c. search needs) (λ c. search needs)
+    returns-2)

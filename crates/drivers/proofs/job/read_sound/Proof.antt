@@ -58,15 +58,6 @@ module _ (bytes places : List ℕ) (table xc mq : List Float) (j : Job) (d : j �
         let r : j .rows ≡ row-count bytes (fields-of bytes) = ap (λ (i : Job). i .rows) d ∙ rows-are bytes places in
         (s, rw (← r) k, leb-true (j .n) (length xc) (q .1), leb-true (j .n * j .n) (length mq) (p .1))
 
-job-at-requires : tie.Need-job-at-requires
-job-at-requires c κs = search needs
-
-has-room-requires : tie.Need-has-room-requires
-has-room-requires c κs = rw (c .job-at .ensures) (c .before .before .before .before .before .pre)
-
-returns : tie.Need-returns
-returns c = refused _ _ _ _ _ _ (c .before .before .job-at .ensures) _ (c .before .has-room .ensures) (c .if1 .taken)
-
 fill-job-requires : tie.Need-fill-job-requires
 fill-job-requires c κs =
     let test = c .before .before .before in
@@ -74,15 +65,6 @@ fill-job-requires c κs =
     let ja = hr .before in
     let a = ja .before .before .before .before .before .args in
     room _ _ (a .table .now) (a .xc .now) (a .mq .now) _ (ja .job-at .ensures) _ (hr .has-room .ensures) (test .if1 .left) (rw (ja .job-at .ensures) (ja .before .before .before .before .before .pre .0))
-
-same-length : tie.Need-same-length
-same-length c = search needs
-
-same-length-2 : tie.Need-same-length-2
-same-length-2 c = search needs
-
-same-length-3 : tie.Need-same-length-3
-same-length-3 c = search needs
 
 returns-2 : tie.Need-returns-2
 returns-2 c =
@@ -96,11 +78,9 @@ pub read-sound-spec : {M : Type 1} → statement M
 read-sound-spec =
     tie.close
     (tie.spec
-    job-at-requires
-    has-room-requires
-    returns
+    (λ c κs. search needs)
+    (λ c κs. rw (c .job-at .ensures) (c .before .before .before .before .before .pre))
+    (λ c. refused _ _ _ _ _ _ (c .before .before .job-at .ensures) _ (c .before .has-room .ensures) (c .if1 .taken))
     fill-job-requires
-    same-length
-    same-length-2
-    same-length-3
+    (λ c. search needs) (λ c. search needs) (λ c. search needs)
     returns-2)

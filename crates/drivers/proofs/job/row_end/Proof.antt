@@ -24,17 +24,11 @@ module _ (rows : ℕ) (t : Bool) (e : t ≡ is-rows rows) where
   outside : t ≡ false → none ≡ row-end rows
   outside h = skip _ _ _ _ (sym e ∙ h) refl
 
-is-rows-requires : tie.Need-is-rows-requires
-is-rows-requires c κs = tt
-
-cast-result : tie.Need-cast-result
-cast-result c = half-fits _ (small _ _ (c .before .is-rows .ensures) (c .if1 .taken))
-
-returns : tie.Need-returns
-returns c = inside (c .before .before .args .rows) _ (c .before .is-rows .ensures) (c .if1 .taken)
-
-returns-2 : tie.Need-returns-2
-returns-2 c = outside (c .before .before .args .rows) _ (c .before .is-rows .ensures) (c .if1 .left)
-
 pub row-end-spec : {M : Type 1} → statement M
-row-end-spec = tie.close (tie.spec is-rows-requires cast-result returns returns-2)
+row-end-spec =
+    tie.close
+    (tie.spec
+    (λ c κs. tt)
+    (λ c. half-fits _ (small _ _ (c .before .is-rows .ensures) (c .if1 .taken)))
+    (λ c. inside (c .before .before .args .rows) _ (c .before .is-rows .ensures) (c .if1 .taken))
+    (λ c. outside (c .before .before .args .rows) _ (c .before .is-rows .ensures) (c .if1 .left)))

@@ -20,20 +20,12 @@ high : (h : ℕ) → h < 65536 → 32768 ≤ h → toZ w32 (ofZ w32 (toZ w32 h -
 unfolding signed
 high h l b = skip _ _ _ _ (le-ltb h 32768 b) (reads-less h 65536 l (omega arith))
 
-cast-result : tie.Need-cast-result
-cast-result c = half-fits _ (c .before .pre)
-
-returns : tie.Need-returns
-returns c = low _ (c .before .pre) (c .if1 .taken)
-
-cast-result-2 : tie.Need-cast-result-2
-cast-result-2 c = half-fits _ (c .before .pre)
-
-sub-result : tie.Need-sub-result
-sub-result c = rw (reads-half _ (c .before .pre)) (less-fits _ 65536 (c .before .pre) (omega arith))
-
-returns-2 : tie.Need-returns-2
-returns-2 c = high _ (c .before .pre) (c .if1 .left)
-
 pub signed-spec : {M : Type 1} → statement M
-signed-spec = tie.close (tie.spec cast-result returns cast-result-2 sub-result returns-2)
+signed-spec =
+    tie.close
+    (tie.spec
+    (λ c. half-fits _ (c .before .pre))
+    (λ c. low _ (c .before .pre) (c .if1 .taken))
+    (λ c. half-fits _ (c .before .pre))
+    (λ c. rw (reads-half _ (c .before .pre)) (less-fits _ 65536 (c .before .pre) (omega arith)))
+    (λ c. high _ (c .before .pre) (c .if1 .left)))

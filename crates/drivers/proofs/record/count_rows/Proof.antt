@@ -32,21 +32,6 @@ Inv-loop bytes at₀ rows₀ at rows = (rows ≤ at) × (rows + row-count bytes 
 abbrev μ-loop : tie.MeasureT-loop
 μ-loop bytes at₀ rows₀ at rows = length bytes - at
 
-loop-holds : tie.Need-loop-holds Inv-loop μ-loop
-loop-holds c = (search needs, rw (fields-start _) (omega arith))
-
-rows-in-requires : tie.Need-rows-in-requires Inv-loop μ-loop
-rows-in-requires c κs = search needs
-
-add-rows : tie.Need-add-rows Inv-loop μ-loop
-add-rows c = let k : c .rows-in .result ≤ 1 = rw (c .rows-in .ensures) (one _ _) in record { fits = omega arith }
-
-next-field-requires : tie.Need-next-field-requires Inv-loop μ-loop
-next-field-requires c κs = search needs
-
-loop-less : tie.Need-loop-less Inv-loop μ-loop
-loop-less c = left-less _ _ _ (c .next-field .ensures) (c .before .before .loop-test .taken)
-
 loop-again : tie.Need-loop-again Inv-loop μ-loop
 loop-again c =
     let ri = c .before in
@@ -54,10 +39,16 @@ loop-again c =
     let l = in-loop .before in
     goes-on _ _ _ _ (l .loop .inv .1) _ _ (in-loop .loop-test .taken) (l .loop .inv .0) (ri .rows-in .ensures) (c .next-field .ensures)
 
-returns : tie.Need-returns Inv-loop μ-loop
-returns c = ends _ _ _ _ (c .before .loop .inv .1) (c .loop-test .left)
-
 pub count-rows-spec : {M : Type 1} → statement M
 count-rows-spec =
     tie.close
-    (tie.spec Inv-loop μ-loop loop-holds rows-in-requires add-rows next-field-requires loop-less loop-again returns)
+    (tie.spec
+    Inv-loop
+    μ-loop
+    (λ c. (search needs, rw (fields-start _) (omega arith)))
+    (λ c κs. search needs)
+    (λ c. let k : c .rows-in .result ≤ 1 = rw (c .rows-in .ensures) (one _ _) in record { fits = omega arith })
+    (λ c κs. search needs)
+    (λ c. left-less _ _ _ (c .next-field .ensures) (c .before .before .loop-test .taken))
+    loop-again
+    (λ c. ends _ _ _ _ (c .before .loop .inv .1) (c .loop-test .left)))

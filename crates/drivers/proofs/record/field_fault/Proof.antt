@@ -62,31 +62,13 @@ module _ (bytes : List ℕ) (form : Form) (places : List ℕ) (at : ℕ) where
             (at-next (held _ _ (sym known ∙ not-false t f))
             (at-next (held _ _ (rw (← e, ← d) (ap not g))) (held _ _ (ap not (le-ltb (length bytes - at) (3 + length-at bytes at) (omega arith))))))
 
-sub-if1 : tie.Need-sub-if1
-sub-if1 c = search needs
-
-returns : tie.Need-returns
-returns c = no-header _ _ _ _ (c .if1 .taken)
-
-tag-at-requires : tie.Need-tag-at-requires
-tag-at-requires c κs = search needs
-
-rule-index-requires : tie.Need-rule-index-requires
-rule-index-requires c κs = search needs
-
-rule-at-requires : tie.Need-rule-at-requires
-rule-at-requires c κs = search needs
-
-is-of-requires : tie.Need-is-of-requires
-is-of-requires c κs = search needs
-
 returns-2 : tie.Need-returns-2
 returns-2 c =
     let io = c .before in
     let ra = io .before in
     let ri = ra .before in
     let ta = ri .before in
-    foreign _ _ _ _ (ta .before .if1 .left) _ (ri .rule-index .ensures ∙ ap index-of (ta .tag-at .ensures)) _ (ra .rule-at .ensures) _ (io .is-of .ensures) (c .if2 .taken)
+    foreign _ _ _ _ (ta .before .if1 .left) _ (ri .rule-index .ensures ∙ ap index-of (ta .byte-at .ensures)) _ (ra .rule-at .ensures) _ (io .is-of .ensures) (c .if2 .taken)
 
 element-copy-out-if3 : tie.Need-element-copy-out-if3
 element-copy-out-if3 c =
@@ -94,10 +76,7 @@ element-copy-out-if3 c =
     let ra = io .before in
     let ri = ra .before in
     let ta = ri .before in
-    listed _ _ _ _ (ri .rule-index .ensures ∙ ap index-of (ta .tag-at .ensures)) _ (ra .rule-at .ensures) _ (io .is-of .ensures) (c .if2 .left)
-
-mul-if3 : tie.Need-mul-if3
-mul-if3 c = record { fits = omega (arith, element-copy-out-if3 c) }
+    listed _ _ _ _ (ri .rule-index .ensures ∙ ap index-of (ta .byte-at .ensures)) _ (ra .rule-at .ensures) _ (io .is-of .ensures) (c .if2 .left)
 
 returns-3 : tie.Need-returns-3
 returns-3 c =
@@ -106,16 +85,7 @@ returns-3 c =
     let ra = io .before in
     let ri = ra .before in
     let ta = ri .before in
-    again _ _ _ _ (ta .before .if1 .left) _ (ri .rule-index .ensures ∙ ap index-of (ta .tag-at .ensures)) _ (ra .rule-at .ensures) _ (io .is-of .ensures) (test2 .if2 .left) (c .if3 .taken)
-
-sub-if4 : tie.Need-sub-if4
-sub-if4 c = search needs
-
-sub-if4-2 : tie.Need-sub-if4-2
-sub-if4-2 c = search needs
-
-length-at-requires : tie.Need-length-at-requires
-length-at-requires c κs = search needs
+    again _ _ _ _ (ta .before .if1 .left) _ (ri .rule-index .ensures ∙ ap index-of (ta .byte-at .ensures)) _ (ra .rule-at .ensures) _ (io .is-of .ensures) (test2 .if2 .left) (c .if3 .taken)
 
 returns-4 : tie.Need-returns-4
 returns-4 c =
@@ -126,7 +96,7 @@ returns-4 c =
     let ra = io .before in
     let ri = ra .before in
     let ta = ri .before in
-    no-content _ _ _ _ (ta .before .if1 .left) _ (ri .rule-index .ensures ∙ ap index-of (ta .tag-at .ensures)) _ (ra .rule-at .ensures) _ (io .is-of .ensures) (test2 .if2 .left)
+    no-content _ _ _ _ (ta .before .if1 .left) _ (ri .rule-index .ensures ∙ ap index-of (ta .byte-at .ensures)) _ (ra .rule-at .ensures) _ (io .is-of .ensures) (test2 .if2 .left)
     (test3 .if3 .left) _ (la .length-at .ensures) (c .if4 .taken)
 
 returns-5 : tie.Need-returns-5
@@ -138,11 +108,20 @@ returns-5 c =
     let ra = io .before in
     let ri = ra .before in
     let ta = ri .before in
-    sound _ _ _ _ (ta .before .if1 .left) _ (ri .rule-index .ensures ∙ ap index-of (ta .tag-at .ensures)) _ (ra .rule-at .ensures) _ (io .is-of .ensures) (test2 .if2 .left)
+    sound _ _ _ _ (ta .before .if1 .left) _ (ri .rule-index .ensures ∙ ap index-of (ta .byte-at .ensures)) _ (ra .rule-at .ensures) _ (io .is-of .ensures) (test2 .if2 .left)
     (test3 .if3 .left) _ (la .length-at .ensures) (c .if4 .left)
 
 pub field-fault-spec : {M : Type 1} → statement M
 field-fault-spec =
     tie.close
-    (tie.spec sub-if1 returns tag-at-requires rule-index-requires rule-at-requires is-of-requires returns-2 mul-if3 element-copy-out-if3 returns-3
-    sub-if4 sub-if4-2 length-at-requires returns-4 returns-5)
+    (tie.spec
+    (λ c. search needs)
+    (λ c. no-header _ _ _ _ (c .if1 .taken))
+    (λ c κs. search needs) (λ c κs. search needs) (λ c κs. search needs) (λ c κs. search needs)
+    returns-2
+    (λ c. record { fits = omega (arith, element-copy-out-if3 c) })
+    element-copy-out-if3
+    returns-3
+    (λ c. search needs) (λ c. search needs) (λ c κs. search needs)
+    returns-4
+    returns-5)

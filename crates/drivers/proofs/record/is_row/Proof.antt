@@ -7,14 +7,9 @@ use Rattle.drivers.proofs.record.is_row.Statement.{statement}
 use Rattle.drivers.proofs.record.is_row.Tie as tie
 use Rattle.drivers.specs.Rules.{row-place, index-of}
 
-tag-at-requires : tie.Need-tag-at-requires
-tag-at-requires c κs = search needs
-
-rule-index-requires : tie.Need-rule-index-requires
-rule-index-requires c κs = search needs
-
-returns : tie.Need-returns
-returns c = ap (λ (i : ℕ). eqb i row-place) (c .rule-index .ensures ∙ ap index-of (c .before .tag-at .ensures))
-
 pub is-row-spec : {M : Type 1} → statement M
-is-row-spec = tie.close (tie.spec tag-at-requires rule-index-requires returns)
+is-row-spec =
+    tie.close
+    (tie.spec
+    (λ c κs. search needs) (λ c κs. search needs)
+    (λ c. ap (λ (i : ℕ). eqb i row-place) (c .rule-index .ensures ∙ ap index-of (c .before .byte-at .ensures))))

@@ -40,21 +40,6 @@ Inv-loop bytes n at₀ at = lengths-fault n bytes (fields-after bytes at) ≡ le
 abbrev μ-loop : tie.MeasureT-loop
 μ-loop bytes n at₀ at = length bytes - at
 
-loop-holds : tie.Need-loop-holds Inv-loop μ-loop
-loop-holds c = rw (fields-start _)
-
-tag-at-requires : tie.Need-tag-at-requires Inv-loop μ-loop
-tag-at-requires c κs = search needs
-
-rule-index-requires : tie.Need-rule-index-requires Inv-loop μ-loop
-rule-index-requires c κs = search needs
-
-length-at-requires : tie.Need-length-at-requires Inv-loop μ-loop
-length-at-requires c κs = search needs
-
-rule-length-requires : tie.Need-rule-length-requires Inv-loop μ-loop
-rule-length-requires c κs = search needs
-
 returns : tie.Need-returns Inv-loop μ-loop
 returns c =
     let rl = c .before in
@@ -64,11 +49,8 @@ returns c =
     let in-loop = ta .before in
     let l = in-loop .before in
     let s = l .before .before in
-    let i = ri .rule-index .ensures ∙ ap index-of (ta .tag-at .ensures) in
+    let i = ri .rule-index .ensures ∙ ap index-of (ta .byte-at .ensures) in
     stops _ _ _ _ (l .loop .inv) (in-loop .loop-test .taken) _ _ (la .length-at .ensures) (rl .rule-length .ensures ∙ ap (λ (z : ℕ). rule-length z (s .args .n)) i) (c .if1 .taken)
-
-next-field-requires : tie.Need-next-field-requires Inv-loop μ-loop
-next-field-requires c κs = search needs
 
 loop-less : tie.Need-loop-less Inv-loop μ-loop
 loop-less c =
@@ -85,14 +67,19 @@ loop-again c =
     let in-loop = ta .before in
     let l = in-loop .before in
     let s = l .before .before in
-    let i = ri .rule-index .ensures ∙ ap index-of (ta .tag-at .ensures) in
+    let i = ri .rule-index .ensures ∙ ap index-of (ta .byte-at .ensures) in
     goes-on _ _ _ _ (l .loop .inv) (in-loop .loop-test .taken) _ _ (la .length-at .ensures) (rl .rule-length .ensures ∙ ap (λ (z : ℕ). rule-length z (s .args .n)) i) (test1 .if1 .left) _ (c .next-field .ensures)
-
-returns-2 : tie.Need-returns-2 Inv-loop μ-loop
-returns-2 c = ends _ _ _ _ (c .before .loop .inv) (c .loop-test .left)
 
 pub lengths-fault-spec : {M : Type 1} → statement M
 lengths-fault-spec =
     tie.close
-    (tie.spec Inv-loop μ-loop loop-holds tag-at-requires rule-index-requires length-at-requires rule-length-requires returns next-field-requires
-    loop-less loop-again returns-2)
+    (tie.spec
+    Inv-loop
+    μ-loop
+    (λ c. rw (fields-start _))
+    (λ c κs. search needs) (λ c κs. search needs) (λ c κs. search needs) (λ c κs. search needs)
+    returns
+    (λ c κs. search needs)
+    loop-less
+    loop-again
+    (λ c. ends _ _ _ _ (c .before .loop .inv) (c .loop-test .left)))

@@ -42,32 +42,11 @@ Inv-loop end form places i₀ i = (i ≤ tags) × ((j : ℕ) → j < i → is-mi
 abbrev μ-loop : tie.MeasureT-loop
 μ-loop end form places i₀ i = tags - i
 
-loop-holds : tie.Need-loop-holds Inv-loop μ-loop
-loop-holds c = (search needs, λ j b. absurd (omega arith))
-
-rule-at-requires : tie.Need-rule-at-requires Inv-loop μ-loop
-rule-at-requires c κs = search needs
-
-is-of-requires : tie.Need-is-of-requires Inv-loop μ-loop
-is-of-requires c κs = search needs
-
-mul-if1 : tie.Need-mul-if1 Inv-loop μ-loop
-mul-if1 c = search needs
-
-element-copy-out-if1 : tie.Need-element-copy-out-if1 Inv-loop μ-loop
-element-copy-out-if1 c = search needs
-
 returns : tie.Need-returns Inv-loop μ-loop
 returns c =
     let io = c .before .before .before in
     let ra = io .before in
     found _ _ _ _ _ (ra .rule-at .ensures) _ (io .is-of .ensures) (ra .before .loop-test .taken) (c .if1 .taken)
-
-add-i : tie.Need-add-i Inv-loop μ-loop
-add-i c = search needs
-
-loop-less : tie.Need-loop-less Inv-loop μ-loop
-loop-less c = search needs
 
 loop-again : tie.Need-loop-again Inv-loop μ-loop
 loop-again c =
@@ -77,10 +56,15 @@ loop-again c =
     let s = l .before in
     (search needs, one-more (s .args .end) (s .args .form) (s .args .places .now) (l .loop .i) _ (ra .rule-at .ensures) _ (io .is-of .ensures) (l .loop .inv .1) (c .if1 .left))
 
-returns-2 : tie.Need-returns-2 Inv-loop μ-loop
-returns-2 c = none _ _ _ _ (c .before .loop .inv .1) (c .loop-test .left)
-
 pub missing-fault-spec : {M : Type 1} → statement M
 missing-fault-spec =
     tie.close
-    (tie.spec Inv-loop μ-loop loop-holds rule-at-requires is-of-requires mul-if1 element-copy-out-if1 returns add-i loop-less loop-again returns-2)
+    (tie.spec
+    Inv-loop
+    μ-loop
+    (λ c. (search needs, λ j b. absurd (omega arith)))
+    (λ c κs. search needs) (λ c κs. search needs) (λ c. search needs) (λ c. search needs)
+    returns
+    (λ c. search needs) (λ c. search needs)
+    loop-again
+    (λ c. none _ _ _ _ (c .before .loop .inv .1) (c .loop-test .left)))

@@ -18,24 +18,11 @@ whole : (bytes : List ℕ) (at l : ℕ) → l ≡ length-at bytes at → 3 + l �
 unfolding after
 whole bytes at l e h = skip _ _ _ _ (le-ltb _ _ (rw e at h)) (rw e)
 
-length-at-requires : tie.Need-length-at-requires
-length-at-requires c κs = search needs
-
-add-whole : tie.Need-add-whole
-add-whole c = search needs
-
-sub-if1 : tie.Need-sub-if1
-sub-if1 c = search needs
-
-returns : tie.Need-returns
-returns c = cut _ _ _ (c .before .length-at .ensures) (c .if1 .taken)
-
-add-result : tie.Need-add-result
-add-result c = search needs
-
-returns-2 : tie.Need-returns-2
-returns-2 c = whole _ _ _ (c .before .length-at .ensures) (c .if1 .left)
-
 pub next-field-spec : {M : Type 1} → statement M
 next-field-spec =
-    tie.close (tie.spec length-at-requires add-whole sub-if1 returns add-result returns-2)
+    tie.close
+    (tie.spec
+    (λ c κs. search needs) (λ c. search needs) (λ c. search needs)
+    (λ c. cut _ _ _ (c .before .length-at .ensures) (c .if1 .taken))
+    (λ c. search needs)
+    (λ c. whole _ _ _ (c .before .length-at .ensures) (c .if1 .left)))

@@ -22,18 +22,6 @@ module _ (bytes : List ℕ) (form : Form) (places₀ places : List ℕ) (f : Fau
   unfolding record-fault
   goes-on t m d = rw (← e) (ap (λ (z : Fault). (z, places)) (skip (is-fault f) f _ m t d))
 
-walk-requires : tie.Need-walk-requires
-walk-requires c κs = search needs
-
-is-fault-requires : tie.Need-is-fault-requires
-is-fault-requires c κs = search needs
-
-returns : tie.Need-returns
-returns c = stops _ _ _ _ _ (c .before .before .walk .ensures) (sym (c .before .is-fault .ensures) ∙ c .if1 .taken)
-
-missing-fault-requires : tie.Need-missing-fault-requires
-missing-fault-requires c κs = search needs
-
 returns-2 : tie.Need-returns-2
 returns-2 c =
     let test1 = c .before .before in
@@ -43,4 +31,9 @@ returns-2 c =
 
 pub record-fault-spec : {M : Type 1} → statement M
 record-fault-spec =
-    tie.close (tie.spec walk-requires is-fault-requires returns missing-fault-requires returns-2)
+    tie.close
+    (tie.spec
+    (λ c κs. search needs) (λ c κs. search needs)
+    (λ c. stops _ _ _ _ _ (c .before .before .walk .ensures) (sym (c .before .is-fault .ensures) ∙ c .if1 .taken))
+    (λ c κs. search needs)
+    returns-2)

@@ -59,27 +59,12 @@ Inv-loop bytes form places₀ at₀ places at = walk-of bytes form (fields-after
 abbrev μ-loop : tie.MeasureT-loop
 μ-loop bytes form places₀ at₀ places at = length bytes - at
 
-loop-holds : tie.Need-loop-holds Inv-loop μ-loop
-loop-holds c = rw (fields-start _)
-
-field-fault-requires : tie.Need-field-fault-requires Inv-loop μ-loop
-field-fault-requires c κs = search needs
-
-is-fault-requires : tie.Need-is-fault-requires Inv-loop μ-loop
-is-fault-requires c κs = search needs
-
 returns : tie.Need-returns Inv-loop μ-loop
 returns c =
     let asked1 = c .before in
     let ff = asked1 .before in
     let in-loop = ff .before .before in
     stops _ _ _ _ _ (in-loop .loop-test .taken) (ff .field-fault .ensures) _ (in-loop .before .loop .inv) (sym (asked1 .is-fault .ensures) ∙ c .if1 .taken)
-
-tag-at-requires : tie.Need-tag-at-requires Inv-loop μ-loop
-tag-at-requires c κs = search needs
-
-rule-index-requires : tie.Need-rule-index-requires Inv-loop μ-loop
-rule-index-requires c κs = search needs
 
 element-copy-out-first-place : tie.Need-element-copy-out-first-place Inv-loop μ-loop
 element-copy-out-first-place c =
@@ -89,33 +74,7 @@ element-copy-out-first-place c =
     let ff = asked1 .before in
     let in-loop = ff .before .before in
     listed _ _ _ _ _ (in-loop .loop-test .taken) (ff .field-fault .ensures) _ (in-loop .before .loop .inv) (sym (asked1 .is-fault .ensures) ∙ test1 .if1 .left) _
-    (c .rule-index .ensures ∙ ap index-of (ta .tag-at .ensures))
-
-mul-first-place : tie.Need-mul-first-place Inv-loop μ-loop
-mul-first-place c = record { fits = omega (arith, element-copy-out-first-place c) }
-
-content-at-requires : tie.Need-content-at-requires Inv-loop μ-loop
-content-at-requires c κs = search needs
-
-first-place-requires : tie.Need-first-place-requires Inv-loop μ-loop
-first-place-requires c κs = search needs
-
-element-write-places : tie.Need-element-write-places Inv-loop μ-loop
-element-write-places c =
-    let ri = c .before .before .before in
-    let ta = ri .before in
-    let test1 = ta .before in
-    let asked1 = test1 .before in
-    let ff = asked1 .before in
-    let in-loop = ff .before .before in
-    listed _ _ _ _ _ (in-loop .loop-test .taken) (ff .field-fault .ensures) _ (in-loop .before .loop .inv) (sym (asked1 .is-fault .ensures) ∙ test1 .if1 .left) _
-    (ri .rule-index .ensures ∙ ap index-of (ta .tag-at .ensures))
-
-mul-places : tie.Need-mul-places Inv-loop μ-loop
-mul-places c = record { fits = omega (arith, element-write-places c) }
-
-next-field-requires : tie.Need-next-field-requires Inv-loop μ-loop
-next-field-requires c κs = search needs
+    (c .rule-index .ensures ∙ ap index-of (ta .byte-at .ensures))
 
 loop-less : tie.Need-loop-less Inv-loop μ-loop
 loop-less c =
@@ -133,14 +92,24 @@ loop-again c =
     let ff = asked1 .before in
     let in-loop = ff .before .before in
     goes-on _ _ _ _ _ (in-loop .loop-test .taken) (ff .field-fault .ensures) _ (in-loop .before .loop .inv) (sym (asked1 .is-fault .ensures) ∙ test1 .if1 .left) _ _ _ _
-    (ri .rule-index .ensures ∙ ap index-of (ta .tag-at .ensures)) (ca .content-at .ensures) (fp .first-place .ensures) (c .next-field .ensures)
-
-returns-2 : tie.Need-returns-2 Inv-loop μ-loop
-returns-2 c = ends _ _ _ _ _ (c .before .loop .inv) (c .loop-test .left)
+    (ri .rule-index .ensures ∙ ap index-of (ta .byte-at .ensures)) (ca .content-at .ensures) (fp .first-place .ensures) (c .next-field .ensures)
 
 pub walk-spec : {M : Type 1} → statement M
 walk-spec =
     tie.close
-    (tie.spec Inv-loop μ-loop loop-holds field-fault-requires is-fault-requires returns tag-at-requires rule-index-requires mul-first-place
-    element-copy-out-first-place content-at-requires first-place-requires mul-places element-write-places next-field-requires loop-less loop-again
-    returns-2)
+    (tie.spec
+    Inv-loop
+    μ-loop
+    (λ c. rw (fields-start _))
+    (λ c κs. search needs) (λ c κs. search needs)
+    returns
+    (λ c κs. search needs) (λ c κs. search needs)
+    (λ c. record { fits = omega (arith, element-copy-out-first-place c) })
+    element-copy-out-first-place
+    (λ c κs. search needs) (λ c κs. search needs)
+    (λ c. record { fits = omega (arith, element-copy-out-first-place (c .before .before .before)) })
+    (λ c. element-copy-out-first-place (c .before .before .before))
+    (λ c κs. search needs)
+    loop-less
+    loop-again
+    (λ c. ends _ _ _ _ _ (c .before .loop .inv) (c .loop-test .left)))

@@ -15,20 +15,17 @@ one n k e = rw (e, pow-suc n 0, pow-zero n) (omega arith)
 two : (n k : ℕ) → k ≡ 2 → n * n ≡ n ^ k
 two n k e = rw (e, pow-suc n 1, pow-suc n 0, pow-zero n) (omega arith)
 
-returns : tie.Need-returns
-returns c = none _ _ (c .if1 .taken)
-
-returns-2 : tie.Need-returns-2
-returns-2 c = one _ _ (c .if2 .taken)
-
 mul-result : tie.Need-mul-result
 mul-result c =
     let s = c .before .before in
     let h : s .args .n * s .args .n ≤ 32 * 32 = mul-le-mul (s .pre .0) (s .pre .0) in
     record { fits = omega arith }
 
-returns-3 : tie.Need-returns-3
-returns-3 c = two _ _ (omega arith)
-
 pub power-spec : {M : Type 1} → statement M
-power-spec = tie.close (tie.spec returns returns-2 mul-result returns-3)
+power-spec =
+    tie.close
+    (tie.spec
+    (λ c. none _ _ (c .if1 .taken))
+    (λ c. one _ _ (c .if2 .taken))
+    mul-result
+    (λ c. two _ _ (omega arith)))

@@ -14,30 +14,12 @@ Inv-loop tag table i₀ i = (i ≤ 12) × (index-of tag ≡ i + index-in (drop i
 abbrev μ-loop : tie.MeasureT-loop
 μ-loop tag table i₀ i = 12 - i
 
-loop-holds : tie.Need-loop-holds Inv-loop μ-loop
-loop-holds c = (search needs, index-start _)
-
-mul-rule : tie.Need-mul-rule Inv-loop μ-loop
-mul-rule c = search needs
-
-array-copy-out-rule : tie.Need-array-copy-out-rule Inv-loop μ-loop
-array-copy-out-rule c = search needs
-
-cast-if1 : tie.Need-cast-if1 Inv-loop μ-loop
-cast-if1 c = search needs
-
 returns : tie.Need-returns Inv-loop μ-loop
 unfolding rules
 returns c =
     let in-loop = c .before .before .before in
     let h = in-loop .loop-test .taken in
     index-found _ _ _ (rule-within _ _ h) h (c .if1 .taken) (in-loop .before .loop .inv .1)
-
-add-i : tie.Need-add-i Inv-loop μ-loop
-add-i c = search needs
-
-loop-less : tie.Need-loop-less Inv-loop μ-loop
-loop-less c = search needs
 
 loop-again : tie.Need-loop-again Inv-loop μ-loop
 unfolding rules
@@ -46,10 +28,15 @@ loop-again c =
     let h = in-loop .loop-test .taken in
     (search needs, index-turn _ _ _ (rule-within _ _ h) h (c .if1 .left) (in-loop .before .loop .inv .1))
 
-returns-2 : tie.Need-returns-2 Inv-loop μ-loop
-returns-2 c = index-end _ _ (search needs) (c .before .loop .inv .1)
-
 pub rule-index-spec : {M : Type 1} → statement M
 rule-index-spec =
     tie.close
-    (tie.spec Inv-loop μ-loop loop-holds mul-rule array-copy-out-rule cast-if1 returns add-i loop-less loop-again returns-2)
+    (tie.spec
+    Inv-loop
+    μ-loop
+    (λ c. (search needs, index-start _))
+    (λ c. search needs) (λ c. search needs) (λ c. search needs)
+    returns
+    (λ c. search needs) (λ c. search needs)
+    loop-again
+    (λ c. index-end _ _ (search needs) (c .before .loop .inv .1)))

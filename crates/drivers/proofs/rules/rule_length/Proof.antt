@@ -25,21 +25,6 @@ is : (i n p : ℕ) (r : Rule) → r ≡ rule-at i → p ≡ n ^ (r .4) → r .2 
 unfolding rule-length
 is i n p r e d = rw (d, e)
 
-rule-at-requires : tie.Need-rule-at-requires
-rule-at-requires c κs = search needs
-
-cast-result : tie.Need-cast-result
-cast-result c = search needs
-
-cast-result-2 : tie.Need-cast-result-2
-cast-result-2 c = search needs
-
-cast-power : tie.Need-cast-power
-cast-power c = search needs
-
-power-requires : tie.Need-power-requires
-power-requires c κs = (search needs, small _ _ (c .before .before .before .rule-at .ensures) .2)
-
 mul-result : tie.Need-mul-result
 mul-result c =
     let ra = c .before .before .before .before in
@@ -62,4 +47,9 @@ returns c =
 pub rule-length-spec : {M : Type 1} → statement M
 rule-length-spec =
     tie.close
-    (tie.spec rule-at-requires cast-result cast-result-2 cast-power power-requires mul-result add-result returns)
+    (tie.spec
+    (λ c κs. search needs) (λ c. search needs) (λ c. search needs) (λ c. search needs)
+    (λ c κs. (search needs, small _ _ (c .before .before .before .rule-at .ensures) .2))
+    mul-result
+    add-result
+    returns)

@@ -7,21 +7,9 @@ use Rattle.drivers.proofs.text.digit_char.Statement.{statement}
 use Rattle.drivers.proofs.text.digit_char.Tie as tie
 use Rattle.numbers.specs.laws.Pick.{hit, skip}
 
-cast-result : tie.Need-cast-result
-cast-result c = search needs
-
-add-result : tie.Need-add-result
-add-result c = search needs
-
 returns : tie.Need-returns
 unfolding digit-char
 returns c = hit _ _ _ _ (lt-ltb (c .before .args .d) 10 (search needs)) refl
-
-cast-result-2 : tie.Need-cast-result-2
-cast-result-2 c = search needs
-
-add-result-2 : tie.Need-add-result-2
-add-result-2 c = search needs
 
 returns-2 : tie.Need-returns-2
 unfolding digit-char
@@ -29,4 +17,9 @@ returns-2 c = skip _ _ _ _ (le-ltb (c .before .args .d) 10 (search needs)) refl
 
 pub digit-char-spec : {M : Type 1} → statement M
 digit-char-spec =
-    tie.close (tie.spec cast-result add-result returns cast-result-2 add-result-2 returns-2)
+    tie.close
+    (tie.spec
+    (λ c. search needs) (λ c. search needs)
+    returns
+    (λ c. search needs) (λ c. search needs)
+    returns-2)

@@ -12,21 +12,14 @@ Inv-loop w rest₀ count₀ rest count = Counted w rest count
 abbrev μ-loop : tie.MeasureT-loop
 μ-loop w rest₀ count₀ rest count = 20 - count
 
-loop-holds : tie.Need-loop-holds Inv-loop μ-loop
-loop-holds c = counted-start _ (search needs)
-
-add-count : tie.Need-add-count Inv-loop μ-loop
-add-count c = search needs
-
-loop-less : tie.Need-loop-less Inv-loop μ-loop
-loop-less c = omega (arith, counted-turn _ _ _ (c .before .loop .inv) (search needs) .0)
-
-loop-again : tie.Need-loop-again Inv-loop μ-loop
-loop-again c = counted-turn _ _ _ (c .before .loop .inv) (search needs) .1
-
-returns : tie.Need-returns Inv-loop μ-loop
-returns c = counted-done _ _ _ (c .before .loop .inv) (search needs)
-
 pub digit-count-spec : {M : Type 1} → statement M
 digit-count-spec =
-    tie.close (tie.spec Inv-loop μ-loop loop-holds add-count loop-less loop-again returns)
+    tie.close
+    (tie.spec
+    Inv-loop
+    μ-loop
+    (λ c. counted-start _ (search needs))
+    (λ c. search needs)
+    (λ c. omega (arith, counted-turn _ _ _ (c .before .loop .inv) (search needs) .0))
+    (λ c. counted-turn _ _ _ (c .before .loop .inv) (search needs) .1)
+    (λ c. counted-done _ _ _ (c .before .loop .inv) (search needs)))

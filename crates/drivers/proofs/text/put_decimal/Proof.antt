@@ -7,15 +7,6 @@ use Rattle.drivers.specs.laws.Text.{put}
 use Rattle.drivers.proofs.text.put_decimal.Statement.{statement}
 use Rattle.drivers.proofs.text.put_decimal.Tie as tie
 
-digit-count-requires : tie.Need-digit-count-requires
-digit-count-requires c κs = search needs
-
-put-digits-requires : tie.Need-put-digits-requires
-put-digits-requires c κs = search needs
-
-same-length : tie.Need-same-length
-same-length c = search needs
-
 returns : tie.Need-returns
 unfolding decimal
 returns c =
@@ -27,4 +18,7 @@ returns c =
 
 pub put-decimal-spec : {M : Type 1} → statement M
 put-decimal-spec =
-    tie.close (tie.spec digit-count-requires put-digits-requires same-length returns)
+    tie.close
+    (tie.spec
+    (λ c κs. search needs) (λ c κs. search needs) (λ c. search needs)
+    returns)

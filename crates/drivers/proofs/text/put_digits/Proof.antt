@@ -19,51 +19,21 @@ returns c =
     let a = c .before .before .args in
     put-not _ _ _ (omega (arith, length-digits (a .base) (a .count) (a .w)))
 
-sub-if2 : tie.Need-sub-if2 Inv-loop μ-loop
-sub-if2 c = search needs
-
 returns-2 : tie.Need-returns-2 Inv-loop μ-loop
 returns-2 c =
     let start = c .before .before .before in
     let a = start .args in
     put-not _ _ _ (omega (arith, length-digits (a .base) (a .count) (a .w)))
 
-add-end : tie.Need-add-end Inv-loop μ-loop
-add-end c = search needs
-
-loop-holds : tie.Need-loop-holds Inv-loop μ-loop
-loop-holds c = (search needs, down-start _ _ _ _ (search needs))
-
-sub-i : tie.Need-sub-i Inv-loop μ-loop
-sub-i c = search needs
-
-rem-digit-char : tie.Need-rem-digit-char Inv-loop μ-loop
-rem-digit-char c = search needs
-
 digit-char-requires : tie.Need-digit-char-requires Inv-loop μ-loop
 digit-char-requires c κs =
     let start = c .before .before .before .before .before in
     omega (arith, mod-lt (c .before .loop .rest) {m = start .args .base} (search needs))
 
-slice-write-out : tie.Need-slice-write-out Inv-loop μ-loop
-slice-write-out c = omega (arith, c .before .before .loop .inv .1 .long, c .before .before .loop .inv .1 .within, c .before .before .loop .inv .1 .room)
-
-div-rest : tie.Need-div-rest Inv-loop μ-loop
-div-rest c = search needs
-
-loop-less : tie.Need-loop-less Inv-loop μ-loop
-loop-less c = search needs
-
 loop-again : tie.Need-loop-again Inv-loop μ-loop
 loop-again c =
     let l = c .before .before .loop in
     (search needs, down-turn _ _ _ _ (l .out) (l .i) (l .rest) _ (l .inv .1) (search needs) (c .digit-char .ensures))
-
-same-length : tie.Need-same-length Inv-loop μ-loop
-same-length c = c .before .loop .inv .1 .long
-
-returns-3 : tie.Need-returns-3 Inv-loop μ-loop
-returns-3 c = down-done _ _ _ _ _ _ _ _ (c .before .loop .inv .1) (c .before .loop .inv .0) (search needs)
 
 pub put-digits-spec : {M : Type 1} → statement M
 put-digits-spec =
@@ -72,16 +42,14 @@ put-digits-spec =
     Inv-loop
     μ-loop
     returns
-    sub-if2
+    (λ c. search needs)
     returns-2
-    add-end
-    loop-holds
-    sub-i
-    rem-digit-char
+    (λ c. search needs)
+    (λ c. (search needs, down-start _ _ _ _ (search needs)))
+    (λ c. search needs) (λ c. search needs)
     digit-char-requires
-    slice-write-out
-    div-rest
-    loop-less
+    (λ c. omega (arith, c .before .before .loop .inv .1 .long, c .before .before .loop .inv .1 .within, c .before .before .loop .inv .1 .room))
+    (λ c. search needs) (λ c. search needs)
     loop-again
-    same-length
-    returns-3)
+    (λ c. c .before .loop .inv .1 .long)
+    (λ c. down-done _ _ _ _ _ _ _ _ (c .before .loop .inv .1) (c .before .loop .inv .0) (search needs)))

@@ -6,30 +6,6 @@ use borrow.Author.Needs.{needs}
 use Rattle.drivers.proofs.trace.put_cut.Statement.{statement}
 use Rattle.drivers.proofs.trace.put_cut.Tie as tie
 
-put-decimal-requires : tie.Need-put-decimal-requires
-put-decimal-requires c κs = search needs
-
-put-group-requires : tie.Need-put-group-requires
-put-group-requires c κs = search needs
-
-put-row-requires : tie.Need-put-row-requires
-put-row-requires c κs = search needs
-
-is-over-requires : tie.Need-is-over-requires
-is-over-requires c κs = search needs
-
-put-side-requires : tie.Need-put-side-requires
-put-side-requires c κs = search needs
-
-put-betas-requires : tie.Need-put-betas-requires
-put-betas-requires c κs = search needs
-
-put-status-requires : tie.Need-put-status-requires
-put-status-requires c κs = search needs
-
-same-length : tie.Need-same-length
-same-length c = search needs
-
 returns : tie.Need-returns
 returns c =
     let status = c .before .before in
@@ -50,12 +26,6 @@ pub put-cut-spec : {M : Type 1} → statement M
 put-cut-spec =
     tie.close
     (tie.spec
-    put-decimal-requires
-    put-group-requires
-    put-row-requires
-    is-over-requires
-    put-side-requires
-    put-betas-requires
-    put-status-requires
-    same-length
+    (λ c κs. search needs) (λ c κs. search needs) (λ c κs. search needs) (λ c κs. search needs)
+    (λ c κs. search needs) (λ c κs. search needs) (λ c κs. search needs) (λ c. search needs)
     returns)

@@ -4,24 +4,6 @@ use borrow.Author.Needs.{needs}
 use Rattle.drivers.proofs.trace.put_last.Statement.{statement}
 use Rattle.drivers.proofs.trace.put_last.Tie as tie
 
-put-outcome-requires : tie.Need-put-outcome-requires
-put-outcome-requires c κs = search needs
-
-cast-put-decimal : tie.Need-cast-put-decimal
-cast-put-decimal c = search needs
-
-put-decimal-requires : tie.Need-put-decimal-requires
-put-decimal-requires c κs = search needs
-
-slice-aggregate-put-text : tie.Need-slice-aggregate-put-text
-slice-aggregate-put-text c = search needs
-
-put-text-requires : tie.Need-put-text-requires
-put-text-requires c κs = search needs
-
-same-length : tie.Need-same-length
-same-length c = search needs
-
 returns : tie.Need-returns
 returns c =
     let text = c .before .before in
@@ -35,10 +17,6 @@ pub put-last-spec : {M : Type 1} → statement M
 put-last-spec =
     tie.close
     (tie.spec
-    put-outcome-requires
-    cast-put-decimal
-    put-decimal-requires
-    slice-aggregate-put-text
-    put-text-requires
-    same-length
+    (λ c κs. search needs) (λ c. search needs) (λ c κs. search needs) (λ c. search needs)
+    (λ c κs. search needs) (λ c. search needs)
     returns)

@@ -5,15 +5,6 @@ use borrow.Author.Needs.{needs}
 use Rattle.drivers.proofs.trace.refused_line.Statement.{statement}
 use Rattle.drivers.proofs.trace.refused_line.Tie as tie
 
-returns : tie.Need-returns
-returns c = not-printed-in _ _ (c .if1 .taken)
-
-put-refused-requires : tie.Need-put-refused-requires
-put-refused-requires c κs = search needs
-
-same-length : tie.Need-same-length
-same-length c = search needs
-
 returns-2 : tie.Need-returns-2
 returns-2 c =
     let refused = c .before .before in
@@ -23,4 +14,9 @@ returns-2 c =
     printed-in _ _ _ (test .if1 .left) (omega (arith, refused-most (a .why) (a .place))) (refused .put-refused .ensures)
 
 pub refused-line-spec : {M : Type 1} → statement M
-refused-line-spec = tie.close (tie.spec returns put-refused-requires same-length returns-2)
+refused-line-spec =
+    tie.close
+    (tie.spec
+    (λ c. not-printed-in _ _ (c .if1 .taken))
+    (λ c κs. search needs) (λ c. search needs)
+    returns-2)

@@ -15,27 +15,6 @@ Inv-loop from text mark₀ i₀ mark i = (i ≤ length text) × (marked mark (dr
 abbrev μ-loop : tie.MeasureT-loop
 μ-loop from text mark₀ i₀ mark i = length text - i
 
-loop-holds : tie.Need-loop-holds Inv-loop μ-loop
-loop-holds c = (omega arith, refl)
-
-mul-mark : tie.Need-mul-mark Inv-loop μ-loop
-mul-mark c = search needs
-
-shared-slice-read-mark : tie.Need-shared-slice-read-mark Inv-loop μ-loop
-shared-slice-read-mark c = search needs
-
-cast-mark : tie.Need-cast-mark Inv-loop μ-loop
-cast-mark c = record { fits = omega (arith, c .shared-slice-known .given (c .before .before .loop .i) .fits) }
-
-add-mark : tie.Need-add-mark Inv-loop μ-loop
-add-mark c = record { fits = omega (arith, c .shared-slice-known .given (c .before .before .loop .i) .fits) }
-
-add-i : tie.Need-add-i Inv-loop μ-loop
-add-i c = search needs
-
-loop-less : tie.Need-loop-less Inv-loop μ-loop
-loop-less c = search needs
-
 loop-again : tie.Need-loop-again Inv-loop μ-loop
 loop-again c =
     let l = c .before .before .loop in
@@ -52,12 +31,10 @@ mark-on-spec =
     (tie.spec
     Inv-loop
     μ-loop
-    loop-holds
-    mul-mark
-    shared-slice-read-mark
-    cast-mark
-    add-mark
-    add-i
-    loop-less
+    (λ c. (omega arith, refl))
+    (λ c. search needs) (λ c. search needs)
+    (λ c. record { fits = omega (arith, c .shared-slice-known .given (c .before .before .loop .i) .fits) })
+    (λ c. record { fits = omega (arith, c .shared-slice-known .given (c .before .before .loop .i) .fits) })
+    (λ c. search needs) (λ c. search needs)
     loop-again
     returns)

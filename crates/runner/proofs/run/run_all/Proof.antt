@@ -5,26 +5,26 @@ use Prim.Native.Nat.{ℕ, _<_}
 use borrow.Author.Needs.{needs}
 use lib.ListN.{length}
 use lib.Ieee.{Float}
-use Rattle.drivers.specs.declared.trace.Printed.{Printed}
-use Rattle.drivers.specs.laws.Calls.{last-done, calls-fewer, calls-turn, all-from, texts-done, texts-turn, texts-from, Left, calls-left, last-of, text-of, texts-after}
+use Rattle.drivers.specs.declared.run.Printed.{Printed}
+use Rattle.drivers.specs.laws.Calls.{last-done, calls-fewer, calls-turn, all-from, texts-done, texts-turn, texts-from, CallEnd, calls-after, last-of, text-of, texts-after}
 use Rattle.runner.specs.Mark.{marked}
 use Rattle.runner.specs.laws.Mark.{marked-append, marked-none}
 use Rattle.runner.proofs.run.run_all.Statement.{statement}
 use Rattle.runner.proofs.run.run_all.Tie as tie
 
 -- what a call left
-abbrev left-by : List Float → List Float → List Float → List Float → List ℕ → Printed → Left
+abbrev left-by : List Float → List Float → List Float → List Float → List ℕ → Printed → CallEnd
 left-by mq xc grad grad-t out printed = (printed, record { mq = mq; xc = xc; grad-t = grad-t }, grad, out)
 
-abbrev last-after : List Float → Left → Left
-last-after table r = last-of (calls-left (r .0)) table r
+abbrev last-after : List Float → CallEnd → CallEnd
+last-after table r = last-of (calls-after (r .0)) table r
 
 -- the mark of all that will have been written
-abbrev all-after : List Float → Left → ℕ → ℕ
+abbrev all-after : List Float → CallEnd → ℕ → ℕ
 all-after table r mark = marked mark (texts-after table r)
 
 -- a call's text joins what was written before, and the rest follows
-text-joins : (table : List Float) (r : Left) (mark mark′ : ℕ) → mark′ ≡ marked mark (text-of r) → all-after table r mark′ ≡ marked mark (text-of r ++ texts-after table r)
+text-joins : (table : List Float) (r : CallEnd) (mark mark′ : ℕ) → mark′ ≡ marked mark (text-of r) → all-after table r mark′ ≡ marked mark (text-of r ++ texts-after table r)
 text-joins table r mark mark′ e = ap (all-after table r) e ∙ marked-append mark (text-of r) (texts-after table r)
 
 abbrev Inv-loop : tie.InvT-loop
@@ -35,16 +35,7 @@ Inv-loop mark₀ table mq₀ xc₀ grad₀ grad-t₀ out₀ printed₀ mark mq x
     × (length mq ≡ length mq₀) × (length xc ≡ length xc₀) × (length grad ≡ length grad₀) × (length grad-t ≡ length grad-t₀) × (length out ≡ length out₀)
 
 abbrev μ-loop : tie.MeasureT-loop
-μ-loop mark₀ table mq₀ xc₀ grad₀ grad-t₀ out₀ printed₀ mark mq xc grad grad-t out printed = calls-left printed
-
-step-requires : tie.Need-step-requires Inv-loop μ-loop
-step-requires c κs = search needs
-
-loop-holds : tie.Need-loop-holds Inv-loop μ-loop
-loop-holds c = (refl, refl, refl, refl, refl, refl, refl)
-
-step-requires-2 : tie.Need-step-requires-2 Inv-loop μ-loop
-step-requires-2 c κs = search needs
+μ-loop mark₀ table mq₀ xc₀ grad₀ grad-t₀ out₀ printed₀ mark mq xc grad grad-t out printed = calls-after printed
 
 loop-less : tie.Need-loop-less Inv-loop μ-loop
 loop-less c =
@@ -53,7 +44,7 @@ loop-less c =
     let f = c .before .before .before .before .before .before .before .before .before .before .step2 in
     let more = c .before .before .before .before .before .before .before .before .before .before .before .before .before .before .before .before .before .before .loop-test .taken in
     let r = left-by (l .mq) (l .xc) (l .grad) (l .grad-t) (l .out) (l .printed) in
-    subst (λ (q : Left). calls-left (q .0) < calls-left (r .0)) (sym (f .ensures .0)) (calls-fewer table r more)
+    subst (λ (q : CallEnd). calls-after (q .0) < calls-after (r .0)) (sym (f .ensures .0)) (calls-fewer table r more)
 
 loop-again : tie.Need-loop-again Inv-loop μ-loop
 loop-again c =
@@ -64,7 +55,7 @@ loop-again c =
     let r = left-by (l .mq) (l .xc) (l .grad) (l .grad-t) (l .out) (l .printed) in (
       ap (last-after table) (f .ensures .0) ∙ sym (calls-turn table r more) ∙ l .inv .0,
       text-joins table _ (l .mark) _ (f .ensures .1)
-          ∙ ap (λ (q : Left). marked (l .mark) (text-of q ++ texts-after table q)) (f .ensures .0)
+          ∙ ap (λ (q : CallEnd). marked (l .mark) (text-of q ++ texts-after table q)) (f .ensures .0)
           ∙ ap (marked (l .mark)) (sym (texts-turn table r more)) ∙ l .inv .1,
       f .kept .1 .1 .1 .0 ∙ l .inv .2,
       f .kept .1 .1 .1 .1 .0 ∙ l .inv .3,
@@ -72,21 +63,6 @@ loop-again c =
       f .kept .1 .1 .1 .1 .1 .1 .0 ∙ l .inv .5,
       f .kept .1 .1 .1 .1 .1 .1 .1 .0 ∙ l .inv .6,
     )
-
-same-length : tie.Need-same-length Inv-loop μ-loop
-same-length c = search needs
-
-same-length-2 : tie.Need-same-length-2 Inv-loop μ-loop
-same-length-2 c = search needs
-
-same-length-3 : tie.Need-same-length-3 Inv-loop μ-loop
-same-length-3 c = search needs
-
-same-length-4 : tie.Need-same-length-4 Inv-loop μ-loop
-same-length-4 c = search needs
-
-same-length-5 : tie.Need-same-length-5 Inv-loop μ-loop
-same-length-5 c = search needs
 
 returns : tie.Need-returns Inv-loop μ-loop
 returns c =
@@ -107,14 +83,10 @@ run-all-spec =
     (tie.spec
     Inv-loop
     μ-loop
-    step-requires
-    loop-holds
-    step-requires-2
+    (λ c κs. search needs)
+    (λ c. (refl, refl, refl, refl, refl, refl, refl))
+    (λ c κs. search needs)
     loop-less
     loop-again
-    same-length
-    same-length-2
-    same-length-3
-    same-length-4
-    same-length-5
+    (λ c. search needs) (λ c. search needs) (λ c. search needs) (λ c. search needs) (λ c. search needs)
     returns)

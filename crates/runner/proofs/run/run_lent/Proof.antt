@@ -9,10 +9,10 @@ use lib.Ieee.{Float}
 use Rattle.numbers.specs.F64.{0ᶠ}
 use Rattle.drivers.specs.Program.{program-text}
 use Rattle.drivers.specs.laws.Program.{program-prints, run-all-prints, open-held, calls-text}
-use Rattle.drivers.specs.Trace.{open-answer}
-use Rattle.drivers.specs.declared.trace.Run.{Run}
-use Rattle.drivers.specs.declared.trace.Opened.{Opened}
-use Rattle.drivers.specs.declared.trace.Opened.the-variants.{Going}
+use Rattle.drivers.specs.Run.{open-answer}
+use Rattle.drivers.specs.declared.run.Run.{Run}
+use Rattle.drivers.specs.declared.run.Opened.{Opened}
+use Rattle.drivers.specs.declared.run.Opened.the-variants.{Started}
 use Rattle.drivers.specs.laws.Calls.{run-all-text}
 use Rattle.runner.specs.Mark.{marked}
 use Rattle.runner.proofs.run.run_lent.Statement.{statement}
@@ -31,7 +31,7 @@ as-known {table = table} {xc = xc} {mq = mq} {out = out} e h = sym e ∙ ap (λ 
 
 -- the run that `open` gives, over scratch of zeros, prints the program's text
 module _ (bytes : List ℕ) (table xc mq : List Float) (out : List ℕ) (t : length table ≡ 32768) (x : length xc ≡ 32) (m : length mq ≡ 1024) (room : 128 ≤ length out) where
-  run-prints : (run : Run) (table′ xc′ mq′ grad grad-t : List Float) (out′ : List ℕ) → open-answer bytes table xc mq out ≡ (Going run, table′, xc′, mq′, out′)
+  run-prints : (run : Run) (table′ xc′ mq′ grad grad-t : List Float) (out′ : List ℕ) → open-answer bytes table xc mq out ≡ (Started run, table′, xc′, mq′, out′)
       → length xc′ ≡ 32 → grad ≡ replicate 32 0ᶠ → grad-t ≡ replicate 32 0ᶠ
       → let n = run .ell .ndim in
       run-all-text run (take (run .rows * n) table′) (record { mq = take (n * n) mq′; xc = take n xc′; grad-t = take n grad-t }) (take n grad) out′ ≡ program-text bytes
@@ -41,12 +41,6 @@ module _ (bytes : List ℕ) (table xc mq : List Float) (out : List ℕ) (t : len
       let front : (xs : List Float) → xs ≡ replicate 32 0ᶠ → take n xs ≡ replicate n 0ᶠ = λ xs h. ap (take n) h ∙ zeros-front n 32 in-32 in
       rw (front grad g, front grad-t gt) (run-all-prints bytes table xc mq table′ xc′ mq′ out out′ run t x m room e)
 
-open-requires : tie.Need-open-requires
-open-requires c κs = search needs
-
-enum-known-opened : tie.Need-enum-known-opened
-enum-known-opened c = search needs
-
 run-sized-requires : tie.Need-run-sized-requires
 run-sized-requires c κs =
     let a = c .before .before .before .before .before .before .before .before .before .before .before .before .before .before .before .before .before .args in
@@ -54,12 +48,6 @@ run-sized-requires c κs =
     let run = c .before .before .before .before .before .before .before .before .before .opened .given in
     let h = open-held (a .bytes .now) (a .table .now) (a .xc .now) (a .mq .now) (a .out .now) (run .0 .0) (o .last .1 .0) (o .last .1 .1 .0) (o .last .1 .1 .1 .0) (o .last .1 .1 .1 .1 .0) (as-known (o .ensures) (run .1)) in
     (h, omega (arith, h .xc-long), omega (arith, h .xc-long))
-
-enum-known-opened-2 : tie.Need-enum-known-opened-2
-enum-known-opened-2 c = search needs
-
-write-text-requires : tie.Need-write-text-requires
-write-text-requires c κs = search needs
 
 returns : tie.Need-returns
 returns c =
@@ -85,10 +73,8 @@ pub run-lent-spec : {M : Type 1} → statement M
 run-lent-spec =
     tie.close
     (tie.spec
-    open-requires
-    enum-known-opened
+    (λ c κs. search needs) (λ c. search needs)
     run-sized-requires
-    enum-known-opened-2
-    write-text-requires
+    (λ c. search needs) (λ c κs. search needs)
     returns
     returns-2)

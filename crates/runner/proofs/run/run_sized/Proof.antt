@@ -7,7 +7,7 @@ use borrow.Author.Needs.{needs}
 use lib.ListN.{take}
 use lib.Seq.{length-take-le}
 use lib.Ieee.{Float}
-use Rattle.drivers.specs.declared.trace.Run.{Run}
+use Rattle.drivers.specs.declared.run.Run.{Run}
 use Rattle.drivers.specs.laws.Calls.{run-all-text}
 use Rattle.runner.specs.Mark.{marked}
 use Rattle.runner.proofs.run.run_sized.Statement.{statement}
@@ -21,12 +21,6 @@ fronts-text : (run : Run) (n rows : ℕ) (table mq xc grad grad-t : List Float) 
 fronts-text run n rows table mq xc grad grad-t out e f =
     λ i. run-all-text run (take (f i * e i) table) (record { mq = take (e i * e i) mq; xc = take (e i) xc; grad-t = take (e i) grad-t }) (take (e i) grad) out
 
-n-requires : tie.Need-n-requires
-n-requires c κs = search needs
-
-rows-requires : tie.Need-rows-requires
-rows-requires c κs = search needs
-
 mul-numbers : tie.Need-mul-numbers
 mul-numbers c = record { fits = rw (c .rows .ensures, c .before .n .ensures) (omega (arith, c .before .before .before .before .before .before .before .before .pre .0 .table-long)) }
 
@@ -36,47 +30,17 @@ mul-square c = record { fits = rw (c .before .n .ensures) (omega (arith, c .befo
 slice-aggregate-run-all : tie.Need-slice-aggregate-run-all
 slice-aggregate-run-all c = sym (length-take-le _ (c .before .before .before .before .before .before .before .before .before .before .args .table .now) (rw (c .before .before .rows .ensures, c .before .before .before .n .ensures) (c .before .before .before .before .before .before .before .before .before .before .pre .0 .table-long)))
 
-slice-relend-prefix-run-all : tie.Need-slice-relend-prefix-run-all
-slice-relend-prefix-run-all c = rw (c .before .before .before .n .ensures) (c .before .before .before .before .before .before .before .before .before .before .pre .0 .mq-long)
-
 slice-aggregate-run-all-2 : tie.Need-slice-aggregate-run-all-2
 slice-aggregate-run-all-2 c = sym (length-take-le _ (c .before .before .before .before .before .before .before .before .before .before .before .args .mq .now) (rw (c .before .before .before .before .n .ensures) (c .before .before .before .before .before .before .before .before .before .before .before .pre .0 .mq-long)))
-
-slice-relend-prefix-run-all-2 : tie.Need-slice-relend-prefix-run-all-2
-slice-relend-prefix-run-all-2 c = search needs
 
 slice-aggregate-run-all-3 : tie.Need-slice-aggregate-run-all-3
 slice-aggregate-run-all-3 c = sym (length-take-le _ (c .before .before .before .before .before .before .before .before .before .before .before .before .args .xc .now) (rw (c .before .before .before .before .before .n .ensures) (c .before .before .before .before .before .before .before .before .before .before .before .before .pre .0 .xc-long)))
 
-slice-relend-prefix-run-all-3 : tie.Need-slice-relend-prefix-run-all-3
-slice-relend-prefix-run-all-3 c = search needs
-
 slice-aggregate-run-all-4 : tie.Need-slice-aggregate-run-all-4
 slice-aggregate-run-all-4 c = sym (length-take-le _ (c .before .before .before .before .before .before .before .before .before .before .before .before .before .args .grad .now) (rw (c .before .before .before .before .before .before .n .ensures) (c .before .before .before .before .before .before .before .before .before .before .before .before .before .pre .1)))
 
-slice-relend-prefix-run-all-4 : tie.Need-slice-relend-prefix-run-all-4
-slice-relend-prefix-run-all-4 c = search needs
-
 slice-aggregate-run-all-5 : tie.Need-slice-aggregate-run-all-5
 slice-aggregate-run-all-5 c = sym (length-take-le _ (c .before .before .before .before .before .before .before .before .before .before .before .before .before .before .args .grad-t .now) (rw (c .before .before .before .before .before .before .before .n .ensures) (c .before .before .before .before .before .before .before .before .before .before .before .before .before .before .pre .2)))
-
-run-all-requires : tie.Need-run-all-requires
-run-all-requires c κs = search needs
-
-same-length : tie.Need-same-length
-same-length c = search needs
-
-same-length-2 : tie.Need-same-length-2
-same-length-2 c = search needs
-
-same-length-3 : tie.Need-same-length-3
-same-length-3 c = search needs
-
-same-length-4 : tie.Need-same-length-4
-same-length-4 c = search needs
-
-same-length-5 : tie.Need-same-length-5
-same-length-5 c = search needs
 
 returns : tie.Need-returns
 returns c =
@@ -88,23 +52,18 @@ pub run-sized-spec : {M : Type 1} → statement M
 run-sized-spec =
     tie.close
     (tie.spec
-    n-requires
-    rows-requires
+    (λ c κs. search needs) (λ c κs. search needs)
     mul-numbers
     mul-square
     slice-aggregate-run-all
-    slice-relend-prefix-run-all
+    (λ c. rw (c .before .before .before .n .ensures) (c .before .before .before .before .before .before .before .before .before .before .pre .0 .mq-long))
     slice-aggregate-run-all-2
-    slice-relend-prefix-run-all-2
+    (λ c. search needs)
     slice-aggregate-run-all-3
-    slice-relend-prefix-run-all-3
+    (λ c. search needs)
     slice-aggregate-run-all-4
-    slice-relend-prefix-run-all-4
+    (λ c. search needs)
     slice-aggregate-run-all-5
-    run-all-requires
-    same-length
-    same-length-2
-    same-length-3
-    same-length-4
-    same-length-5
+    (λ c κs. search needs) (λ c. search needs) (λ c. search needs) (λ c. search needs)
+    (λ c. search needs) (λ c. search needs)
     returns)

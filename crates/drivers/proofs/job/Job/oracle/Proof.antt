@@ -6,12 +6,6 @@ use Rattle.oracles.specs.laws.Start.{start-same}
 use Rattle.drivers.proofs.job.Job.oracle.Statement.{statement}
 use Rattle.drivers.proofs.job.Job.oracle.Tie as tie
 
-row-end-requires : tie.Need-row-end-requires
-row-end-requires c κs = tt
-
-start-requires : tie.Need-start-requires
-start-requires c κs = tt
-
 returns : tie.Need-returns
 returns c =
     let re = c .before .before .before .before .before .before in
@@ -22,4 +16,8 @@ returns c =
     (toZ-ofZ (record { sfits = k .0 .1 })) (toZ-ofZ (record { sfits = k .1 .0 .1 })) (toZ-ofZ (record { sfits = k .1 .1 .0 .1 })) (c .start .ensures)
 
 pub oracle-spec : {M : Type 1} → statement M
-oracle-spec = tie.close (tie.spec row-end-requires start-requires returns)
+oracle-spec =
+    tie.close
+    (tie.spec
+    (λ c κs. tt) (λ c κs. tt)
+    returns)
