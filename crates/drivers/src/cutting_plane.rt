@@ -13,7 +13,7 @@ use oracles::lowpass_oracle::Group;
 use oracles::lowpass_oracle::LowpassOracle;
 use oracles::lowpass_oracle::OptimVerdict;
 use oracles::lowpass_oracle::Verdict;
-use oracles::scan::table_fits;
+use oracles::table::table_fits;
 ghost use mathlib.Core.Path.{_≡_};
 ghost use mathlib.Core.Bool.{false};
 ghost use Rattle.oracles.specs.Ell.{updated};

@@ -16,7 +16,8 @@ use Rattle.numbers.specs.declared.refusal.Refusal.the-variants.{Band, Cursor, N
 use Rattle.numbers.specs.declared.refusal.Fault.{Fault}
 use Rattle.numbers.specs.declared.cut.CutChoice.the-variants.{Single, Parallel}
 use Rattle.oracles.specs.RoundRobin.{is-at, eqZ, moved, new-range-answer}
-use Rattle.oracles.specs.Scan.{−∞, none, is-rows, table-fits, scan-of, violated, band-beta, band-gradient}
+use Rattle.oracles.specs.Scan.{−∞, none, scan-of, violated, band-beta, band-gradient}
+use Rattle.oracles.specs.Table.{is-rows, table-fits}
 use Rattle.oracles.specs.declared.round_robin.RoundRobin.{RoundRobin}
 use Rattle.oracles.specs.declared.round_robin.CursorAnswer.{CursorAnswer}
 use Rattle.oracles.specs.declared.round_robin.CursorAnswer.the-variants.{Accepted as Fresh, Refused as NoBand}

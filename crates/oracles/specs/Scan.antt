@@ -1,20 +1,19 @@
 -- A scan of a band of rows (`scan_band` of lowpass_oracle.rs), in the Rust's order. Definitions only.
-use Prim.Native.Nat.{ℕ, zero, suc, _*_}
+use Prim.Native.Nat.{ℕ, zero, suc}
 use mathlib.Core.Bool.{Bool, true, false, _&&_}
 use mathlib.Core.List.{List, map}
-use lib.Dec.{leb, eqb}
-use lib.ListN.{length}
 use lib.IntN.{ℤ, pos, negsuc, natAbs, _-ℤ_}
 use lib.Signed.{leZ}
 use lib.Ieee.{Float, inf, lt, neg}
 use Rattle.numbers.specs.F64.{_⊖_}
 use Rattle.numbers.specs.Pick.{pick}
 use Rattle.numbers.specs.Refusal.{_⨾_, unless, ask}
-use Rattle.numbers.specs.Arr.{sized, dot-of, row-of}
+use Rattle.numbers.specs.Arr.{sized, row-of}
 use Rattle.numbers.specs.declared.refusal.Refusal.the-variants.{Band, Cursor}
 use Rattle.numbers.specs.declared.refusal.Fault.{Fault}
 use Rattle.numbers.specs.declared.cut.CutChoice.{CutChoice}
 use Rattle.numbers.specs.declared.cut.CutChoice.the-variants.{Single, Parallel}
+use Rattle.oracles.specs.Table.{is-rows, table-fits, value-of}
 use Rattle.oracles.specs.RoundRobin.{is-band, is-at, moved, advanced}
 use Rattle.oracles.specs.declared.round_robin.RoundRobin.{RoundRobin}
 use Rattle.oracles.specs.declared.scan.Upper.{Upper}
@@ -33,10 +32,6 @@ abbrev pub none : ℤ
 none = negsuc 0
 
 -- ---- a scan
-
--- row i's value: its `dot` with the point
-unfoldable pub value-of : ℕ → List Float → List Float → ℕ → Float
-value-of n table x i = dot-of (row-of n table i) x
 
 -- whether v lies above an upper limit, if there is one
 abbrev pub is-over : Upper → Float → Bool
@@ -57,14 +52,6 @@ scan-from n table x lower upper (suc left) c fmax kmax =
 -- one advance for each row of the cursor's band at most
 unfoldable pub scan-of : ℕ → List Float → List Float → RoundRobin → Float → Upper → Scan
 scan-of n table x c lower upper = scan-from n table x lower upper (natAbs (c .hi -ℤ c .lo)) c −∞ none
-
--- a table has 1 to 1,024 rows
-abbrev pub is-rows : ℕ → Bool
-is-rows rows = leb 1 rows && leb rows 1024
-
--- the lengths that n and the row count say
-abbrev pub table-fits : ℕ → ℕ → List Float → List Float → Bool
-table-fits n rows table x = eqb (length table) (rows * n) && eqb (length x) n
 
 -- lo and hi are a band of a table of so many rows
 abbrev pub band-fits : ℕ → ℤ → ℤ → Bool

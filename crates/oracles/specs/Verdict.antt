@@ -12,7 +12,8 @@ use Rattle.numbers.specs.F64.{0ᶠ}
 use Rattle.numbers.specs.Pick.{pick, some}
 use Rattle.numbers.specs.Refusal.{refusal-number, is-fault}
 use Rattle.oracles.specs.RoundRobin.{eqZ}
-use Rattle.oracles.specs.Scan.{−∞, none, value-of}
+use Rattle.oracles.specs.Scan.{−∞, none}
+use Rattle.oracles.specs.Table.{value-of}
 use Rattle.oracles.specs.LowpassOracle.{assess-tests, offered}
 use Rattle.oracles.specs.declared.lowpass_oracle.LowpassOracle.{LowpassOracle}
 use Rattle.oracles.specs.declared.lowpass_oracle.Group.the-variants.{Pass, Stop, Middle, Sign}

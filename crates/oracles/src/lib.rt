@@ -8,3 +8,4 @@ pub mod lowpass_oracle;
 pub mod numbered;
 pub mod round_robin;
 pub mod scan;
+pub mod table;

@@ -1,15 +1,15 @@
 // `scan_band` of lowpass_oracle.rs: the rows of a band in turn, from where its cursor stands.
 use crate::round_robin::RoundRobin;
 use crate::round_robin::is_band;
-use numbers::arr::Four;
-use numbers::arr::dot_four;
-use numbers::arr::dot_zip;
+use crate::table::four_values;
+use crate::table::is_rows;
+use crate::table::row_value;
+use crate::table::table_fits;
 use numbers::arr::is_dimension;
 use numbers::refusal::Refusal;
 ghost use mathlib.Core.Path.{_≡_};
 ghost use Prim.Native.Nat.{_+_, _*_, _≤_, _<_};
-ghost use lib.Dec.{T, eqb};
-ghost use mathlib.Core.Bool.{_&&_};
+ghost use lib.Dec.{T};
 ghost use mathlib.Core.Logic.{_⊎_};
 ghost use lib.IntN.{pos, natAbs};
 ghost use lib.Signed.{nonNeg};
@@ -17,8 +17,8 @@ ghost use lib.ListN.{length};
 ghost use Rattle.oracles.specs.RoundRobin.{moved};
 ghost use Rattle.oracles.specs.declared.scan.ScanAnswer.the-variants.{Refused};
 ghost use Rattle.oracles.specs.declared.scan.Upper.the-variants.{Limit};
-ghost use Rattle.oracles.specs.laws.ScanRun.{limit-of, is-broken, four-values, judged-of, scan-run, Going};
-ghost use Rattle.oracles.specs.Scan.{value-of, is-rows, band-fits, scan-from, scan-of, scan-band-answer};
+ghost use Rattle.oracles.specs.laws.ScanRun.{limit-of, is-broken, judged-of, scan-run, Going};
+ghost use Rattle.oracles.specs.Scan.{band-fits, scan-from, scan-of, scan-band-answer};
 ghost use Rattle.oracles.specs.laws.RoundRobin.{Legal};
 ghost use Rattle.oracles.specs.laws.Scan.{Ready, Scannable};
 
@@ -57,26 +57,6 @@ pub struct ScanEnd {
 pub(crate) struct Swept {
     pub(crate) scan: Scan,
     pub(crate) cursor: RoundRobin,
-}
-
-// Whether a table can have so many rows.
-pub fn is_rows(rows: usize) -> bool
-    ensures { λ r. ⌜ r ≡ is-rows rows ⌝ }
-{
-    (1 <= rows) & (rows <= 1024)
-}
-
-// Whether the table has `rows` rows of n, and the point n numbers. By division where rows × n may be beyond the machine's numbers.
-pub fn table_fits(n: usize, rows: usize, table: usize, x: usize) -> bool
-    ensures { λ r. ⌜ r ≡ (eqb table (rows * n) && eqb x n) ⌝ }
-{
-    if (n <= 65536) & (rows <= 65536) {
-        return (table == rows * n) & (x == n);
-    }
-    if n == 0 {
-        return (table == 0) & (x == 0);
-    }
-    (table / n == rows) & (table % n == 0) & (x == n)
 }
 
 // Whether lo and hi are a band of a table of so many rows.
@@ -130,29 +110,6 @@ fn row_at(rr: RoundRobin) -> usize
     ensures { λ r. ⌜ r ≡ natAbs (rr .cur) ⌝ }
 {
     rr.cur as usize
-}
-
-// Row i's value: the row is the part of the table that begins at i × n.
-fn row_value(n: usize, table: &[f64], x: &[f64], i: usize) -> f64
-    requires { ⌜ i * n + n ≤ length (now table) ⌝ }
-    ensures { λ r. ⌜ r ≡ value-of n (now (table .entry)) (now (x .entry)) i ⌝ }
-{
-    let at = i * n;
-    let end = at + n;
-    dot_zip(&table[at..end], x)
-}
-
-// The values of the four rows from row i on, each handed on as its part of the table.
-fn four_values(n: usize, table: &[f64], x: &[f64], i: usize) -> Four
-    requires { ⌜ i * n + 4 * n ≤ length (now table) ⌝ }
-    ensures { λ r. ⌜ r ≡ four-values n (now (table .entry)) (now (x .entry)) i ⌝ }
-{
-    let a = i * n;
-    let b = a + n;
-    let c = b + n;
-    let d = c + n;
-    let end = d + n;
-    dot_four(&table[a..b], &table[b..c], &table[c..d], &table[d..end], x)
 }
 
 // A row's value against the limits, and the largest value so far with this one.

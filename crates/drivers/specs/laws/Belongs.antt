@@ -14,7 +14,7 @@ use Rattle.numbers.specs.laws.Refusal.{failed, held, at-first, at-next, refuses
 use Rattle.numbers.specs.declared.refusal.Refusal.the-variants.{Dimension, Length}
 use Rattle.numbers.specs.declared.refusal.Fault.{Fault}
 use Rattle.numbers.specs.laws.Pick.{is-hit, is-skip, by-test, pick-cong, and-parts}
-use Rattle.oracles.specs.Scan.{table-fits}
+use Rattle.oracles.specs.Table.{table-fits}
 use Rattle.oracles.specs.LowpassOracle.{oracle-tests, assess-tests, assess-feas-answer}
 use Rattle.oracles.specs.Verdict.{Judgement, feasible, pass, stop, middle, sign, refused, Question, judge, judgement, is-feasible, is-accepted}
 use Rattle.oracles.specs.laws.CursorRule.{feas-rule}

@@ -20,7 +20,7 @@ use Rattle.numbers.specs.declared.refusal.Refusal.the-variants.{Dimension, Leng
 use Rattle.numbers.specs.laws.Pick.{and-parts}
 use Rattle.numbers.specs.laws.Refusal.{failed, held, at-first, at-next, refuses, accepts}
 use Rattle.oracles.specs.laws.RoundRobin.{legal-band, legal-at}
-use Rattle.oracles.specs.Scan.{is-rows, table-fits}
+use Rattle.oracles.specs.Table.{is-rows, table-fits}
 use Rattle.oracles.specs.LowpassOracle.{bands-fit, cursors-fit, refused-of, assess-of, assess-feas-answer, optim-of, assess-optim-answer, offered}
 use Rattle.oracles.specs.Verdict.{feasible, refused, asked, is-accepted, is-feasible, judgement, Peak, FeasRule, OptimRule}
 use Rattle.oracles.specs.laws.Assess.{Spans, fit-of, Accepted, accepted-of, fits-oracle}

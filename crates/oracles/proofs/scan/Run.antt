@@ -11,7 +11,8 @@ use Rattle.numbers.specs.Pick.{pick}
 use Rattle.numbers.specs.laws.Pick.{hit, skip}
 use Rattle.oracles.specs.RoundRobin.{advanced}
 use Rattle.oracles.specs.laws.RoundRobin.{canon, adv-next}
-use Rattle.oracles.specs.Scan.{value-of, is-over, scan-from}
+use Rattle.oracles.specs.Scan.{is-over, scan-from}
+use Rattle.oracles.specs.Table.{value-of}
 use Rattle.oracles.specs.laws.ScanRun.{limit-of, is-broken, tested-by, judged-of, scan-run}
 use Rattle.oracles.specs.declared.round_robin.RoundRobin.{RoundRobin}
 use Rattle.oracles.specs.declared.scan.Upper.{Upper}

@@ -16,7 +16,8 @@ use Rattle.numbers.specs.declared.refusal.Refusal.the-variants.{Dimension, Leng
 use Rattle.numbers.specs.laws.Pick.{and-parts}
 use Rattle.oracles.specs.RoundRobin.{is-band, is-at, moved}
 use Rattle.oracles.specs.laws.RoundRobin.{legal-of}
-use Rattle.oracles.specs.Scan.{is-rows, table-fits, band-fits, scan-of, scan-band-answer}
+use Rattle.oracles.specs.Scan.{band-fits, scan-of, scan-band-answer}
+use Rattle.oracles.specs.Table.{is-rows, table-fits}
 use Rattle.oracles.specs.declared.round_robin.RoundRobin.{RoundRobin}
 use Rattle.oracles.specs.declared.scan.Upper.{Upper}
 use Rattle.oracles.specs.declared.scan.ScanAnswer.the-variants.{Scanned, Refused}

@@ -13,7 +13,8 @@ use lib.Ieee.{Float}
 use Rattle.oracles.specs.RoundRobin.{moved, advanced}
 use Rattle.oracles.specs.laws.RoundRobin.{canon, legal-canon, adv-next, Legal}
 use Rattle.oracles.specs.laws.Scan.{NextRow, next-row, band-count, Ready}
-use Rattle.oracles.specs.Scan.{−∞, none, value-of, scan-from, scan-of}
+use Rattle.oracles.specs.Scan.{−∞, none, scan-from, scan-of}
+use Rattle.oracles.specs.Table.{value-of}
 use Rattle.oracles.specs.laws.ScanRun.{limit-of, is-broken, judged-of, scan-run, Going}
 use Rattle.oracles.specs.declared.round_robin.RoundRobin.{RoundRobin}
 use Rattle.oracles.specs.declared.scan.Upper.{Upper}

@@ -21,7 +21,8 @@ use Rattle.numbers.specs.declared.cut.CutChoice.the-variants.{Single}
 use Rattle.numbers.specs.laws.Pick.{and-parts, by-test}
 use Rattle.oracles.specs.RoundRobin.{is-at, moved}
 use Rattle.oracles.specs.laws.RoundRobin.{eqZ-true, legal-of, Legal}
-use Rattle.oracles.specs.Scan.{−∞, none, is-rows, table-fits, scan-of, violated, band-beta, band-gradient}
+use Rattle.oracles.specs.Scan.{−∞, none, scan-of, violated, band-beta, band-gradient}
+use Rattle.oracles.specs.Table.{is-rows, table-fits}
 use Rattle.oracles.specs.LowpassOracle.{−1ᶠ, has-band, bands-fit, cursors-fit, after-pass, after-stop, after-middle, assess-sign, assess-middle, assess-stop, assess-of, oracle-tests, assess-tests, assess-feas-answer}
 use Rattle.oracles.specs.Verdict.{is-accepted}
 use Rattle.oracles.specs.declared.round_robin.RoundRobin.{RoundRobin}

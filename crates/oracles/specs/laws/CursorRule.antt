@@ -23,7 +23,8 @@ use Rattle.numbers.specs.laws.Pick.{none-some, some-holds}
 use Rattle.numbers.specs.laws.Refusal.{of-test, of-chain, by-tests}
 use Rattle.oracles.specs.laws.RoundRobin.{eqZ-yes}
 use Rattle.oracles.specs.laws.FloatOrder.{only-nan}
-use Rattle.oracles.specs.Scan.{−∞, none, value-of, scan-of, band-beta, table-fits}
+use Rattle.oracles.specs.Scan.{−∞, none, scan-of, band-beta}
+use Rattle.oracles.specs.Table.{value-of, table-fits}
 use Rattle.oracles.specs.laws.Scan.{row-breaks, Found, Passed, found-in, top-in, passed-in, nothing-none, broken-some}
 use Rattle.oracles.specs.LowpassOracle.{offered, assess-of, improved-of, optim-of, oracle-tests, assess-tests, assess-feas-answer, assess-optim-answer}
 use Rattle.oracles.specs.laws.Assess.{Spans, Fit, fit-of, pass-scan, stop-scan, middle-scan, pass-left, stop-left, middle-left, assess-cases, accepted-of, accepted-is}

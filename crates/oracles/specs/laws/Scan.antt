@@ -15,7 +15,8 @@ use Rattle.numbers.specs.laws.Pick.{none-some, some-holds}
 use Rattle.oracles.specs.RoundRobin.{is-band, is-at, moved, advanced}
 use Rattle.oracles.specs.laws.RoundRobin.{canon, legal-canon, adv-next, adv-wrap, band-is, legal-band, legal-at, Legal}
 use Rattle.oracles.specs.laws.FloatOrder.{nlt-trans, lt-asym, lt-irrefl, above-compares}
-use Rattle.oracles.specs.Scan.{−∞, none, value-of, is-over, scan-from, scan-of, table-fits, band-fits}
+use Rattle.oracles.specs.Scan.{−∞, none, is-over, scan-from, scan-of, band-fits}
+use Rattle.oracles.specs.Table.{value-of, table-fits}
 use Rattle.oracles.specs.declared.round_robin.RoundRobin.{RoundRobin}
 use Rattle.oracles.specs.declared.scan.Upper.{Upper}
 use Rattle.oracles.specs.declared.scan.Violation.the-variants.{Nothing, Broken}

@@ -10,7 +10,8 @@ use mir.Syntax.{w32}
 use mir.Val.{SFits, toZ, ofZ}
 use mir.Facts.{toZ-ofZ}
 use Rattle.oracles.specs.RoundRobin.{is-band}
-use Rattle.oracles.specs.Scan.{is-rows, band-fits}
+use Rattle.oracles.specs.Scan.{band-fits}
+use Rattle.oracles.specs.Table.{is-rows}
 use Rattle.oracles.proofs.Signed.{read, pos-fits}
 use Rattle.oracles.proofs.scan.band_fits.Statement.{statement}
 use Rattle.oracles.proofs.scan.band_fits.Tie as tie
