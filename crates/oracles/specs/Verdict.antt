@@ -80,13 +80,27 @@ middle-breaks q i = lt (value-in q i) 0ᶠ
 abbrev pub sign-breaks : Question → Bool
 sign-breaks q = lt (getD (q .x) 0 nan) 0ᶠ
 
--- the first broken of pass, stop, middle and sign
+-- a group is broken where one of its rows breaks it
+abbrev pub pass-broken : Question → Bool
+pass-broken q = some (pass-breaks q) 0 (pass-end q)
+
+abbrev pub stop-broken : Question → Bool
+stop-broken q = some (stop-breaks q) (stop-start q) (q .rows - stop-start q)
+
+abbrev pub middle-broken : Question → Bool
+middle-broken q = some (middle-breaks q) (pass-end q) (stop-start q - pass-end q)
+
+-- the first of pass, stop, middle and sign that is broken
+unfoldable pub first-broken : Bool → Bool → Bool → Bool → Judgement
+first-broken true s m g = pass
+first-broken false true m g = stop
+first-broken false false true g = middle
+first-broken false false false true = sign
+first-broken false false false false = feasible
+
+-- the verdict on a point
 unfoldable pub judge : Question → Judgement
-judge q =
-    pick (some (pass-breaks q) 0 (pass-end q)) pass
-    (pick (some (stop-breaks q) (stop-start q) (q .rows - stop-start q)) stop
-    (pick (some (middle-breaks q) (pass-end q) (stop-start q - pass-end q)) middle
-    (pick (sign-breaks q) sign feasible)))
+judge q = first-broken (pass-broken q) (stop-broken q) (middle-broken q) (sign-breaks q)
 
 -- no row breaks and the sign holds: what feasible means, said of each row
 pub record Unbroken (q : Question) : Type 0 where
