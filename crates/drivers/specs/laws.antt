@@ -5,7 +5,6 @@ pub mod Job
 pub mod Belongs
 pub mod Text
 pub mod StepRight
-pub mod Untouched
 pub mod OptimRight
 pub mod Trace
 pub mod Calls

@@ -8,6 +8,7 @@ pub mod Judge
 pub mod CursorRule
 pub mod TwoOracles
 pub mod OracleAfter
+pub mod Untouched
 pub mod Known
 pub mod Smallest
 pub mod Matrix

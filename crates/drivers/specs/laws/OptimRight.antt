@@ -34,7 +34,7 @@ use Rattle.oracles.specs.declared.lowpass_oracle.OptimVerdict.the-variants.{Imp
 use Rattle.drivers.specs.CuttingPlane.{OptimState, check-space, kept, plain, optim-updated, optim-cut, optim-step, optim-ended}
 use Rattle.drivers.specs.Numbered.{optim-number}
 use Rattle.drivers.specs.laws.StepRight.{Fitting, right-fits, fits-right, oracle-accepts, ell-accepts}
-use Rattle.drivers.specs.laws.Untouched.{is-improved, untouched}
+use Rattle.oracles.specs.laws.Untouched.{is-improved, untouched}
 use Rattle.numbers.specs.declared.refusal.Fault.the-variants.{Sound}
 
 -- ---- a step
