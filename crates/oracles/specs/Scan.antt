@@ -14,7 +14,7 @@ use Rattle.numbers.specs.declared.refusal.Fault.{Fault}
 use Rattle.numbers.specs.declared.cut.CutChoice.{CutChoice}
 use Rattle.numbers.specs.declared.cut.CutChoice.the-variants.{Single, Parallel}
 use Rattle.oracles.specs.Table.{is-rows, table-fits, value-of}
-use Rattle.oracles.specs.RoundRobin.{is-band, is-at, moved, advanced}
+use Rattle.oracles.specs.RoundRobin.{is-band, is-at, with-cur, advanced}
 use Rattle.oracles.specs.declared.round_robin.RoundRobin.{RoundRobin}
 use Rattle.oracles.specs.declared.scan.Upper.{Upper}
 use Rattle.oracles.specs.declared.scan.Upper.the-variants.{Absent, Limit}
@@ -64,7 +64,7 @@ scan-band-tests n rows table x c = sized n (table-fits n rows table x) ⨾ ask (
 unfoldable pub scan-band-answer : ℕ → ℕ → List Float → List Float → RoundRobin → Float → Upper → ScanAnswer × RoundRobin
 scan-band-answer n rows table x c lower upper =
     let s = scan-of n table x c lower upper in
-    unless (scan-band-tests n rows table x c) (λ why place. (NotScanned why, c)) (Scanned s, moved c (s .last))
+    unless (scan-band-tests n rows table x c) (λ why place. (NotScanned why, c)) (Scanned s, with-cur c (s .last))
 
 -- ---- what a violation becomes
 

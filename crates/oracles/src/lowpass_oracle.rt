@@ -242,100 +242,42 @@ impl LowpassOracle {
     }
 
     // The oracle after the pass scan.
-    fn after_pass(self, last: i32, rr: RoundRobin) -> LowpassOracle
+    fn after_pass(mut self, last: i32, rr: RoundRobin) -> LowpassOracle
         ensures { λ r. ⌜ r ≡ after-pass self last rr ⌝ }
     {
-        let rr2 = self.rr2;
-        let rr3 = self.rr3;
-        LowpassOracle {
-            more_alt: true,
-            idx1: last,
-            nwpass: self.nwpass,
-            nwstop: self.nwstop,
-            lp_sq: self.lp_sq,
-            up_sq: self.up_sq,
-            sp_sq: self.sp_sq,
-            idx2: self.idx2,
-            idx3: self.idx3,
-            fmax: self.fmax,
-            kmax: self.kmax,
-            rr1: rr,
-            rr2: rr2,
-            rr3: rr3,
-        }
+        self.more_alt = true;
+        self.idx1 = last;
+        self.rr1 = rr;
+        self
     }
 
     // After the stop scan.
-    fn after_stop(self, last: i32, rr: RoundRobin, fmax: f64, kmax: i32) -> LowpassOracle
+    fn after_stop(mut self, last: i32, rr: RoundRobin, fmax: f64, kmax: i32) -> LowpassOracle
         ensures { λ r. ⌜ r ≡ after-stop self last rr fmax kmax ⌝ }
     {
-        let rr1 = self.rr1;
-        let rr2 = self.rr2;
-        LowpassOracle {
-            more_alt: self.more_alt,
-            idx1: self.idx1,
-            nwpass: self.nwpass,
-            nwstop: self.nwstop,
-            lp_sq: self.lp_sq,
-            up_sq: self.up_sq,
-            sp_sq: self.sp_sq,
-            idx2: self.idx2,
-            idx3: last,
-            fmax: fmax,
-            kmax: kmax,
-            rr1: rr1,
-            rr2: rr2,
-            rr3: rr,
-        }
+        self.idx3 = last;
+        self.fmax = fmax;
+        self.kmax = kmax;
+        self.rr3 = rr;
+        self
     }
 
     // After the middle scan.
-    fn after_middle(self, last: i32, rr: RoundRobin, more_alt: bool) -> LowpassOracle
+    fn after_middle(mut self, last: i32, rr: RoundRobin, more_alt: bool) -> LowpassOracle
         ensures { λ r. ⌜ r ≡ after-middle self last rr «more_alt» ⌝ }
     {
-        let rr1 = self.rr1;
-        let rr3 = self.rr3;
-        LowpassOracle {
-            more_alt: more_alt,
-            idx1: self.idx1,
-            nwpass: self.nwpass,
-            nwstop: self.nwstop,
-            lp_sq: self.lp_sq,
-            up_sq: self.up_sq,
-            sp_sq: self.sp_sq,
-            idx2: last,
-            idx3: self.idx3,
-            fmax: self.fmax,
-            kmax: self.kmax,
-            rr1: rr1,
-            rr2: rr,
-            rr3: rr3,
-        }
+        self.more_alt = more_alt;
+        self.idx2 = last;
+        self.rr2 = rr;
+        self
     }
 
     // With the offered sp_sq.
-    fn offered(self, gamma: f64) -> LowpassOracle
+    fn offered(mut self, gamma: f64) -> LowpassOracle
         ensures { λ r. ⌜ r ≡ offered self gamma ⌝ }
     {
-        let rr1 = self.rr1;
-        let rr2 = self.rr2;
-        let rr3 = self.rr3;
-        LowpassOracle {
-            more_alt: self.more_alt,
-            idx1: self.idx1,
-            nwpass: self.nwpass,
-            nwstop: self.nwstop,
-            lp_sq: self.lp_sq,
-            up_sq: self.up_sq,
-            sp_sq: gamma,
-            idx2: self.idx2,
-            idx3: self.idx3,
-            fmax: self.fmax,
-            kmax: self.kmax,
-            rr1: rr1,
-            rr2: rr2,
-            rr3: rr3,
-        }
+        self.sp_sq = gamma;
+        self
     }
 
     // The last test: x[0] below zero.

@@ -14,10 +14,10 @@ ghost use mathlib.Core.Logic.{_⊎_};
 ghost use lib.IntN.{pos, natAbs};
 ghost use lib.Signed.{nonNeg};
 ghost use lib.ListN.{length};
-ghost use Rattle.oracles.specs.RoundRobin.{moved};
+ghost use Rattle.oracles.specs.RoundRobin.{with-cur};
 ghost use Rattle.oracles.specs.declared.scan.ScanAnswer.the-variants.{Refused};
 ghost use Rattle.oracles.specs.declared.scan.Upper.the-variants.{Limit};
-ghost use Rattle.oracles.specs.laws.ScanRun.{limit-of, is-broken, judged-of, scan-run, Going};
+ghost use Rattle.oracles.specs.laws.ScanRun.{limit-of, is-broken, judged-of, scan-run, RowsLeft};
 ghost use Rattle.oracles.specs.Scan.{band-fits, scan-from, scan-of, scan-band-answer};
 ghost use Rattle.oracles.specs.laws.RoundRobin.{Legal};
 ghost use Rattle.oracles.specs.laws.Scan.{Ready, Scannable};
@@ -231,7 +231,7 @@ fn scan_rest(
     peak: f64,
     peak_row: i32,
 ) -> Scan
-    requires { ⌜ Going n (now table) start count ⌝ }
+    requires { ⌜ RowsLeft n (now table) start count ⌝ }
     ensures { λ r. ⌜ r ≡ scan-from n (now (table .entry)) (now (x .entry)) lower (Limit limit) count start peak «peak_row» ⌝ }
 {
     let mut rr = start;
@@ -249,7 +249,7 @@ fn scan_rest(
         }
         fmax = s.fmax;
         kmax = s.kmax;
-        rr = rr.moved(s.last);
+        rr = rr.with_cur(s.last);
         left -= many;
     }
     Scan {
@@ -389,7 +389,7 @@ pub(crate) fn scan_ready(
     upper: Upper,
 ) -> Swept
     requires { ⌜ Scannable n rows (now table) (now x) start ⌝ }
-    ensures { λ r. ⌜ (r .scan ≡ scan-of n (now (table .entry)) (now (x .entry)) start lower upper) × (r .cursor ≡ moved start (r .scan .last)) ⌝ }
+    ensures { λ r. ⌜ (r .scan ≡ scan-of n (now (table .entry)) (now (x .entry)) start lower upper) × (r .cursor ≡ with-cur start (r .scan .last)) ⌝ }
 {
     let end = scan_lent(n, rows, table, x, start, lower, upper);
     let answer = end.answer;

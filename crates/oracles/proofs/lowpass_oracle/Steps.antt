@@ -19,7 +19,7 @@ use Rattle.numbers.specs.F64.{0ᶠ}
 use Rattle.numbers.specs.declared.cut.CutChoice.{CutChoice}
 use Rattle.numbers.specs.laws.Arr.{dimension-least, dimension-most}
 use Rattle.numbers.specs.laws.Pick.{and-parts}
-use Rattle.oracles.specs.RoundRobin.{moved}
+use Rattle.oracles.specs.RoundRobin.{with-cur}
 use Rattle.oracles.specs.Scan.{−∞, none, scan-of, violated, band-beta, band-gradient}
 use Rattle.oracles.specs.LowpassOracle.{after-pass, after-stop, after-middle, assess-sign, assess-middle, assess-stop, assess-of}
 use Rattle.oracles.specs.laws.Scan.{broken-in, Scannable}
@@ -72,10 +72,10 @@ module _ {n rows : ℕ} {table x : List Float} {c : RoundRobin} (S : Scannable n
 -- ---- a scan that was made, from the cursor c, and the cursor that it left
 
 module _ (n : ℕ) (table x : List Float) (c : RoundRobin) (lower : Float) (upper : Upper) (s : Scan) (rr : RoundRobin)
-    (es : s ≡ scan-of n table x c lower upper) (er : rr ≡ moved c (s .last)) (fl : SFits w32 (s .last)) where
+    (es : s ≡ scan-of n table x c lower upper) (er : rr ≡ with-cur c (s .last)) (fl : SFits w32 (s .last)) where
   -- an oracle made of the scan's last row, as it is read, and of the cursor
-  placed : (f : ℤ → RoundRobin → LowpassOracle) → f (read (s .last)) rr ≡ f (scan-of n table x c lower upper .last) (moved c (scan-of n table x c lower upper .last))
-  placed f = (λ i. f (toZ-ofZ fl i) (er i)) ∙ ap (λ (z : Scan). f (z .last) (moved c (z .last))) es
+  placed : (f : ℤ → RoundRobin → LowpassOracle) → f (read (s .last)) rr ≡ f (scan-of n table x c lower upper .last) (with-cur c (scan-of n table x c lower upper .last))
+  placed f = (λ i. f (toZ-ofZ fl i) (er i)) ∙ ap (λ (z : Scan). f (z .last) (with-cur c (z .last))) es
 
   found : {v : Violation} → s .viol ≡ v → scan-of n table x c lower upper .viol ≡ v
   found e = ap (λ (z : Scan). z .viol) (sym es) ∙ e
@@ -88,7 +88,7 @@ module _ (o : LowpassOracle) (n : ℕ) (table x grad : List Float) (s : Scan) (r
   abbrev Cuts : ℕ → Float → Bool → Float → Upper → CutChoice → List Float → Type 0
   Cuts row v over lower upper beta grad′ = (beta ≡ band-beta v over lower upper) × (grad′ ≡ band-gradient n table row over)
 
-  module _ (es : s ≡ scan-of n table x (o .rr2) 0ᶠ Absent) (er : rr ≡ moved (o .rr2) (s .last)) where
+  module _ (es : s ≡ scan-of n table x (o .rr2) 0ᶠ Absent) (er : rr ≡ with-cur (o .rr2) (s .last)) where
     pub middle-passes : s .viol ≡ Nothing → o′ ≡ after-middle o (read (s .last)) rr false → (p : Answer) → p ≡ assess-sign o′ x grad → p ≡ assess-middle o n table x grad
     unfolding assess-middle
     middle-passes e eo p q =
@@ -103,13 +103,13 @@ module _ (o : LowpassOracle) (n : ℕ) (table x grad : List Float) (s : Scan) (r
         breaks _ _ _ _ row v over (found n table x (o .rr2) 0ᶠ Absent s rr es er fl e)
         (rw (eo ∙ placed n table x (o .rr2) 0ᶠ Absent s rr es er fl (λ last r. after-middle o last r (o .«more_alt»)), k .0, k .1))
 
-  module _ (es : s ≡ scan-of n table x (o .rr3) 0ᶠ (Limit (o .«sp_sq»))) (er : rr ≡ moved (o .rr3) (s .last)) where
+  module _ (es : s ≡ scan-of n table x (o .rr3) 0ᶠ (Limit (o .«sp_sq»))) (er : rr ≡ with-cur (o .rr3) (s .last)) where
     pub stop-passes : SFits w32 (s .kmax) → s .viol ≡ Nothing → o′ ≡ after-stop o (read (s .last)) rr (s .fmax) (read (s .kmax)) → (p : Answer) → p ≡ assess-middle o′ n table x grad
         → p ≡ assess-stop o n table x grad
     unfolding assess-stop
     stop-passes fk e eo p q =
-        let u = ap (λ (z : Scan). after-stop o (z .last) (moved (o .rr3) (z .last)) (z .fmax) (z .kmax)) es in
-        let w : after-stop o (s .last) (moved (o .rr3) (s .last)) (s .fmax) (s .kmax) ≡ after-stop o (read (s .last)) rr (s .fmax) (read (s .kmax)) =
+        let u = ap (λ (z : Scan). after-stop o (z .last) (with-cur (o .rr3) (z .last)) (z .fmax) (z .kmax)) es in
+        let w : after-stop o (s .last) (with-cur (o .rr3) (s .last)) (s .fmax) (s .kmax) ≡ after-stop o (read (s .last)) rr (s .fmax) (read (s .kmax)) =
         rw (er, toZ-ofZ fl, toZ-ofZ fk)
         in
         goes-on _ _ _ p (found n table x (o .rr3) 0ᶠ (Limit (o .«sp_sq»)) s rr es er fl e)
@@ -123,7 +123,7 @@ module _ (o : LowpassOracle) (n : ℕ) (table x grad : List Float) (s : Scan) (r
         breaks _ _ _ _ row v over (found n table x (o .rr3) 0ᶠ (Limit (o .«sp_sq»)) s rr es er fl e)
         (rw (eo ∙ placed n table x (o .rr3) 0ᶠ (Limit (o .«sp_sq»)) s rr es er fl (λ last r. after-stop o last r −∞ none), k .0, k .1))
 
-  module _ (es : s ≡ scan-of n table x (o .rr1) (o .«lp_sq») (Limit (o .«up_sq»))) (er : rr ≡ moved (o .rr1) (s .last)) (eo : o′ ≡ after-pass o (read (s .last)) rr) where
+  module _ (es : s ≡ scan-of n table x (o .rr1) (o .«lp_sq») (Limit (o .«up_sq»))) (er : rr ≡ with-cur (o .rr1) (s .last)) (eo : o′ ≡ after-pass o (read (s .last)) rr) where
     pub pass-passes : s .viol ≡ Nothing → (p : Answer) → p ≡ assess-stop o′ n table x grad → p ≡ assess-of o n table x grad
     unfolding assess-of
     pass-passes e p q =

@@ -14,7 +14,7 @@ use Rattle.numbers.specs.Arr.{is-dimension}
 use Rattle.numbers.specs.laws.Refusal.{failed, held, at-first, at-next, refuses, accepts}
 use Rattle.numbers.specs.declared.refusal.Refusal.the-variants.{Dimension, Length, Band, Cursor}
 use Rattle.numbers.specs.laws.Pick.{and-parts}
-use Rattle.oracles.specs.RoundRobin.{is-band, is-at, moved}
+use Rattle.oracles.specs.RoundRobin.{is-band, is-at, with-cur}
 use Rattle.oracles.specs.laws.RoundRobin.{legal-of}
 use Rattle.oracles.specs.Scan.{band-fits, scan-of, scan-band-answer}
 use Rattle.oracles.specs.Table.{is-rows, table-fits}
@@ -35,7 +35,7 @@ ready-of n rows table x c S =
 
 -- with nothing to refuse, the answer is the scan
 pub scanned : (n rows : ℕ) (table x : List Float) (c : RoundRobin) (lower : Float) (upper : Upper) → Scannable n rows table x c
-    → (Scanned (scan-of n table x c lower upper), moved c (scan-of n table x c lower upper .last)) ≡ scan-band-answer n rows table x c lower upper
+    → (Scanned (scan-of n table x c lower upper), with-cur c (scan-of n table x c lower upper .last)) ≡ scan-band-answer n rows table x c lower upper
 unfolding scan-band-answer
 scanned n rows table x c lower upper S = accepts _ _ _ (at-next (at-next (held _ _ (S .dimension)) (held _ _ (S .long))) (at-next (held _ _ (S .band)) (held _ _ (S .at)))) refl
 

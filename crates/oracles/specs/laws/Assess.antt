@@ -19,7 +19,7 @@ use Rattle.numbers.specs.declared.refusal.Fault.the-variants.{Sound}
 use Rattle.numbers.specs.laws.Refusal.{both-sound, ask-sound, sound-is, held, at-next, accepts}
 use Rattle.numbers.specs.declared.cut.CutChoice.the-variants.{Single}
 use Rattle.numbers.specs.laws.Pick.{and-parts, by-test}
-use Rattle.oracles.specs.RoundRobin.{is-at, moved}
+use Rattle.oracles.specs.RoundRobin.{is-at, with-cur}
 use Rattle.oracles.specs.laws.RoundRobin.{eqZ-true, legal-of, Legal}
 use Rattle.oracles.specs.Scan.{−∞, none, scan-of, violated, band-beta, band-gradient}
 use Rattle.oracles.specs.Table.{is-rows, table-fits}
@@ -160,13 +160,13 @@ module _ (o : LowpassOracle) (n : ℕ) (table x : List Float) where
 
   -- the oracle after each scan
   abbrev pub pass-left : LowpassOracle
-  pass-left = after-pass o (pass-scan .last) (moved (o .rr1) (pass-scan .last))
+  pass-left = after-pass o (pass-scan .last) (with-cur (o .rr1) (pass-scan .last))
 
   abbrev pub stop-left : Float → ℤ → LowpassOracle
-  stop-left fmax kmax = after-stop pass-left (stop-scan .last) (moved (o .rr3) (stop-scan .last)) fmax kmax
+  stop-left fmax kmax = after-stop pass-left (stop-scan .last) (with-cur (o .rr3) (stop-scan .last)) fmax kmax
 
   abbrev pub middle-left : Bool → LowpassOracle
-  middle-left more-alt = after-middle (stop-left (stop-scan .fmax) (stop-scan .kmax)) (middle-scan .last) (moved (o .rr2) (middle-scan .last)) more-alt
+  middle-left more-alt = after-middle (stop-left (stop-scan .fmax) (stop-scan .kmax)) (middle-scan .last) (with-cur (o .rr2) (middle-scan .last)) more-alt
 
   -- what holds of each holds of the assessment
   pub assess-cases : (grad : List Float) (P : Assessed × List Float → Type 0)

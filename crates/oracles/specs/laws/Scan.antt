@@ -12,7 +12,7 @@ use lib.IntN.{ℤ, pos, predℤ, natAbs, _-ℤ_}
 use lib.Ieee.{Float, lt, isNan}
 use Rattle.numbers.specs.Pick.{pick, some}
 use Rattle.numbers.specs.laws.Pick.{none-some, some-holds}
-use Rattle.oracles.specs.RoundRobin.{is-band, is-at, moved, advanced}
+use Rattle.oracles.specs.RoundRobin.{is-band, is-at, with-cur, advanced}
 use Rattle.oracles.specs.laws.RoundRobin.{canon, legal-canon, adv-next, adv-wrap, band-is, legal-band, legal-at, Legal}
 use Rattle.oracles.specs.laws.FloatOrder.{nlt-trans, lt-asym, lt-irrefl, above-compares}
 use Rattle.oracles.specs.Scan.{−∞, none, is-over, scan-from, scan-of, band-fits}
@@ -245,11 +245,11 @@ row-breaks n table x lower upper i = is-over upper (value-of n table x i) || lt 
 
 -- the cursor c as a scan leaves it: legal over the same band
 pub record LeftAt (c : RoundRobin) (L : Legal c) (last : ℤ) : Type 0 where
-  pub legal : Legal (moved c last)
+  pub legal : Legal (with-cur c last)
   pub from-is : legal .from ≡ L .from
   pub past-is : legal .past ≡ L .past
-  pub at : is-at (moved c last) ≡ true
-  pub band : is-band (moved c last .lo) (moved c last .hi) ≡ true
+  pub at : is-at (with-cur c last) ≡ true
+  pub band : is-band (with-cur c last .lo) (with-cur c last .hi) ≡ true
 
 module _ (n : ℕ) (table x : List Float) (c : RoundRobin) (lower : Float) (upper : Upper) (L : Legal c) where
   -- it begins at the cursor's next row
@@ -274,9 +274,9 @@ module _ (n : ℕ) (table x : List Float) (c : RoundRobin) (lower : Float) (uppe
 
   -- where the cursor is left, another scan may begin
   pub last-legal : LeftAt c L (scan-of n table x c lower upper .last)
-  last-legal = record { legal = l; from-is = refl; past-is = refl; at = legal-at (moved c (scan-of n table x c lower upper .last)) l; band = legal-band c L }
+  last-legal = record { legal = l; from-is = refl; past-is = refl; at = legal-at (with-cur c (scan-of n table x c lower upper .last)) l; band = legal-band c L }
     where
-      l : Legal (moved c (scan-of n table x c lower upper .last))
+      l : Legal (with-cur c (scan-of n table x c lower upper .last))
       l = record {
         from = L .from;
         past = L .past;

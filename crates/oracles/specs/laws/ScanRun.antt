@@ -41,8 +41,8 @@ scan-run n table x lower limit (suc count) i fmax kmax =
     let s = judged-of lower limit i (value-of n table x i) fmax kmax in
     pick (is-broken (s .viol)) s (scan-run n table x lower limit count (suc i) (s .fmax) (s .kmax))
 
--- a scan from c with rows left, no more than the band has
-pub record Going (n : ℕ) (table : List Float) (c : RoundRobin) (left : ℕ) : Type 0 where
+-- the part of a band that is left to scan: `left` rows from the cursor c on, no more than the band has, all in the table
+pub record RowsLeft (n : ℕ) (table : List Float) (c : RoundRobin) (left : ℕ) : Type 0 where
   pub legal : Legal c
   pub room : left ≤ legal .past - legal .from
   pub high : legal .past * n ≤ length table

@@ -8,7 +8,7 @@ use borrow.Author.Needs.{needs}
 use mir.Facts.{toZ-ofZ}
 use types.Run.{OneOf}
 use denote.Enum.Declared.{tagOf}
-use Rattle.oracles.specs.RoundRobin.{moved}
+use Rattle.oracles.specs.RoundRobin.{with-cur}
 use Rattle.oracles.specs.Scan.{scan-of, scan-band-answer}
 use Rattle.oracles.specs.declared.round_robin.RoundRobin.{RoundRobin}
 use Rattle.oracles.specs.declared.scan.Upper.{Upper}
@@ -31,14 +31,14 @@ module _ (n rows : ℕ) (table x : List Float) (c : RoundRobin) (lower : Float) 
   abbrev s : Scan
   s = scan-of n table x c lower upper
 
-  both : _≡_ {A = ScanAnswer × RoundRobin} (a, d) (Scanned s, moved c (s .last))
+  both : _≡_ {A = ScanAnswer × RoundRobin} (a, d) (Scanned s, with-cur c (s .last))
   both = e ∙ sym (scanned n rows table x c lower upper S)
 
   -- the scan and the cursor that was lent
-  gives : {s′ : Scan} → a ≡ Scanned s′ → (s′ ≡ s) × (d ≡ moved c (s′ .last))
+  gives : {s′ : Scan} → a ≡ Scanned s′ → (s′ ≡ s) × (d ≡ with-cur c (s′ .last))
   gives {s′} q =
       let e : s′ ≡ s = ap (the-scan s) (sym q ∙ ap (λ (p : ScanAnswer × RoundRobin). p .0) both) in
-      (e, ap (λ (p : ScanAnswer × RoundRobin). p .1) both ∙ ap (λ (z : Scan). moved c (z .last)) (sym e))
+      (e, ap (λ (p : ScanAnswer × RoundRobin). p .1) both ∙ ap (λ (z : Scan). with-cur c (z .last)) (sym e))
 
   never : OneOf (1 ∷ []) (tagOf R.the-type a) → ⊥
   never k = let z : _≡_ {A = ℕ} 0 1 = sym (ap (λ (p : ScanAnswer × RoundRobin). tagOf R.the-type (p .0)) both) ∙ k in omega arith
