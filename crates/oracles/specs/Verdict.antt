@@ -181,6 +181,10 @@ pub record FeasRule (q : Question) (r : Assessed) : Type 0 where
   pub cut-at : cut-stands (r .oracle) (r .verdict) ≡ true
   pub peak : judge q ≡ feasible → Peak q (r .oracle .fmax) (r .oracle .kmax)
 
+-- demand 3 of a call of `assess_feas`: an accepted one answers by the rule, for the sp_sq stored
+abbrev pub ByFeasRule : LowpassOracle → ℕ → ℕ → List Float → List Float → List Float → Assessed → Type 0
+ByFeasRule o n rows table x grad r = is-accepted o n rows table x grad ≡ true → FeasRule (asked o (o .«sp_sq») n rows table x) r
+
 -- an answer of `assess_optim` as one of `assess_feas`: refusal 6 counts as feasible
 abbrev pub as-feas : OptimVerdict → Verdict
 as-feas (Improved beta) = Feasible
@@ -211,3 +215,7 @@ pub record OptimRule (q : Question) (r : AssessedOptim) : Type 0 where
   pub six-is : is-six (r .verdict) ≡ (is-feasible (judge q) && no-stop-value q)
   pub peak : is-six (r .verdict) ≡ false → judge q ≡ feasible → Has q (r .oracle .fmax) (r .oracle .kmax)
   pub offer : is-six (r .verdict) ≡ false → judge q ≡ feasible → r .gamma ≡ r .oracle .fmax
+
+-- demand 3 of a call of `assess_optim`: an accepted one answers by the rule, for the sp_sq offered
+abbrev pub ByOptimRule : LowpassOracle → Float → ℕ → ℕ → List Float → List Float → List Float → AssessedOptim → Type 0
+ByOptimRule o gamma n rows table x grad r = is-accepted o n rows table x grad ≡ true → OptimRule (asked o gamma n rows table x) r

@@ -1,11 +1,7 @@
-// `scan_band` of lowpass_oracle.rs: the rows of a band in turn, from where its cursor stands.
+// A scan: the rows of a band in turn, from where its cursor stands. The cursor is had by value.
 use crate::round_robin::RoundRobin;
-use crate::round_robin::is_band;
 use crate::table::four_values;
-use crate::table::is_rows;
 use crate::table::row_value;
-use crate::table::table_fits;
-use numbers::arr::is_dimension;
 use numbers::refusal::Refusal;
 ghost use mathlib.Core.Path.{_≡_};
 ghost use Prim.Native.Nat.{_+_, _*_, _≤_, _<_};
@@ -14,13 +10,11 @@ ghost use mathlib.Core.Logic.{_⊎_};
 ghost use lib.IntN.{pos, natAbs};
 ghost use lib.Signed.{nonNeg};
 ghost use lib.ListN.{length};
-ghost use Rattle.oracles.specs.RoundRobin.{with-cur};
-ghost use Rattle.oracles.specs.declared.scan.ScanAnswer.the-variants.{Refused};
 ghost use Rattle.oracles.specs.declared.scan.Upper.the-variants.{Limit};
 ghost use Rattle.oracles.specs.laws.ScanRun.{limit-of, is-broken, judged-of, scan-run, RowsLeft};
-ghost use Rattle.oracles.specs.Scan.{band-fits, scan-from, scan-of, scan-band-answer};
+ghost use Rattle.oracles.specs.Scan.{scan-from, scan-of};
 ghost use Rattle.oracles.specs.laws.RoundRobin.{Legal};
-ghost use Rattle.oracles.specs.laws.Scan.{Ready, Scannable};
+ghost use Rattle.oracles.specs.laws.Scan.{Ready};
 
 // The upper limit of a band, where it has one.
 pub enum Upper {
@@ -57,16 +51,6 @@ pub struct ScanEnd {
 pub(crate) struct Swept {
     pub(crate) scan: Scan,
     pub(crate) cursor: RoundRobin,
-}
-
-// Whether lo and hi are a band of a table of so many rows.
-fn band_fits(rows: usize, lo: i32, hi: i32) -> bool
-    ensures { λ r. ⌜ r ≡ band-fits rows lo hi ⌝ }
-{
-    if !is_rows(rows) {
-        return false;
-    }
-    is_band(lo, hi) & (hi <= rows as i32)
 }
 
 // The upper limit as a number: infinity, above which no value lies, where there is none.
@@ -261,7 +245,7 @@ fn scan_rest(
 }
 
 // The rows of the band in turn, each once at most. The first singly: most scans that break a limit end there.
-fn scan_rows(
+pub(crate) fn scan_rows(
     n: usize,
     table: &[f64],
     x: &[f64],
@@ -292,128 +276,4 @@ fn scan_rows(
         return s;
     }
     scan_rest(n, table, x, rr, all - 1, lower, limit, s.fmax, s.kmax)
-}
-
-// A refusal, and the cursor as it came.
-fn scan_refused(rr: RoundRobin, why: Refusal) -> ScanEnd
-    ensures { λ r. ⌜ r ≡ record { answer = Refused why; cursor = rr } ⌝ }
-{
-    ScanEnd {
-        answer: ScanAnswer::Refused(why),
-        cursor: rr,
-    }
-}
-
-// `scan_band` with the cursor by value.
-fn scan_by_value(
-    n: usize,
-    rows: usize,
-    table: &[f64],
-    x: &[f64],
-    rr: RoundRobin,
-    lower: f64,
-    upper: Upper,
-) -> ScanEnd
-    ensures { λ r. ⌜ (r .answer, r .cursor) ≡ scan-band-answer n rows (now (table .entry)) (now (x .entry)) rr lower upper ⌝ }
-{
-    if !is_dimension(n) {
-        return scan_refused(rr, Refusal::Dimension);
-    }
-    if !table_fits(n, rows, table.len(), x.len()) {
-        return scan_refused(rr, Refusal::Length);
-    }
-    if !band_fits(rows, rr.lo, rr.hi) {
-        return scan_refused(rr, Refusal::Band);
-    }
-    if !rr.is_at() {
-        return scan_refused(rr, Refusal::Cursor);
-    }
-    let scan = scan_rows(n, table, x, rr, lower, upper);
-    let cursor = RoundRobin {
-        cur: scan.last,
-        lo: rr.lo,
-        hi: rr.hi,
-    };
-    ScanEnd {
-        answer: ScanAnswer::Scanned(scan),
-        cursor: cursor,
-    }
-}
-
-// The cursor is lent and moved. A thin form over the one by value.
-pub fn scan_band(
-    n: usize,
-    rows: usize,
-    table: &[f64],
-    x: &[f64],
-    rr: &mut RoundRobin,
-    lower: f64,
-    upper: Upper,
-) -> ScanAnswer
-    ensures { λ r. ⌜ (r, now (rr .exit)) ≡ scan-band-answer n rows (now (table .entry)) (now (x .entry)) (now (rr .entry)) lower upper ⌝ }
-{
-    let c = *rr;
-    let end = scan_by_value(n, rows, table, x, c, lower, upper);
-    *rr = end.cursor;
-    end.answer
-}
-
-// Lends a local cursor to `scan_band`, so that its callers have plain parameters.
-pub fn scan_lent(
-    n: usize,
-    rows: usize,
-    table: &[f64],
-    x: &[f64],
-    start: RoundRobin,
-    lower: f64,
-    upper: Upper,
-) -> ScanEnd
-    ensures { λ r. ⌜ (r .answer, r .cursor) ≡ scan-band-answer n rows (now (table .entry)) (now (x .entry)) start lower upper ⌝ }
-{
-    let mut c = start;
-    let answer = scan_band(n, rows, table, x, &mut c, lower, upper);
-    ScanEnd {
-        answer: answer,
-        cursor: c,
-    }
-}
-
-// `scan_band` where nothing is left to refuse.
-pub(crate) fn scan_ready(
-    n: usize,
-    rows: usize,
-    table: &[f64],
-    x: &[f64],
-    start: RoundRobin,
-    lower: f64,
-    upper: Upper,
-) -> Swept
-    requires { ⌜ Scannable n rows (now table) (now x) start ⌝ }
-    ensures { λ r. ⌜ (r .scan ≡ scan-of n (now (table .entry)) (now (x .entry)) start lower upper) × (r .cursor ≡ with-cur start (r .scan .last)) ⌝ }
-{
-    let end = scan_lent(n, rows, table, x, start, lower, upper);
-    let answer = end.answer;
-    let back = end.cursor;
-    // number by number: a copy of the whole would wait until all three are stored
-    let cursor = RoundRobin {
-        cur: back.cur,
-        lo: back.lo,
-        hi: back.hi,
-    };
-    match answer {
-        ScanAnswer::Scanned(scan) => Swept {
-            scan: scan,
-            cursor: cursor,
-        },
-        // does not occur
-        ScanAnswer::Refused(_) => Swept {
-            scan: Scan {
-                viol: Violation::Nothing,
-                fmax: 0.0,
-                kmax: -1,
-                last: -1,
-            },
-            cursor: cursor,
-        },
-    }
 }

@@ -5,7 +5,7 @@ use oracles::scan::Scan;
 use oracles::scan::ScanAnswer;
 use oracles::scan::Upper;
 use oracles::scan::Violation;
-use oracles::scan::scan_lent;
+use oracles::scan_band::scan_by_value;
 ghost use mathlib.Core.Path.{_≡_};
 ghost use Rattle.oracles.specs.Scan.{scan-band-answer};
 ghost use Rattle.ponduvizh.specs.ToldScan.{upper-of, side-of, row-of, value-of, scan-left, scan-said, scan-ended};
@@ -99,7 +99,7 @@ fn scan_from(
 ) -> u64
     ensures { λ r. ⌜ ((r, record { found = now (found .exit); values = now (values .exit); kmax = now (kmax .exit) }), now (cur .exit)) ≡ scan-ended (scan-band-answer n rows (now (table .entry)) (now (x .entry)) start lower upper) (record { found = now (found .entry); values = now (values .entry); kmax = now (kmax .entry) }) ⌝ }
 {
-    let end = scan_lent(n, rows, table, x, start, lower, upper);
+    let end = scan_by_value(n, rows, table, x, start, lower, upper);
     let cursor = end.cursor;
     let answer = end.answer;
     let last = cursor.cur;

@@ -6,33 +6,28 @@ use mathlib.Core.Logic.{inl, inr}
 use Prim.Native.Nat.{ℕ, _≤_, _+_, _*_}
 use native.Mathlib.Nat.{suc-mul, mul-le-mul-right}
 use native.Mathlib.Omega.{arith}
-use borrow.Author.Tests.{le-leb, eqb-true}
 use types.Run.{OneOf}
 use denote.Enum.Declared.{tagOf}
 use lib.Dec.{eqb}
 use lib.IntN.{pos, natAbs}
-use lib.Signed.{leZ, ltZ}
+use lib.Signed.{ltZ}
 use lib.ListN.{length}
 use lib.Ieee.{Float}
 use Rattle.numbers.specs.Arr.{is-dimension}
 use Rattle.numbers.specs.laws.Arr.{dimension-least, dimension-most}
 use Rattle.numbers.specs.declared.refusal.Refusal.the-variants.{Dimension, Length, Band, Cursor}
-use Rattle.numbers.specs.laws.Pick.{and-parts}
 use Rattle.numbers.specs.laws.Refusal.{failed, held, at-first, at-next, refuses, accepts}
-use Rattle.oracles.specs.laws.RoundRobin.{legal-band, legal-at}
-use Rattle.oracles.specs.Table.{is-rows, table-fits}
+use Rattle.oracles.specs.Table.{table-fits}
 use Rattle.oracles.specs.LowpassOracle.{bands-fit, cursors-fit, refused-of, assess-of, assess-feas-answer, optim-of, assess-optim-answer, offered}
-use Rattle.oracles.specs.Verdict.{feasible, refused, asked, is-accepted, is-feasible, judgement, Peak, FeasRule, OptimRule}
-use Rattle.oracles.specs.laws.Assess.{Spans, fit-of, Accepted, accepted-of, fits-oracle}
+use Rattle.oracles.specs.Verdict.{feasible, refused, asked, is-accepted, is-feasible, judgement, Peak, FeasRule, OptimRule, ByFeasRule, ByOptimRule}
+use Rattle.oracles.specs.laws.Assess.{Accepted, accepted-of, accepted-by, fits-oracle, Assessable, assessable-of}
 use Rattle.oracles.specs.laws.CursorRule.{feas-rule, optim-rule, refused-unless}
 use Rattle.oracles.specs.laws.OracleAfter.{gradient-length}
-use Rattle.oracles.specs.declared.round_robin.RoundRobin.{RoundRobin}
 use Rattle.oracles.specs.declared.lowpass_oracle.LowpassOracle.{LowpassOracle}
 use Rattle.oracles.specs.declared.lowpass_oracle.Verdict.{Verdict}
 use Rattle.oracles.specs.declared.lowpass_oracle.Verdict.the-variants.{Feasible, Cut, Refused}
 use Rattle.oracles.specs.declared.lowpass_oracle.Assessed.{Assessed}
 use Rattle.oracles.specs.declared.lowpass_oracle.AssessedOptim.{AssessedOptim}
-use Rattle.oracles.specs.laws.Scan.{Scannable}
 use Rattle.oracles.proofs.lowpass_oracle.Verdict as Y
 
 module _ (o : LowpassOracle) (n rows : ℕ) (table x grad : List Float) where
@@ -45,12 +40,12 @@ module _ (o : LowpassOracle) (n rows : ℕ) (table x grad : List Float) where
 
   -- the answer brings the rule with it
   pub with-rule : (r : Assessed) (grad′ : List Float) → _≡_ {A = Answer} (r, grad′) (assess-feas-answer o n rows table x grad)
-      → (_≡_ {A = Answer} (r, grad′) (assess-feas-answer o n rows table x grad)) × (is-accepted o n rows table x grad ≡ true → FeasRule (asked o (o .«sp_sq») n rows table x) r)
+      → (_≡_ {A = Answer} (r, grad′) (assess-feas-answer o n rows table x grad)) × (ByFeasRule o n rows table x grad r)
   with-rule r grad′ e = (e, λ h. subst (FeasRule (asked o (o .«sp_sq») n rows table x)) (sym (ap (λ (p : Answer). p .0) e)) (feas-rule o n rows table x grad h))
 
   -- a refusal, as it is made
   pub refused-as : (r why : Assessed) → r ≡ why → _≡_ {A = Answer} (why, grad) (assess-feas-answer o n rows table x grad)
-      → (_≡_ {A = Answer} (r, grad) (assess-feas-answer o n rows table x grad)) × (is-accepted o n rows table x grad ≡ true → FeasRule (asked o (o .«sp_sq») n rows table x) r)
+      → (_≡_ {A = Answer} (r, grad) (assess-feas-answer o n rows table x grad)) × (ByFeasRule o n rows table x grad r)
   refused-as r why e q = with-rule r grad (ap (λ (z : Assessed). (z, grad)) e ∙ q)
 
   pub no-dimension : is-dimension n ≡ false → _≡_ {A = Answer} (refused-of o Dimension, grad) (assess-feas-answer o n rows table x grad)
@@ -74,34 +69,8 @@ module _ (o : LowpassOracle) (n rows : ℕ) (table x grad : List Float) where
     unfolding assess-feas-answer
     all-passed b c p e = accepts _ _ _ (fits-oracle o n rows fits (record { dimension = d; long = f; bands = b; cursors = c })) e
 
-    -- each band can be scanned
-    module _ (b : bands-fit o rows ≡ true) (c : cursors-fit o ≡ true) where
-      has-rows : is-rows rows ≡ true
-      has-rows = go (is-rows rows) refl
-        where
-          go : (t : Bool) → is-rows rows ≡ t → is-rows rows ≡ true
-          go true e = e
-          go false e = absurd (true≢false (sym b ∙ rw e))
-
-      spanned : (rr : RoundRobin) (from past : ℕ) → Spans rr from past → past ≤ rows → Scannable n rows table x rr
-      spanned rr from past S h =
-          let L = S .legal in
-          let l : leZ (rr .hi) (pos rows) ≡ true = rw (L .hi-is) (le-leb (L .past) rows (omega (arith, S .past-is))) in
-          record {
-            dimension = d;
-            long = and-parts (table-fits n rows table x) (eqb (length grad) n) f .0;
-            band = rw (has-rows, legal-band rr L, l);
-            at = legal-at rr L;
-          }
-
-      pub all-scannable : Scannable n rows table x (o .rr1) × Scannable n rows table x (o .rr3) × Scannable n rows table x (o .rr2) × (length grad ≡ n)
-      all-scannable =
-          let F = fit-of o rows b c in (
-            spanned (o .rr1) _ _ (F .pass-rows) (F .pass-high),
-            spanned (o .rr3) _ _ (F .stop-rows) (omega arith),
-            spanned (o .rr2) _ _ (F .middle-rows) (F .middle-high),
-            eqb-true (length grad) n (and-parts (table-fits n rows table x) (eqb (length grad) n) f .1),
-          )
+    pub all-assessable : bands-fit o rows ≡ true → cursors-fit o ≡ true → Assessable o n table x grad
+    all-assessable b c = assessable-of o n rows table x grad (accepted-of o n rows table x grad (accepted-by o n rows table x grad (record { dimension = d; long = f; bands = b; cursors = c })))
 
   -- a feasible point was accepted
   feasible-accepted : assess-feas-answer o n rows table x grad .0 .verdict ≡ Feasible → is-accepted o n rows table x grad ≡ true
@@ -134,7 +103,7 @@ module _ (o : LowpassOracle) (gamma : Float) (n rows : ℕ) (table x grad : List
     (e : _≡_ {A = Assessed × List Float} (r, grad′) (assess-feas-answer (offered o gamma) n rows table x grad)) where
   -- the answer by the verdict, with the rule that it brings
   pub optim-as : (v : Verdict) → r .verdict ≡ v → (s : AssessedOptim) (g : List Float) → _≡_ {A = AssessedOptim × List Float} (s, g) (optim-of o gamma n table (r .oracle) v grad′)
-      → (_≡_ {A = AssessedOptim × List Float} (s, g) (assess-optim-answer o gamma n rows table x grad)) × (is-accepted o n rows table x grad ≡ true → OptimRule (asked o gamma n rows table x) s)
+      → (_≡_ {A = AssessedOptim × List Float} (s, g) (assess-optim-answer o gamma n rows table x grad)) × (ByOptimRule o gamma n rows table x grad s)
   optim-as v ev s g q =
       let t : _≡_ {A = AssessedOptim × List Float} (s, g) (assess-optim-answer o gamma n rows table x grad) =
       subst (λ (z : Assessed × List Float). _≡_ {A = AssessedOptim × List Float} (s, g) (optim-of o gamma n table (z .0 .oracle) (z .0 .verdict) (z .1))) e (rw ev q)

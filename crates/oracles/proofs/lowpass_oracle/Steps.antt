@@ -1,14 +1,12 @@
 -- The steps of an assessment: what a scan's answer leads to. Assumes nothing.
-use mathlib.Core.Path.{_≡_, refl, sym, ap, _∙_}
+use mathlib.Core.Path.{_≡_, refl, sym, ap, _∙_, subst}
 use mathlib.Core.Bool.{Bool, false}
 use mathlib.Core.List.{List, [], _∷_}
 use Prim.Native.Nat.{ℕ, _≤_, _+_, _*_}
 use native.Mathlib.Nat.{suc-mul, mul-le-mul-right}
 use native.Mathlib.Omega.{arith}
-use borrow.Author.Tests.{eqb-true}
 use types.Run.{OneOf}
 use denote.Enum.Declared.{tagOf}
-use lib.Dec.{eqb}
 use lib.IntN.{ℤ}
 use lib.ListN.{length}
 use lib.Ieee.{Float}
@@ -17,12 +15,11 @@ use mir.Val.{SFits}
 use mir.Facts.{toZ-ofZ}
 use Rattle.numbers.specs.F64.{0ᶠ}
 use Rattle.numbers.specs.declared.cut.CutChoice.{CutChoice}
-use Rattle.numbers.specs.laws.Arr.{dimension-least, dimension-most}
-use Rattle.numbers.specs.laws.Pick.{and-parts}
 use Rattle.oracles.specs.RoundRobin.{with-cur}
 use Rattle.oracles.specs.Scan.{−∞, none, scan-of, violated, band-beta, band-gradient}
 use Rattle.oracles.specs.LowpassOracle.{after-pass, after-stop, after-middle, assess-sign, assess-middle, assess-stop, assess-of}
-use Rattle.oracles.specs.laws.Scan.{broken-in, Scannable}
+use Rattle.oracles.specs.laws.Scan.{Ready, broken-in, left-ready}
+use Rattle.oracles.specs.laws.Assess.{Assessable}
 use Rattle.oracles.specs.declared.round_robin.RoundRobin.{RoundRobin}
 use Rattle.oracles.specs.declared.scan.Upper.{Upper}
 use Rattle.oracles.specs.declared.scan.Upper.the-variants.{Absent, Limit}
@@ -35,7 +32,6 @@ use Rattle.oracles.specs.declared.scan.Violation.the-variants.{Nothing, 
 use Rattle.oracles.specs.declared.scan.Scan.{Scan}
 use Rattle.oracles.proofs.scan.Violation as Y
 use Rattle.oracles.proofs.Signed.{read}
-use Rattle.oracles.proofs.scan.Tests.{ready-of}
 
 -- a violation with the key 0 is none
 pub nothing-of : (v : Violation) → OneOf (0 ∷ []) (tagOf Y.the-type v) → v ≡ Nothing
@@ -52,22 +48,44 @@ breaks v kept broken r row value over e q = rw e q
 
 -- ---- what is known where nothing is left to refuse
 
-module _ {n rows : ℕ} {table x : List Float} {c : RoundRobin} (S : Scannable n rows table x c) where
-  pub least : 2 ≤ n
-  least = dimension-least n (S .dimension)
-
-  pub most : n ≤ 32
-  most = dimension-most n (S .dimension)
-
-  pub x-long : length x ≡ n
-  x-long = eqb-true (length x) n (and-parts (eqb (length table) (rows * n)) (eqb (length x) n) (S .long) .1)
-
+module _ {o : LowpassOracle} {n : ℕ} {table x grad : List Float} (A : Assessable o n table x grad) {c : RoundRobin} (R : Ready n table x c) (lower : Float) (upper : Upper)
+    {s : Scan} (es : s ≡ scan-of n table x c lower upper) where
   -- the row of a violation can be read
-  pub row-fits : (lower : Float) (upper : Upper) (s : Scan) → s ≡ scan-of n table x c lower upper → (row : ℕ) (v : Float) (over : Bool) → s .viol ≡ Broken row v over → row * n + n ≤ length table
-  row-fits lower upper s es row v over e =
-      let R = ready-of n rows table x c S in
+  pub cut-fits : (row : ℕ) (v : Float) (over : Bool) → s .viol ≡ Broken row v over → (2 ≤ n) × (n ≤ 32) × (row * n + n ≤ length table) × (length grad ≡ n)
+  cut-fits row v over e =
       let i = broken-in n table x c lower upper (R .legal) row v over (ap (λ (z : Scan). z .viol) (sym es) ∙ e) in
-      omega (arith, suc-mul row n, mul-le-mul-right n (i .1), R .high)
+      (A .least, A .most, omega (arith, suc-mul row n, mul-le-mul-right n (i .1), R .high), A .grad-long)
+
+  -- so can those of the next scan, from the cursor that is left
+  ready-again : {rr : RoundRobin} → rr ≡ with-cur c (s .last) → Ready n table x rr
+  ready-again er = subst (Ready n table x) (sym (er ∙ ap (λ (z : Scan). with-cur c (z .last)) es)) (left-ready n table x c lower upper R)
+
+module _ {o : LowpassOracle} {n : ℕ} {table x grad : List Float} (A : Assessable o n table x grad) {s : Scan} {rr : RoundRobin} {o′ : LowpassOracle} where
+  pub pass-assessable : s ≡ scan-of n table x (o .rr1) (o .«lp_sq») (Limit (o .«up_sq»)) → rr ≡ with-cur (o .rr1) (s .last) → o′ ≡ after-pass o (read (s .last)) rr → Assessable o′ n table x grad
+  pass-assessable es er eo =
+      subst (λ (z : LowpassOracle). Assessable z n table x grad) (sym eo)
+      (record {
+        least = A .least;
+        most = A .most;
+        x-long = A .x-long;
+        grad-long = A .grad-long;
+        pass-ready = ready-again A (A .pass-ready) (o .«lp_sq») (Limit (o .«up_sq»)) es er;
+        stop-ready = A .stop-ready;
+        middle-ready = A .middle-ready;
+      })
+
+  pub stop-assessable : s ≡ scan-of n table x (o .rr3) 0ᶠ (Limit (o .«sp_sq»)) → rr ≡ with-cur (o .rr3) (s .last) → o′ ≡ after-stop o (read (s .last)) rr (s .fmax) (read (s .kmax)) → Assessable o′ n table x grad
+  stop-assessable es er eo =
+      subst (λ (z : LowpassOracle). Assessable z n table x grad) (sym eo)
+      (record {
+        least = A .least;
+        most = A .most;
+        x-long = A .x-long;
+        grad-long = A .grad-long;
+        pass-ready = A .pass-ready;
+        stop-ready = ready-again A (A .stop-ready) 0ᶠ (Limit (o .«sp_sq»)) es er;
+        middle-ready = A .middle-ready;
+      })
 
 -- ---- a scan that was made, from the cursor c, and the cursor that it left
 

@@ -3,6 +3,7 @@ use mathlib.Core.Path.{_≡_, refl, sym, ap}
 use mathlib.Core.Bool.{Bool, true, false, not, _&&_, true≢false}
 use mathlib.Core.List.{List}
 use Prim.Native.Nat.{ℕ, _*_, _≤_}
+use native.Mathlib.Nat.{mul-le-mul-right, le-refl}
 use native.Mathlib.Omega.{arith}
 use borrow.Author.Tests.{leb-true, le-leb, eqb-true}
 use lib.Dec.{leb, eqb}
@@ -19,10 +20,12 @@ use Rattle.numbers.specs.declared.refusal.Fault.the-variants.{Sound}
 use Rattle.numbers.specs.laws.Refusal.{both-sound, ask-sound, sound-is, held, at-next, accepts}
 use Rattle.numbers.specs.declared.cut.CutChoice.the-variants.{Single}
 use Rattle.numbers.specs.laws.Pick.{and-parts, by-test}
+use Rattle.numbers.specs.laws.Arr.{dimension-least, dimension-most}
 use Rattle.oracles.specs.RoundRobin.{is-at, with-cur}
 use Rattle.oracles.specs.laws.RoundRobin.{eqZ-true, legal-of, Legal}
 use Rattle.oracles.specs.Scan.{−∞, none, scan-of, violated, band-beta, band-gradient}
 use Rattle.oracles.specs.Table.{is-rows, table-fits}
+use Rattle.oracles.specs.laws.Scan.{Ready}
 use Rattle.oracles.specs.LowpassOracle.{−1ᶠ, has-band, bands-fit, cursors-fit, after-pass, after-stop, after-middle, assess-sign, assess-middle, assess-stop, assess-of, oracle-tests, assess-tests, assess-feas-answer}
 use Rattle.oracles.specs.Verdict.{is-accepted}
 use Rattle.oracles.specs.declared.round_robin.RoundRobin.{RoundRobin}
@@ -138,6 +141,34 @@ accepted-by o n rows table x grad f = ap (λ (g : Fault). not (is-fault g)) (sym
 pub accepted-is : (o : LowpassOracle) (n rows : ℕ) (table x grad : List Float) → is-accepted o n rows table x grad ≡ true → assess-feas-answer o n rows table x grad ≡ assess-of o n table x grad
 unfolding assess-feas-answer
 accepted-is o n rows table x grad h = sym (accepts _ _ (assess-tests o n rows table x grad) (sym (sound-is h)) refl)
+
+-- nothing left to refuse: the sizes, and rows that a scan from each of the three cursors can read
+pub record Assessable (o : LowpassOracle) (n : ℕ) (table x grad : List Float) : Type 0 where
+  pub least : 2 ≤ n
+  pub most : n ≤ 32
+  pub x-long : length x ≡ n
+  pub grad-long : length grad ≡ n
+  pub pass-ready : Ready n table x (o .rr1)
+  pub stop-ready : Ready n table x (o .rr3)
+  pub middle-ready : Ready n table x (o .rr2)
+
+pub assessable-of : (o : LowpassOracle) (n rows : ℕ) (table x grad : List Float) → Accepted o n rows table x grad → Assessable o n table x grad
+assessable-of o n rows table x grad a =
+    let F = fit-of o rows (a .bands) (a .cursors) in
+    record {
+      least = dimension-least n (a .dimension);
+      most = dimension-most n (a .dimension);
+      x-long = a .x-long;
+      grad-long = a .grad-long;
+      pass-ready = ready (o .rr1) _ _ (F .pass-rows) (F .pass-high);
+      stop-ready = ready (o .rr3) _ _ (F .stop-rows) (le-refl rows);
+      middle-ready = ready (o .rr2) _ _ (F .middle-rows) (F .middle-high);
+    }
+  where
+    ready : (c : RoundRobin) (from past : ℕ) → Spans c from past → past ≤ rows → Ready n table x c
+    ready c from past S h =
+        let l : S .legal .past ≤ rows = omega (arith, S .past-is) in
+        record { legal = S .legal; high = omega (arith, mul-le-mul-right n l, a .table-long) }
 
 -- ---- the ways of an assessment
 

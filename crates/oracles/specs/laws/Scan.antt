@@ -313,3 +313,9 @@ module _ (n : ℕ) (table x : List Float) (c : RoundRobin) (lower : Float) (uppe
       go : (o : Bool) → (o ≡ true → is-over upper v ≡ true) → (o ≡ false → (is-over upper v ≡ false) × (lt v lower ≡ true)) → (is-over upper v || lt v lower) ≡ true
       go true above below = rw (above refl)
       go false above below = rw (below refl .0) (below refl .1)
+
+-- the rows of a band can be read again after a scan
+pub left-ready : (n : ℕ) (table x : List Float) (c : RoundRobin) (lower : Float) (upper : Upper) → Ready n table x c → Ready n table x (with-cur c (scan-of n table x c lower upper .last))
+left-ready n table x c lower upper R =
+    let l = last-legal n table x c lower upper (R .legal) in
+    record { legal = l .legal; high = rw (l .past-is) (R .high) }

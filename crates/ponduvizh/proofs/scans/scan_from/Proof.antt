@@ -4,8 +4,8 @@ use borrow.Author.Needs.{needs}
 use Rattle.ponduvizh.proofs.scans.scan_from.Statement.{statement}
 use Rattle.ponduvizh.proofs.scans.scan_from.Tie as tie
 
-scan-lent-requires : tie.Need-scan-lent-requires
-scan-lent-requires c κs = tt
+scan-by-value-requires : tie.Need-scan-by-value-requires
+scan-by-value-requires c κs = tt
 
 put-answer-requires : tie.Need-put-answer-requires
 put-answer-requires c κs = tt
@@ -20,4 +20,4 @@ returns : tie.Need-returns
 returns c = search (needs, ended-law)
 
 pub scan-from-spec : {M : Type 1} → statement M
-scan-from-spec = tie.close (tie.spec scan-lent-requires put-answer-requires number-requires cast-result returns)
+scan-from-spec = tie.close (tie.spec scan-by-value-requires put-answer-requires number-requires cast-result returns)

@@ -5,7 +5,7 @@ use borrow.Author.Needs.{needs}
 use lib.Dec.{eqb}
 use lib.ListN.{length}
 use Rattle.numbers.specs.laws.Pick.{says-no, says-yes}
-use Rattle.oracles.proofs.lowpass_oracle.Answers.{with-rule, refused-as, no-dimension, no-length, no-bands, no-cursors, all-passed, all-scannable}
+use Rattle.oracles.proofs.lowpass_oracle.Answers.{with-rule, refused-as, no-dimension, no-length, no-bands, no-cursors, all-passed, all-assessable}
 use Rattle.oracles.proofs.lowpass_oracle.LowpassOracle.assess_feas.Statement.{statement}
 use Rattle.oracles.proofs.lowpass_oracle.LowpassOracle.assess_feas.Tie as tie
 
@@ -75,7 +75,7 @@ assess-requires c κs =
     let f = b .before .before in
     let e = f .before .before in
     let a = e .before .before .before .before .before .args in
-    all-scannable (a .self) (a .n) (a .rows) (a .table .now) (a .x .now) (a .grad .now) (says-yes _ _ (e .before .is-dimension .ensures) (e .if1 .left)) (says-yes _ _ (ap (λ (t : Bool). t && eqb (length (a .grad .now)) (a .n)) (f .before .table-fits .ensures)) (f .if2 .left))
+    all-assessable (a .self) (a .n) (a .rows) (a .table .now) (a .x .now) (a .grad .now) (says-yes _ _ (e .before .is-dimension .ensures) (e .if1 .left)) (says-yes _ _ (ap (λ (t : Bool). t && eqb (length (a .grad .now)) (a .n)) (f .before .table-fits .ensures)) (f .if2 .left))
     (says-yes _ _ (b .before .bands-fit .ensures) (b .if3 .left)) (says-yes _ _ (k .before .cursors-fit .ensures) (k .if4 .left))
 
 same-length : tie.Need-same-length

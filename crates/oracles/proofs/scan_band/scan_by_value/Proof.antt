@@ -1,37 +1,25 @@
--- `oracles::scan::scan_by_value` meets its contract. Assumes nothing.
+-- `oracles::scan_band::scan_by_value` meets its contract. Assumes nothing.
 use mathlib.Core.Path.{_≡_, ap, _∙_}
 use mathlib.Core.Bool.{Bool}
 use Prim.Native.Nat.{ℕ}
 use mir.Syntax.{w32}
 use mir.Val.{SFits}
 use mir.Facts.{toZ-ofZ}
-use lib.Ieee.{Float}
-use mathlib.Core.List.{List}
-use Rattle.oracles.specs.Scan.{band-fits, scan-of, scan-band-answer}
-use Rattle.oracles.specs.declared.scan.Upper.{Upper}
-use Rattle.oracles.specs.declared.scan.Scan.{Scan}
+use Rattle.oracles.specs.Scan.{band-fits}
 use Rattle.oracles.specs.declared.scan.ScanAnswer.{ScanAnswer}
-use Rattle.oracles.specs.declared.scan.ScanAnswer.the-variants.{Scanned, Refused}
+use Rattle.oracles.specs.declared.scan.ScanAnswer.the-variants.{Refused}
 use Rattle.oracles.specs.declared.scan.ScanEnd.{ScanEnd}
 use Rattle.numbers.specs.declared.refusal.Refusal.{Refusal}
 use Rattle.numbers.specs.laws.Pick.{says-no, says-yes}
 use Rattle.oracles.specs.declared.round_robin.RoundRobin.{RoundRobin}
-use Rattle.oracles.specs.laws.Scan.{Scannable}
 use Rattle.oracles.proofs.Signed.{read}
-use Rattle.oracles.proofs.scan.Tests.{ready-of, scanned, no-dimension, no-length, no-band, no-cursor}
-use Rattle.oracles.proofs.scan.scan_by_value.Statement.{statement}
-use Rattle.oracles.proofs.scan.scan_by_value.Tie as tie
+use Rattle.oracles.proofs.scan_band.Tests.{ready-of, scanned, no-dimension, no-length, no-band, no-cursor}
+use Rattle.oracles.proofs.scan_band.scan_by_value.Statement.{statement}
+use Rattle.oracles.proofs.scan_band.scan_by_value.Tie as tie
 
 -- the band's test, of lo and hi as they are read
 band-read : (rows : ℕ) (c : RoundRobin) → SFits w32 (c .lo) → SFits w32 (c .hi) → {t : Bool} → t ≡ band-fits rows (read (c .lo)) (read (c .hi)) → t ≡ band-fits rows (c .lo) (c .hi)
 band-read rows c fl fh e = e ∙ (λ i. band-fits rows (toZ-ofZ fl i) (toZ-ofZ fh i))
-
--- the cursor that is made of the scan's last row
-ends : (n rows : ℕ) (table x : List Float) (c : RoundRobin) (lower : Float) (upper : Upper) → Scannable n rows table x c
-    → (s : Scan) → s ≡ scan-of n table x c lower upper → SFits w32 (s .last) → SFits w32 (c .lo) → SFits w32 (c .hi)
-    → _≡_ {A = ScanAnswer × RoundRobin} (Scanned s, record { cur = read (s .last); lo = read (c .lo); hi = read (c .hi) }) (scan-band-answer n rows table x c lower upper)
-ends n rows table x c lower upper S s e f fl fh =
-    rw (toZ-ofZ f, toZ-ofZ fl, toZ-ofZ fh) (rw e (scanned n rows table x c lower upper S))
 
 -- a refusal, as it is made
 refused-as : {r : ScanEnd} {why : Refusal} {c : RoundRobin} {p : ScanAnswer × RoundRobin} → r ≡ record { answer = Refused why; cursor = c } → _≡_ {A = ScanAnswer × RoundRobin} (Refused why, c) p
@@ -102,42 +90,41 @@ returns-4 c =
     (no-cursor (a .n) (a .rows) (a .table .now) (a .x .now) (a .rr) (a .lower) (a .upper) (says-yes _ _ (e .before .is-dimension .ensures) (e .if1 .left)) (says-yes _ _ (f .before .table-fits .ensures) (f .if2 .left))
     (says-yes _ _ (band-read (a .rows) (a .rr) (record { sfits = g .1 .0 .1 }) (record { sfits = g .1 .1 .0 .1 }) (b .before .band-fits .ensures)) (b .if3 .left)) (says-no _ _ (k .before .is-at .ensures) (k .if4 .taken)))
 
-scan-rows-requires : tie.Need-scan-rows-requires
-scan-rows-requires c κs =
+-- what the four tests say
+scan-lent-requires : tie.Need-scan-lent-requires
+scan-lent-requires c κs =
     let b = c .before .before in
     let t = b .before .before in
     let g = t .struct-told2 .given in
     let f = t .before .before in
     let e = f .before .before in
     let a = e .before .before .before .before .args in
-    let S : Scannable (a .n) (a .rows) (a .table .now) (a .x .now) (a .rr) = record {
+    ready-of (a .n) (a .rows) (a .table .now) (a .x .now) (a .rr) (record {
       dimension = says-yes _ _ (e .before .is-dimension .ensures) (e .if1 .left);
       long = says-yes _ _ (f .before .table-fits .ensures) (f .if2 .left);
       band = says-yes _ _ (band-read (a .rows) (a .rr) (record { sfits = g .1 .0 .1 }) (record { sfits = g .1 .1 .0 .1 }) (b .before .band-fits .ensures)) (b .if3 .left);
       at = says-yes _ _ (c .before .is-at .ensures) (c .if4 .left);
-    } in
-    ready-of (a .n) (a .rows) (a .table .now) (a .x .now) (a .rr) S
+    })
 
 returns-5 : tie.Need-returns-5
 returns-5 c =
-    let h = c .before .before .before in
+    let w = c .before .before in
+    let h = w .before in
     let b = h .before .before in
     let t = b .before .before in
     let g = t .struct-told2 .given in
     let f = t .before .before in
     let e = f .before .before in
     let a = e .before .before .before .before .args in
-    let n = a .n in
-    let z = c .before .struct-told3 .given in
-    ends n (a .rows) (a .table .now) (a .x .now) (a .rr) (a .lower) (a .upper) (record {
+    scanned (a .n) (a .rows) (a .table .now) (a .x .now) (a .rr) (a .lower) (a .upper) (record {
       dimension = says-yes _ _ (e .before .is-dimension .ensures) (e .if1 .left);
       long = says-yes _ _ (f .before .table-fits .ensures) (f .if2 .left);
       band = says-yes _ _ (band-read (a .rows) (a .rr) (record { sfits = g .1 .0 .1 }) (record { sfits = g .1 .1 .0 .1 }) (b .before .band-fits .ensures)) (b .if3 .left);
       at = says-yes _ _ (h .before .is-at .ensures) (h .if4 .left);
-    }) (c .before .before .scan-rows .result) (c .before .before .scan-rows .ensures) (record { sfits = z .1 .1 .1 .0 .1 }) (record { sfits = g .1 .0 .1 }) (record { sfits = g .1 .1 .0 .1 })
+    }) (w .scan-lent .ensures .0) (w .scan-lent .ensures .1)
 
 pub scan-by-value-spec : {M : Type 1} → statement M
 scan-by-value-spec =
     tie.close
     (tie.spec is-dimension-requires scan-refused-requires returns table-fits-requires scan-refused-requires-2 returns-2 band-fits-requires scan-refused-requires-3 returns-3
-    is-at-requires scan-refused-requires-4 returns-4 scan-rows-requires returns-5)
+    is-at-requires scan-refused-requires-4 returns-4 scan-lent-requires returns-5)

@@ -20,6 +20,7 @@ use Rattle.oracles.specs.Scan.{band-fits, scan-of, scan-band-answer}
 use Rattle.oracles.specs.Table.{is-rows, table-fits}
 use Rattle.oracles.specs.declared.round_robin.RoundRobin.{RoundRobin}
 use Rattle.oracles.specs.declared.scan.Upper.{Upper}
+use Rattle.oracles.specs.declared.scan.Scan.{Scan}
 use Rattle.oracles.specs.declared.scan.ScanAnswer.the-variants.{Scanned, Refused}
 use Rattle.oracles.specs.laws.Scan.{Ready, Scannable}
 
@@ -33,11 +34,13 @@ ready-of n rows table x c S =
     let e : length table ≡ rows * n = eqb-true (length table) (rows * n) (and-parts (eqb (length table) (rows * n)) (eqb (length x) n) (S .long) .0) in
     record { legal = L; high = le-trans (mul-le-mul-right n h) (le-of-eq (sym e)) }
 
--- with nothing to refuse, the answer is the scan
+-- with nothing to refuse, the answer is the scan that was made, and the cursor that it left
 pub scanned : (n rows : ℕ) (table x : List Float) (c : RoundRobin) (lower : Float) (upper : Upper) → Scannable n rows table x c
-    → (Scanned (scan-of n table x c lower upper), with-cur c (scan-of n table x c lower upper .last)) ≡ scan-band-answer n rows table x c lower upper
+    → {s : Scan} {d : RoundRobin} → s ≡ scan-of n table x c lower upper → d ≡ with-cur c (s .last) → (Scanned s, d) ≡ scan-band-answer n rows table x c lower upper
 unfolding scan-band-answer
-scanned n rows table x c lower upper S = accepts _ _ _ (at-next (at-next (held _ _ (S .dimension)) (held _ _ (S .long))) (at-next (held _ _ (S .band)) (held _ _ (S .at)))) refl
+scanned n rows table x c lower upper S es ed =
+    let q = ed ∙ ap (λ (z : Scan). with-cur c (z .last)) es in
+    (λ i. (Scanned (es i), q i)) ∙ accepts _ _ _ (at-next (at-next (held _ _ (S .dimension)) (held _ _ (S .long))) (at-next (held _ _ (S .band)) (held _ _ (S .at)))) refl
 
 module _ (n rows : ℕ) (table x : List Float) (c : RoundRobin) (lower : Float) (upper : Upper) where
   pub no-dimension : is-dimension n ≡ false → (Refused Dimension, c) ≡ scan-band-answer n rows table x c lower upper
