@@ -9,14 +9,14 @@ use lib.Signed.{leZ, ltZ}
 use lib.Ieee.{Float, nan, lt, neg, binary64, ofBits}
 use Rattle.numbers.specs.F64.{0ᶠ}
 use Rattle.numbers.specs.Pick.{pick}
-use Rattle.numbers.specs.Refusal.{_⨾_, unless, ask}
-use Rattle.numbers.specs.Arr.{row-of, sized}
+use Rattle.numbers.specs.Refusal.{unless}
+use Rattle.numbers.specs.Arr.{is-dimension, row-of}
 use Rattle.numbers.specs.declared.refusal.Refusal.{Refusal}
-use Rattle.numbers.specs.declared.refusal.Refusal.the-variants.{Band, Cursor, NoStopValue}
+use Rattle.numbers.specs.declared.refusal.Refusal.the-variants.{NoStopValue}
 use Rattle.numbers.specs.declared.refusal.Fault.{Fault}
 use Rattle.numbers.specs.declared.cut.CutChoice.the-variants.{Single, Parallel}
 use Rattle.oracles.specs.RoundRobin.{is-at, eqZ, with-cur, new-range-answer}
-use Rattle.oracles.specs.Scan.{−∞, none, scan-of, violated, band-beta, band-gradient}
+use Rattle.oracles.specs.Scan.{−∞, none, scan-of, first-fault, violated, band-beta, band-gradient}
 use Rattle.oracles.specs.Table.{is-rows, table-fits}
 use Rattle.oracles.specs.declared.round_robin.RoundRobin.{RoundRobin}
 use Rattle.oracles.specs.declared.round_robin.CursorAnswer.{CursorAnswer}
@@ -160,7 +160,7 @@ refused-of o why = record { oracle = o; verdict = Refused why }
 
 -- refusals 1 to 4 of a call with an oracle, whose lengths are right where `fit` is true
 abbrev pub oracle-tests : LowpassOracle → ℕ → ℕ → Bool → Fault
-oracle-tests o n rows fit = sized n fit ⨾ ask (bands-fit o rows) Band ⨾ ask (cursors-fit o) Cursor
+oracle-tests o n rows fit = first-fault (is-dimension n) fit (bands-fit o rows) (cursors-fit o)
 
 -- `assess_feas`
 abbrev pub assess-tests : LowpassOracle → ℕ → ℕ → List Float → List Float → List Float → Fault

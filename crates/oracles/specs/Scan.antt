@@ -8,8 +8,8 @@ use lib.Ieee.{Float, inf, lt, neg}
 use Rattle.numbers.specs.F64.{_⊖_}
 use Rattle.numbers.specs.Pick.{pick}
 use Rattle.numbers.specs.Refusal.{_⨾_, unless, ask}
-use Rattle.numbers.specs.Arr.{sized, row-of}
-use Rattle.numbers.specs.declared.refusal.Refusal.the-variants.{Band, Cursor}
+use Rattle.numbers.specs.Arr.{is-dimension, row-of}
+use Rattle.numbers.specs.declared.refusal.Refusal.the-variants.{Dimension, Length, Band, Cursor}
 use Rattle.numbers.specs.declared.refusal.Fault.{Fault}
 use Rattle.numbers.specs.declared.cut.CutChoice.{CutChoice}
 use Rattle.numbers.specs.declared.cut.CutChoice.the-variants.{Single, Parallel}
@@ -57,9 +57,13 @@ scan-of n table x c lower upper = scan-from n table x lower upper (natAbs (c .hi
 abbrev pub band-fits : ℕ → ℤ → ℤ → Bool
 band-fits rows lo hi = is-rows rows && (is-band lo hi && leZ hi (pos rows))
 
+-- refusals 1 to 4 in their order, by what was found of n, the lengths, the bands and the cursors
+abbrev pub first-fault : Bool → Bool → Bool → Bool → Fault
+first-fault dimension lengths bands cursors = (ask dimension Dimension ⨾ ask lengths Length) ⨾ ask bands Band ⨾ ask cursors Cursor
+
 -- `scan_band`: refusals 1, 2, 3 (row count, band, band within the rows) and 4; the answer, and the cursor as it is left
 abbrev pub scan-band-tests : ℕ → ℕ → List Float → List Float → RoundRobin → Fault
-scan-band-tests n rows table x c = sized n (table-fits n rows table x) ⨾ ask (band-fits rows (c .lo) (c .hi)) Band ⨾ ask (is-at c) Cursor
+scan-band-tests n rows table x c = first-fault (is-dimension n) (table-fits n rows table x) (band-fits rows (c .lo) (c .hi)) (is-at c)
 
 unfoldable pub scan-band-answer : ℕ → ℕ → List Float → List Float → RoundRobin → Float → Upper → ScanAnswer × RoundRobin
 scan-band-answer n rows table x c lower upper =

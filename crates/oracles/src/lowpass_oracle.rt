@@ -2,10 +2,12 @@
 use crate::band_cut::gradient_into;
 use crate::round_robin::CursorAnswer;
 use crate::round_robin::RoundRobin;
+use crate::scan_band::first_fault;
 use crate::table::is_rows;
 use crate::table::table_fits;
 use numbers::arr::is_dimension;
 use numbers::cut::CutChoice;
+use numbers::refusal::Fault;
 use numbers::refusal::Refusal;
 ghost use mathlib.Core.Path.{_≡_};
 ghost use mathlib.Core.Bool.{false};
@@ -15,7 +17,7 @@ ghost use lib.IntN.{pos, natAbs};
 ghost use lib.Signed.{ltZ};
 ghost use Rattle.oracles.specs.Verdict.{ByFeasRule, ByOptimRule};
 ghost use Rattle.oracles.specs.LowpassOracle.{fresh-cur, start-oracle, bands-fit, cursors-fit, has-band, group-number, group-side};
-ghost use Rattle.oracles.specs.LowpassOracle.{offered, improved-of, refused-of, assess-feas-answer, assess-optim-answer};
+ghost use Rattle.oracles.specs.LowpassOracle.{offered, improved-of, assess-feas-answer, assess-optim-answer};
 
 // The state of an oracle over a row table that the caller lends: pass rows are 0 to nwpass − 1, middle rows reach nwstop − 1, stop rows the end.
 pub struct LowpassOracle {
@@ -213,28 +215,19 @@ impl LowpassOracle {
         ensures { λ r. ⌜ (r, now (grad .exit)) ≡ assess-feas-answer self n rows (now (table .entry)) (now (x .entry)) (now (grad .entry)) ⌝ }
         ensures { λ r. ⌜ ByFeasRule self n rows (now (table .entry)) (now (x .entry)) (now (grad .entry)) r ⌝ }
     {
-        if !is_dimension(n) {
-            return self.refused(Refusal::Dimension);
-        }
-        if !(table_fits(n, rows, table.len(), x.len()) & (grad.len() == n)) {
-            return self.refused(Refusal::Length);
-        }
-        if !self.bands_fit(rows) {
-            return self.refused(Refusal::Band);
-        }
-        if !self.cursors_fit() {
-            return self.refused(Refusal::Cursor);
-        }
-        self.assess(n, table, x, grad)
-    }
-
-    // The oracle as it came, with the reason.
-    fn refused(self, why: Refusal) -> Assessed
-        ensures { λ r. ⌜ r ≡ refused-of self why ⌝ }
-    {
-        Assessed {
-            oracle: self,
-            verdict: Verdict::Refused(why),
+        let lengths = table_fits(n, rows, table.len(), x.len()) & (grad.len() == n);
+        let fault = first_fault(
+            is_dimension(n),
+            lengths,
+            self.bands_fit(rows),
+            self.cursors_fit(),
+        );
+        match fault {
+            Fault::Sound => self.assess(n, table, x, grad),
+            Fault::At(why, _) => Assessed {
+                oracle: self,
+                verdict: Verdict::Refused(why),
+            },
         }
     }
 

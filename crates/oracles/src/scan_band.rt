@@ -10,11 +10,11 @@ use crate::scan::scan_rows;
 use crate::table::is_rows;
 use crate::table::table_fits;
 use numbers::arr::is_dimension;
+use numbers::refusal::Fault;
 use numbers::refusal::Refusal;
 ghost use mathlib.Core.Path.{_≡_};
 ghost use Rattle.oracles.specs.RoundRobin.{with-cur};
-ghost use Rattle.oracles.specs.Scan.{band-fits, scan-of, scan-band-answer};
-ghost use Rattle.oracles.specs.declared.scan.ScanAnswer.the-variants.{Refused};
+ghost use Rattle.oracles.specs.Scan.{band-fits, scan-of, first-fault, scan-band-answer};
 ghost use Rattle.oracles.specs.laws.Scan.{Ready};
 
 // Whether lo and hi are a band of a table of so many rows.
@@ -65,14 +65,23 @@ pub(crate) fn scan_lent(
     }
 }
 
-// A refusal, and the cursor as it came.
-fn scan_refused(rr: RoundRobin, why: Refusal) -> ScanEnd
-    ensures { λ r. ⌜ r ≡ record { answer = Refused why; cursor = rr } ⌝ }
+// Refusals 1 to 4 in their order, by what was found of n, the lengths, the bands and the cursors.
+pub(crate) fn first_fault(dimension: bool, lengths: bool, bands: bool, cursors: bool) -> Fault
+    ensures { λ r. ⌜ r ≡ first-fault dimension lengths bands cursors ⌝ }
 {
-    ScanEnd {
-        answer: ScanAnswer::Refused(why),
-        cursor: rr,
+    if !dimension {
+        return Fault::At(Refusal::Dimension, 0);
     }
+    if !lengths {
+        return Fault::At(Refusal::Length, 0);
+    }
+    if !bands {
+        return Fault::At(Refusal::Band, 0);
+    }
+    if !cursors {
+        return Fault::At(Refusal::Cursor, 0);
+    }
+    Fault::Sound
 }
 
 // `scan_band` with the cursor by value, for callers who have no place to lend.
@@ -87,24 +96,27 @@ pub fn scan_by_value(
 ) -> ScanEnd
     ensures { λ r. ⌜ (r .answer, r .cursor) ≡ scan-band-answer n rows (now (table .entry)) (now (x .entry)) rr lower upper ⌝ }
 {
-    if !is_dimension(n) {
-        return scan_refused(rr, Refusal::Dimension);
-    }
-    if !table_fits(n, rows, table.len(), x.len()) {
-        return scan_refused(rr, Refusal::Length);
-    }
-    if !band_fits(rows, rr.lo, rr.hi) {
-        return scan_refused(rr, Refusal::Band);
-    }
-    if !rr.is_at() {
-        return scan_refused(rr, Refusal::Cursor);
-    }
-    let swept = scan_lent(n, table, x, rr, lower, upper);
-    let scan = swept.scan;
-    let cursor = swept.cursor;
-    ScanEnd {
-        answer: ScanAnswer::Scanned(scan),
-        cursor: cursor,
+    let lengths = table_fits(n, rows, table.len(), x.len());
+    let fault = first_fault(
+        is_dimension(n),
+        lengths,
+        band_fits(rows, rr.lo, rr.hi),
+        rr.is_at(),
+    );
+    match fault {
+        Fault::Sound => {
+            let swept = scan_lent(n, table, x, rr, lower, upper);
+            let scan = swept.scan;
+            let cursor = swept.cursor;
+            ScanEnd {
+                answer: ScanAnswer::Scanned(scan),
+                cursor: cursor,
+            }
+        }
+        Fault::At(why, _) => ScanEnd {
+            answer: ScanAnswer::Refused(why),
+            cursor: rr,
+        },
     }
 }
 

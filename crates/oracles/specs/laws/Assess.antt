@@ -12,12 +12,11 @@ use lib.IntN.{ℤ, pos, negsuc, natAbs}
 use lib.Signed.{leZ}
 use lib.Ieee.{Float, nan, lt, neg}
 use Rattle.numbers.specs.F64.{0ᶠ}
-use Rattle.numbers.specs.Refusal.{is-fault, ask}
-use Rattle.numbers.specs.Arr.{is-dimension, sized}
-use Rattle.numbers.specs.declared.refusal.Refusal.the-variants.{Dimension, Band}
+use Rattle.numbers.specs.Refusal.{is-fault}
+use Rattle.numbers.specs.Arr.{is-dimension}
 use Rattle.numbers.specs.declared.refusal.Fault.{Fault}
 use Rattle.numbers.specs.declared.refusal.Fault.the-variants.{Sound}
-use Rattle.numbers.specs.laws.Refusal.{both-sound, ask-sound, sound-is, held, at-next, accepts}
+use Rattle.numbers.specs.laws.Refusal.{sound-is, held, at-next, accepts}
 use Rattle.numbers.specs.declared.cut.CutChoice.the-variants.{Single}
 use Rattle.numbers.specs.laws.Pick.{and-parts, by-test}
 use Rattle.numbers.specs.laws.Arr.{dimension-least, dimension-most}
@@ -25,7 +24,7 @@ use Rattle.oracles.specs.RoundRobin.{is-at, with-cur}
 use Rattle.oracles.specs.laws.RoundRobin.{eqZ-true, legal-of, Legal}
 use Rattle.oracles.specs.Scan.{−∞, none, scan-of, violated, band-beta, band-gradient}
 use Rattle.oracles.specs.Table.{is-rows, table-fits}
-use Rattle.oracles.specs.laws.Scan.{Ready}
+use Rattle.oracles.specs.laws.Scan.{Ready, all-hold}
 use Rattle.oracles.specs.LowpassOracle.{−1ᶠ, has-band, bands-fit, cursors-fit, after-pass, after-stop, after-middle, assess-sign, assess-middle, assess-stop, assess-of, oracle-tests, assess-tests, assess-feas-answer}
 use Rattle.oracles.specs.Verdict.{is-accepted}
 use Rattle.oracles.specs.declared.round_robin.RoundRobin.{RoundRobin}
@@ -100,10 +99,8 @@ pub record OracleFits (o : LowpassOracle) (n rows : ℕ) (fit : Bool) : Type 0 w
 module _ (o : LowpassOracle) (n rows : ℕ) (fit : Bool) where
   pub oracle-fits : oracle-tests o n rows fit ≡ Sound → OracleFits o n rows fit
   oracle-fits e =
-      let p = both-sound (sized n fit) _ e in
-      let q = both-sound (ask (is-dimension n) Dimension) _ (p .0) in
-      let r = both-sound (ask (bands-fit o rows) Band) _ (p .1) in
-      record { dimension = ask-sound _ _ _ (q .0); long = ask-sound _ _ _ (q .1); bands = ask-sound _ _ _ (r .0); cursors = ask-sound _ _ _ (r .1) }
+      let h = all-hold _ _ _ _ e in
+      record { dimension = h .0; long = h .1; bands = h .2; cursors = h .3 }
 
   pub fits-oracle : OracleFits o n rows fit → Sound ≡ oracle-tests o n rows fit
   fits-oracle f = at-next (at-next (held _ _ (f .dimension)) (held _ _ (f .long))) (at-next (held _ _ (f .bands)) (held _ _ (f .cursors)))

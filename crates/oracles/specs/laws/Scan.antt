@@ -1,27 +1,34 @@
 -- Laws of a scan, for every legal cursor of a band: what it finds, where it leaves the cursor, and its largest value. Assumes nothing.
 use mathlib.Core.Path.{_≡_, refl, sym, ap, _∙_}
-use mathlib.Core.Bool.{Bool, true, false, _||_, true≢false}
+use mathlib.Core.Bool.{Bool, true, false, _&&_, _||_, true≢false}
 use mathlib.Core.Logic.{_⊎_, inl, inr}
 use mathlib.Core.List.{List}
 use lib.ListN.{length}
 use Prim.Native.Nat.{ℕ, zero, suc, _≤_, _<_, _+_, _-_, _*_}
-use native.Mathlib.Nat.{eq-or-lt-of-le}
+use native.Mathlib.Nat.{eq-or-lt-of-le, mul-le-mul-right, le-trans, le-of-eq}
 use native.Mathlib.Decide.{decLt}
 use native.Mathlib.Omega.{arith}
 use lib.IntN.{ℤ, pos, predℤ, natAbs, _-ℤ_}
+use lib.Dec.{eqb}
+use lib.Signed.{leZ}
+use borrow.Author.Tests.{leb-true, eqb-true}
 use lib.Ieee.{Float, lt, isNan}
 use Rattle.numbers.specs.Pick.{pick, some}
-use Rattle.numbers.specs.laws.Pick.{none-some, some-holds}
+use Rattle.numbers.specs.laws.Pick.{and-parts, none-some, some-holds}
 use Rattle.oracles.specs.RoundRobin.{is-band, is-at, with-cur, advanced}
-use Rattle.oracles.specs.laws.RoundRobin.{canon, legal-canon, adv-next, adv-wrap, band-is, legal-band, legal-at, Legal}
+use Rattle.oracles.specs.laws.RoundRobin.{canon, legal-of, legal-canon, adv-next, adv-wrap, band-is, legal-band, legal-at, Legal}
 use Rattle.oracles.specs.laws.FloatOrder.{nlt-trans, lt-asym, lt-irrefl, above-compares}
-use Rattle.oracles.specs.Scan.{−∞, none, is-over, scan-from, scan-of, band-fits}
-use Rattle.oracles.specs.Table.{value-of, table-fits}
+use Rattle.oracles.specs.Scan.{−∞, none, is-over, scan-from, scan-of, first-fault, scan-band-tests}
+use Rattle.oracles.specs.Table.{is-rows, value-of}
 use Rattle.oracles.specs.declared.round_robin.RoundRobin.{RoundRobin}
 use Rattle.oracles.specs.declared.scan.Upper.{Upper}
 use Rattle.oracles.specs.declared.scan.Violation.the-variants.{Nothing, Broken}
 use Rattle.oracles.specs.declared.scan.Scan.{Scan}
-use Rattle.numbers.specs.Arr.{is-dimension}
+use Rattle.numbers.specs.Refusal.{_⨾_, ask}
+use Rattle.numbers.specs.declared.refusal.Refusal.the-variants.{Dimension, Length, Band}
+use Rattle.numbers.specs.declared.refusal.Fault.{Fault}
+use Rattle.numbers.specs.declared.refusal.Fault.the-variants.{Sound as NoFault}
+use Rattle.numbers.specs.laws.Refusal.{both-sound, ask-sound}
 
 -- ---- what the inner functions ask for
 
@@ -30,12 +37,28 @@ pub record Ready (n : ℕ) (table x : List Float) (c : RoundRobin) : Type 0 wher
   pub legal : Legal c
   pub high : legal .past * n ≤ length table
 
--- a scan with nothing left to refuse
-pub record Scannable (n rows : ℕ) (table x : List Float) (c : RoundRobin) : Type 0 where
-  pub dimension : is-dimension n ≡ true
-  pub long : table-fits n rows table x ≡ true
-  pub band : band-fits rows (c .lo) (c .hi) ≡ true
-  pub at : is-at c ≡ true
+-- no fault by refusals 1 to 4: each test holds
+pub all-hold : (d l b c : Bool) → first-fault d l b c ≡ NoFault → (d ≡ true) × (l ≡ true) × (b ≡ true) × (c ≡ true)
+all-hold d l b c e =
+    let p = both-sound (ask d Dimension ⨾ ask l Length) _ e in
+    let q = both-sound (ask d Dimension) _ (p .0) in
+    let r = both-sound (ask b Band) _ (p .1) in
+    (ask-sound _ _ _ (q .0), ask-sound _ _ _ (q .1), ask-sound _ _ _ (r .0), ask-sound _ _ _ (r .1))
+
+-- the same fault from equal tests
+pub fault-by : {f : Fault} {d l b c d′ l′ b′ c′ : Bool} → f ≡ first-fault d l b c → d ≡ d′ → l ≡ l′ → b ≡ b′ → c ≡ c′ → f ≡ first-fault d′ l′ b′ c′
+fault-by e hd hl hb hc = e ∙ (λ i. first-fault (hd i) (hl i) (hb i) (hc i))
+
+-- rows that the tests allow can be read
+pub ready-of : (n rows : ℕ) (table x : List Float) (c : RoundRobin) → scan-band-tests n rows table x c ≡ NoFault → Ready n table x c
+ready-of n rows table x c e =
+    let h = all-hold _ _ _ _ e in
+    let b = and-parts (is-rows rows) (is-band (c .lo) (c .hi) && leZ (c .hi) (pos rows)) (h .2) .1 in
+    let p = and-parts (is-band (c .lo) (c .hi)) (leZ (c .hi) (pos rows)) b in
+    let L = legal-of c (p .0) (h .3) in
+    let l : L .past ≤ rows = leb-true (L .past) rows (ap (λ (z : ℤ). leZ z (pos rows)) (sym (L .hi-is)) ∙ p .1) in
+    let q : length table ≡ rows * n = eqb-true (length table) (rows * n) (and-parts (eqb (length table) (rows * n)) (eqb (length x) n) (h .1) .0) in
+    record { legal = L; high = le-trans (mul-le-mul-right n l) (le-of-eq (sym q)) }
 
 -- ---- how many rows a scan has, and which
 

@@ -43,28 +43,25 @@ returns : tie.Need-returns
 returns c =
     let k = c .before .before in
     let m = k .before .before in
-    let t = m .before in
-    let mt = t .before .before in
+    let mt = m .before .before .before in
     let sr = mt .before .before .before in
     let a = sr .before .before .before .before .before .args in
     let w = sr .scan-lent in
-    middle-passes (a .self) (a .n) (a .table .now) (a .x .now) (a .grad .now) (w .result .scan) (w .result .cursor) (record { sfits = t .struct-told .given .1 .1 .1 .0 .1 })
-    (m .after-middle .result) (w .ensures .0) (w .ensures .1) (nothing-of _ (mt .match .keys1)) (m .after-middle .ensures) _ (k .assess-sign .ensures)
+    middle-passes (a .self) (a .n) (a .table .now) (a .x .now) (a .grad .now) (w .result .scan) (w .result .cursor) (record { sfits = m .before .struct-told .given .1 .1 .1 .0 .1 }) (m .after-middle .result)
+    (w .ensures .0) (w .ensures .1) (nothing-of _ (mt .match .keys1)) (m .after-middle .ensures) _ (k .assess-sign .ensures)
 
 same-length-2 : tie.Need-same-length-2
 same-length-2 c = search needs
 
 returns-2 : tie.Need-returns-2
 returns-2 c =
-    let t = c .before in
-    let b = t .before in
-    let g = b .before .before .before in
-    let v = g .before .before .before in
+    let b = c .before .before in
+    let v = b .before .before .before .before .before .before in
     let sr = v .before .before .before .before in
     let a = sr .before .before .before .before .before .args in
     let w = sr .scan-lent in
-    middle-breaks (a .self) (a .n) (a .table .now) (a .x .now) (a .grad .now) (w .result .scan) (w .result .cursor) (record { sfits = t .struct-told2 .given .1 .1 .1 .0 .1 })
-    (c .after-middle2 .result) (w .ensures .0) (w .ensures .1) _ _ _ (v .viol .given .1) (c .after-middle2 .ensures) _ _ (b .band-beta .ensures, g .gradient-into .ensures)
+    middle-breaks (a .self) (a .n) (a .table .now) (a .x .now) (a .grad .now) (w .result .scan) (w .result .cursor) (record { sfits = c .before .struct-told2 .given .1 .1 .1 .0 .1 }) (c .after-middle2 .result)
+    (w .ensures .0) (w .ensures .1) _ _ _ (v .viol .given .1) (c .after-middle2 .ensures) _ _ (b .band-beta .ensures, b .before .before .before .gradient-into .ensures)
 
 pub assess-middle-spec : {M : Type 1} → statement M
 assess-middle-spec =

@@ -42,16 +42,14 @@ same-length c = search needs
 
 returns : tie.Need-returns
 returns c =
-    let k = c .before .before in
-    let m = k .before .before in
-    let t = m .before in
-    let mt = t .before .before .before in
+    let m = c .before .before .before .before in
+    let g = m .before .struct-told2 .given in
+    let mt = m .before .before .before .before in
     let sr = mt .before .before .before in
     let a = sr .before .before .before .before .before .args in
     let w = sr .scan-lent in
-    let g = t .struct-told2 .given in
-    stop-passes (a .self) (a .n) (a .table .now) (a .x .now) (a .grad .now) (w .result .scan) (w .result .cursor) (record { sfits = g .1 .1 .1 .0 .1 })
-    (m .after-stop .result) (w .ensures .0) (w .ensures .1) (record { sfits = g .1 .1 .0 .1 }) (nothing-of _ (mt .match .keys1)) (m .after-stop .ensures) _ (k .assess-middle .ensures)
+    stop-passes (a .self) (a .n) (a .table .now) (a .x .now) (a .grad .now) (w .result .scan) (w .result .cursor) (record { sfits = g .1 .1 .1 .0 .1 }) (m .after-stop .result) (w .ensures .0) (w .ensures .1) (record { sfits = g .1 .1 .0 .1 })
+    (nothing-of _ (mt .match .keys1)) (m .after-stop .ensures) _ (c .before .before .assess-middle .ensures)
 
 same-length-2 : tie.Need-same-length-2
 same-length-2 c = search needs
@@ -59,15 +57,12 @@ same-length-2 c = search needs
 returns-2 : tie.Need-returns-2
 unfolding Ieee.div Ieee.neg Ieee.ofBits
 returns-2 c =
-    let t = c .before in
-    let b = t .before in
-    let g = b .before .before .before in
-    let v = g .before .before .before in
-    let sr = v .before .before .before .before in
+    let sr = c .before .before .before .before .before .before .before .before .before .before .before .before in
+    let v = c .before .before .before .before .before .before .before .before in
     let a = sr .before .before .before .before .before .args in
     let w = sr .scan-lent in
-    stop-breaks (a .self) (a .n) (a .table .now) (a .x .now) (a .grad .now) (w .result .scan) (w .result .cursor) (record { sfits = t .struct-told3 .given .1 .1 .1 .0 .1 })
-    (c .after-stop2 .result) (w .ensures .0) (w .ensures .1) _ _ _ (v .viol .given .1) (c .after-stop2 .ensures) _ _ (b .band-beta .ensures, g .gradient-into .ensures)
+    stop-breaks (a .self) (a .n) (a .table .now) (a .x .now) (a .grad .now) (w .result .scan) (w .result .cursor) (record { sfits = c .before .struct-told3 .given .1 .1 .1 .0 .1 }) (c .after-stop2 .result) (w .ensures .0) (w .ensures .1) _ _ _
+    (v .viol .given .1) (c .after-stop2 .ensures) _ _ (c .before .before .band-beta .ensures, c .before .before .before .before .before .gradient-into .ensures)
 
 pub assess-stop-spec : {M : Type 1} → statement M
 assess-stop-spec =
