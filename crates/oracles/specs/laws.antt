@@ -1,5 +1,6 @@
 pub mod RoundRobin
 pub mod FloatOrder
+pub mod ScanRows
 pub mod Scan
 pub mod ScanRun
 pub mod Assess

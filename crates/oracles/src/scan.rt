@@ -14,7 +14,7 @@ ghost use Rattle.oracles.specs.declared.scan.Upper.the-variants.{Limit};
 ghost use Rattle.oracles.specs.laws.ScanRun.{limit-of, is-broken, judged-of, scan-run, RowsLeft};
 ghost use Rattle.oracles.specs.Scan.{scan-from, scan-of};
 ghost use Rattle.oracles.specs.laws.RoundRobin.{Legal};
-ghost use Rattle.oracles.specs.laws.Scan.{Ready};
+ghost use Rattle.oracles.specs.laws.ScanRows.{Ready};
 
 // The upper limit of a band, where it has one.
 pub enum Upper {

@@ -15,7 +15,7 @@ use numbers::refusal::Refusal;
 ghost use mathlib.Core.Path.{_≡_};
 ghost use Rattle.oracles.specs.RoundRobin.{with-cur};
 ghost use Rattle.oracles.specs.Scan.{band-fits, scan-of, first-fault, scan-band-answer};
-ghost use Rattle.oracles.specs.laws.Scan.{Ready};
+ghost use Rattle.oracles.specs.laws.ScanRows.{Ready};
 
 // Whether lo and hi are a band of a table of so many rows.
 fn band_fits(rows: usize, lo: i32, hi: i32) -> bool

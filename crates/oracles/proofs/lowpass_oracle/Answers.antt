@@ -22,7 +22,7 @@ use Rattle.numbers.specs.declared.refusal.Fault.the-variants.{Sound, At}
 use Rattle.numbers.specs.laws.Refusal.{refuses}
 use Rattle.oracles.specs.Table.{table-fits}
 use Rattle.oracles.specs.Scan.{first-fault}
-use Rattle.oracles.specs.laws.Scan.{fault-by}
+use Rattle.oracles.specs.laws.ScanRows.{fault-by}
 use Rattle.oracles.specs.LowpassOracle.{bands-fit, cursors-fit, refused-of, assess-of, assess-tests, assess-feas-answer, optim-of, assess-optim-answer, offered}
 use Rattle.oracles.specs.Verdict.{feasible, refused, asked, is-accepted, is-feasible, judgement, Peak, FeasRule, OptimRule, ByFeasRule, ByOptimRule}
 use Rattle.oracles.specs.laws.Assess.{Accepted, accepted-of, accepted-is}

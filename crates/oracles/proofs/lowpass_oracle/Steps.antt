@@ -18,7 +18,8 @@ use Rattle.numbers.specs.declared.cut.CutChoice.{CutChoice}
 use Rattle.oracles.specs.RoundRobin.{with-cur}
 use Rattle.oracles.specs.Scan.{−∞, none, scan-of, violated, band-beta, band-gradient}
 use Rattle.oracles.specs.LowpassOracle.{after-pass, after-stop, after-middle, assess-sign, assess-middle, assess-stop, assess-of}
-use Rattle.oracles.specs.laws.Scan.{Ready, broken-in, left-ready}
+use Rattle.oracles.specs.laws.ScanRows.{Ready}
+use Rattle.oracles.specs.laws.Scan.{broken-in, left-ready}
 use Rattle.oracles.specs.laws.Assess.{Assessable}
 use Rattle.oracles.specs.declared.round_robin.RoundRobin.{RoundRobin}
 use Rattle.oracles.specs.declared.scan.Upper.{Upper}

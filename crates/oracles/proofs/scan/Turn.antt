@@ -12,7 +12,7 @@ use lib.ListN.{length}
 use lib.Ieee.{Float}
 use Rattle.oracles.specs.RoundRobin.{with-cur, advanced}
 use Rattle.oracles.specs.laws.RoundRobin.{canon, legal-canon, adv-next, Legal}
-use Rattle.oracles.specs.laws.Scan.{NextRow, next-row, band-count, Ready}
+use Rattle.oracles.specs.laws.ScanRows.{NextRow, next-row, band-count, Ready}
 use Rattle.oracles.specs.Scan.{−∞, none, scan-from, scan-of}
 use Rattle.oracles.specs.Table.{value-of}
 use Rattle.oracles.specs.laws.ScanRun.{limit-of, is-broken, judged-of, scan-run, RowsLeft}
@@ -130,13 +130,17 @@ module _ {n : ℕ} {table : List Float} (x : List Float) (lower limit : Float) {
               pub one-row : many ≡ 1 → d ≡ with-cur d (s .last)
               one-row e = goes-to ∙ ap (λ (z : ℕ). canon lo hi z) (let q : suc (next .row) ≡ row + many = omega (arith, row-is) in q) ∙ sym on
 
-              pub still : {e : RoundRobin} → e ≡ with-cur d (s .last) → RowsLeft n table e (left - many)
+              still : {e : RoundRobin} → e ≡ with-cur d (s .last) → RowsLeft n table e (left - many)
               still {e} q =
                   subst (λ (z : RoundRobin). RowsLeft n table z (left - many)) (sym (q ∙ on))
                   (rows-left n table lo hi (row + many) (left - many) (omega (arith, low)) fits (G .legal .small) (omega (arith, G .room)) (G .high))
 
               pub goes-on : {e : RoundRobin} → e ≡ with-cur d (s .last) → scan-from n table x lower (Limit limit) (left - many) e (s .fmax) (s .kmax) ≡ whole
               goes-on {e} q = ap (λ (z : RoundRobin). scan-from n table x lower (Limit limit) (left - many) z (s .fmax) (s .kmax)) (q ∙ on) ∙ after-whole s _ b ∙ opened
+
+              -- both, as the loop has them
+              pub turned : {e : RoundRobin} → e ≡ with-cur d (s .last) → RowsLeft n table e (left - many) × (scan-from n table x lower (Limit limit) (left - many) e (s .fmax) (s .kmax) ≡ whole)
+              turned q = (still q, goes-on q)
 
 -- ---- the start
 

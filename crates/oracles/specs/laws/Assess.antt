@@ -24,7 +24,7 @@ use Rattle.oracles.specs.RoundRobin.{is-at, with-cur}
 use Rattle.oracles.specs.laws.RoundRobin.{eqZ-true, legal-of, Legal}
 use Rattle.oracles.specs.Scan.{−∞, none, scan-of, violated, band-beta, band-gradient}
 use Rattle.oracles.specs.Table.{is-rows, table-fits}
-use Rattle.oracles.specs.laws.Scan.{Ready, all-hold}
+use Rattle.oracles.specs.laws.ScanRows.{Ready, all-hold}
 use Rattle.oracles.specs.LowpassOracle.{−1ᶠ, has-band, bands-fit, cursors-fit, after-pass, after-stop, after-middle, assess-sign, assess-middle, assess-stop, assess-of, oracle-tests, assess-tests, assess-feas-answer}
 use Rattle.oracles.specs.Verdict.{is-accepted}
 use Rattle.oracles.specs.declared.round_robin.RoundRobin.{RoundRobin}

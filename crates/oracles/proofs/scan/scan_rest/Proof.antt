@@ -11,7 +11,7 @@ use Rattle.oracles.specs.Scan.{scan-from}
 use Rattle.oracles.specs.laws.ScanRun.{RowsLeft}
 use Rattle.oracles.specs.declared.scan.Upper.the-variants.{Limit}
 use Rattle.oracles.proofs.Signed.{cur-fits}
-use Rattle.oracles.proofs.scan.Turn.{clear, row-there, legal-there, row-before-past, rows-small, rows-in, ends, still, goes-on}
+use Rattle.oracles.proofs.scan.Turn.{clear, row-there, legal-there, row-before-past, rows-small, rows-in, ends, turned}
 use Rattle.oracles.proofs.scan.scan_rest.Statement.{statement}
 use Rattle.oracles.proofs.scan.scan_rest.Tie as tie
 
@@ -89,17 +89,15 @@ is-broken-requires c κs = tt
 
 returns : tie.Need-returns Inv-loop μ-loop
 returns c =
-    let b = c .before in
-    let k = b .before in
-    let m = k .before in
-    let p = m .before in
-    let r = p .before in
-    let s = r .before in
+    let k = c .before .before in
+    let p = k .before .before in
+    let s = p .before .before in
     let i = s .before in
     let l = i .before .loop in
     let st = i .before .before .before .before in
     let a = st .args in
-    ends (a .x .now) (a .lower) (a .limit) (l .fmax) (toZ w32 (l .kmax)) (l .inv .0) (l .inv .1) (i .loop-test .taken) (s .step .ensures) (r .row-at .ensures) (p .band-past .ensures) (m .rows-together .ensures .1) (m .rows-together .ensures .2) (k .look-at .ensures) (sym (b .is-broken .ensures) ∙ c .if1 .taken)
+    ends (a .x .now) (a .lower) (a .limit) (l .fmax) (toZ w32 (l .kmax)) (l .inv .0) (l .inv .1) (i .loop-test .taken) (s .step .ensures)
+    (p .before .row-at .ensures) (p .band-past .ensures) (k .before .rows-together .ensures .1) (k .before .rows-together .ensures .2) (k .look-at .ensures) (sym (c .before .is-broken .ensures) ∙ c .if1 .taken)
     ∙ ap (λ (k : ℤ). scan-from (a .n) (a .table .now) (a .x .now) (a .lower) (Limit (a .limit)) (a .count) (a .start) (a .peak) k) (toZ-ofZ (st .fits .peak-row))
 
 with-cur-requires : tie.Need-with-cur-requires Inv-loop μ-loop
@@ -116,22 +114,16 @@ loop-less c =
 loop-again : tie.Need-loop-again Inv-loop μ-loop
 loop-again c =
     let u = c .before .before in
-    let b = u .before .before in
-    let k = b .before in
-    let m = k .before in
-    let p = m .before in
-    let r = p .before in
-    let s = r .before in
+    let k = u .before .before .before in
+    let p = k .before .before in
+    let s = p .before .before in
     let i = s .before in
     let l = i .before .loop in
-    let st = i .before .before .before .before in
-    let a = st .args in
-    let q = sym (b .is-broken .ensures) ∙ u .before .if1 .left in
-    let v = rw (toZ-ofZ (record { sfits = c .before .struct-told2 .given .1 .1 .1 .0 .1 })) at (c .with-cur .ensures) in (
-      still (a .x .now) (a .lower) (a .limit) (l .fmax) (toZ w32 (l .kmax)) (l .inv .0) (l .inv .1) (i .loop-test .taken) (s .step .ensures) (r .row-at .ensures) (p .band-past .ensures) (m .rows-together .ensures .1) (m .rows-together .ensures .2) (k .look-at .ensures) q v,
-      rw (toZ-ofZ (record { sfits = u .struct-told .given .1 .1 .0 .1 }))
-          (goes-on (a .x .now) (a .lower) (a .limit) (l .fmax) (toZ w32 (l .kmax)) (l .inv .0) (l .inv .1) (i .loop-test .taken) (s .step .ensures) (r .row-at .ensures) (p .band-past .ensures) (m .rows-together .ensures .1) (m .rows-together .ensures .2) (k .look-at .ensures) q v),
-    )
+    let a = i .before .before .before .before .args in
+    let v = rw (toZ-ofZ (record { sfits = c .before .struct-told2 .given .1 .1 .1 .0 .1 })) at (c .with-cur .ensures) in
+    let w = turned (a .x .now) (a .lower) (a .limit) (l .fmax) (toZ w32 (l .kmax)) (l .inv .0) (l .inv .1) (i .loop-test .taken) (s .step .ensures)
+    (p .before .row-at .ensures) (p .band-past .ensures) (k .before .rows-together .ensures .1) (k .before .rows-together .ensures .2) (k .look-at .ensures) (sym (u .before .before .is-broken .ensures) ∙ u .before .if1 .left) v in
+    (w .0, rw (toZ-ofZ (record { sfits = u .struct-told .given .1 .1 .0 .1 })) (w .1))
 
 returns-2 : tie.Need-returns-2 Inv-loop μ-loop
 returns-2 c =

@@ -16,7 +16,7 @@ use Rattle.numbers.specs.declared.refusal.Fault.the-variants.{Sound, At}
 use Rattle.oracles.specs.RoundRobin.{is-at, with-cur}
 use Rattle.oracles.specs.Table.{table-fits}
 use Rattle.oracles.specs.Scan.{band-fits, scan-of, first-fault, scan-band-tests, scan-band-answer}
-use Rattle.oracles.specs.laws.Scan.{fault-by, ready-of}
+use Rattle.oracles.specs.laws.ScanRows.{fault-by, ready-of}
 use Rattle.oracles.specs.declared.round_robin.RoundRobin.{RoundRobin}
 use Rattle.oracles.specs.declared.scan.Upper.{Upper}
 use Rattle.oracles.specs.declared.scan.Scan.{Scan}
