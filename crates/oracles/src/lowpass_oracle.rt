@@ -136,11 +136,11 @@ impl LowpassOracle {
         LowpassOracle {
             more_alt: true,
             idx1: fresh_cur(fresh1),
-            nwpass: nwpass,
-            nwstop: nwstop,
-            lp_sq: lp_sq,
-            up_sq: up_sq,
-            sp_sq: sp_sq,
+            nwpass,
+            nwstop,
+            lp_sq,
+            up_sq,
+            sp_sq,
             idx2: fresh_cur(fresh2),
             idx3: fresh_cur(fresh3),
             fmax: -1.0 / 0.0,
@@ -251,13 +251,13 @@ impl LowpassOracle {
         match verdict {
             Verdict::Feasible => self.improved(gamma, oracle, n, table, grad),
             Verdict::Cut(group, beta) => AssessedOptim {
-                oracle: oracle,
-                gamma: gamma,
+                oracle,
+                gamma,
                 verdict: OptimVerdict::Cut(group, beta),
             },
             Verdict::Refused(why) => AssessedOptim {
                 oracle: self,
-                gamma: gamma,
+                gamma,
                 verdict: OptimVerdict::Refused(why),
             },
         }
@@ -278,7 +278,7 @@ impl LowpassOracle {
         if after.kmax < 0 {
             return AssessedOptim {
                 oracle: self,
-                gamma: gamma,
+                gamma,
                 verdict: OptimVerdict::Refused(Refusal::NoStopValue),
             };
         }

@@ -42,8 +42,8 @@ impl RoundRobin {
         }
         CursorAnswer::Accepted(RoundRobin {
             cur: lo - 1,
-            lo: lo,
-            hi: hi,
+            lo,
+            hi,
         })
     }
 
@@ -59,7 +59,7 @@ impl RoundRobin {
         ensures { λ r. ⌜ r ≡ with-cur self cur ⌝ }
     {
         RoundRobin {
-            cur: cur,
+            cur,
             lo: self.lo,
             hi: self.hi,
         }

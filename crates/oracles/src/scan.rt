@@ -105,17 +105,17 @@ fn test_row(row: usize, value: f64, lower: f64, limit: f64, fmax: f64, kmax: i32
     if value > limit {
         return Scan {
             viol: Violation::Broken(row, value, true),
-            fmax: fmax,
-            kmax: kmax,
-            last: last,
+            fmax,
+            kmax,
+            last,
         };
     }
     if value < lower {
         return Scan {
             viol: Violation::Broken(row, value, false),
-            fmax: fmax,
-            kmax: kmax,
-            last: last,
+            fmax,
+            kmax,
+            last,
         };
     }
     if value > fmax {
@@ -123,14 +123,14 @@ fn test_row(row: usize, value: f64, lower: f64, limit: f64, fmax: f64, kmax: i32
             viol: Violation::Nothing,
             fmax: value,
             kmax: last,
-            last: last,
+            last,
         };
     }
     Scan {
         viol: Violation::Nothing,
-        fmax: fmax,
-        kmax: kmax,
-        last: last,
+        fmax,
+        kmax,
+        last,
     }
 }
 
@@ -238,8 +238,8 @@ fn scan_rest(
     }
     Scan {
         viol: Violation::Nothing,
-        fmax: fmax,
-        kmax: kmax,
+        fmax,
+        kmax,
         last: rr.cur,
     }
 }
@@ -262,7 +262,7 @@ pub(crate) fn scan_rows(
     if all == 0 {
         return Scan {
             viol: Violation::Nothing,
-            fmax: fmax,
+            fmax,
             kmax: -1,
             last: start.cur,
         };

@@ -59,10 +59,7 @@ pub(crate) fn scan_lent(
 {
     let mut c = start;
     let scan = scan_cursor(n, table, x, &mut c, lower, upper);
-    Swept {
-        scan: scan,
-        cursor: c,
-    }
+    Swept { scan, cursor: c }
 }
 
 // Refusals 1 to 4 in their order, by what was found of n, the lengths, the bands and the cursors.
@@ -110,7 +107,7 @@ pub fn scan_by_value(
             let cursor = swept.cursor;
             ScanEnd {
                 answer: ScanAnswer::Scanned(scan),
-                cursor: cursor,
+                cursor,
             }
         }
         Fault::At(why, _) => ScanEnd {
