@@ -59,7 +59,13 @@ pub(crate) fn scan_lent(
 {
     let mut c = start;
     let scan = scan_cursor(n, table, x, &mut c, lower, upper);
-    Swept { scan, cursor: c }
+    // number by number: a copy of the whole would wait for the one that was stored last
+    let cursor = RoundRobin {
+        cur: c.cur,
+        lo: c.lo,
+        hi: c.hi,
+    };
+    Swept { scan, cursor }
 }
 
 // Refusals 1 to 4 in their order, by what was found of n, the lengths, the bands and the cursors.
