@@ -77,7 +77,7 @@ use Rattle.drivers.specs.declared.answer.AnswerRead.{AnswerRead}
 use Rattle.drivers.specs.declared.answer.AnswerRead.the-variants.{Refused as NoAnswer}
 use Rattle.drivers.specs.declared.answer.Answer.{Answer}
 use Rattle.drivers.specs.declared.belongs.Belonging.{Belonging}
-use Rattle.drivers.specs.laws.Untouched.{is-improved, untouched}
+use Rattle.oracles.specs.laws.Untouched.{is-improved, untouched}
 use Rattle.oracles.specs.laws.OracleAfter.{is-refusal, optim-left}
 use Rattle.oracles.specs.declared.lowpass_oracle.AssessedOptim.{AssessedOptim}
 

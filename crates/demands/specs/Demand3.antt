@@ -1,5 +1,5 @@
 -- Demand 3, the cursor rule, clause by clause, of `assess_feas` and of `assess_optim`. Assumes nothing.
-use Prim.Native.Nat.{ℕ, _≤_, _<_, _-_}
+use Prim.Native.Nat.{ℕ, _≤_, _<_}
 use mathlib.Core.Path.{_≡_, refl, sym, _∙_}
 use mathlib.Core.Bool.{Bool, true, false, _&&_, _||_, true≢false}
 use mathlib.Core.List.{List}
@@ -8,11 +8,11 @@ use lib.Dec.{leb, ltb}
 use lib.ListN.{getD}
 use lib.Ieee.{Float, nan, inf, fin, isNan, lt, eq}
 use Rattle.numbers.specs.F64.{0ᶠ}
-use Rattle.numbers.specs.Pick.{pick, some}
-use Rattle.numbers.specs.laws.Pick.{and-parts, is-hit, is-skip}
+use Rattle.numbers.specs.Pick.{pick}
+use Rattle.numbers.specs.laws.Pick.{and-parts}
 use Rattle.oracles.specs.LowpassOracle.{offered, assess-feas-answer, assess-optim-answer}
-use Rattle.oracles.specs.Verdict.{Judgement, feasible, pass, stop, middle, sign, refused, Question, pass-end, stop-start, value-in, pass-breaks, stop-breaks, middle-breaks, sign-breaks, judge, Unbroken, no-stop-value, asked, limits, is-accepted, judgement, side-breaks, cut-breaks, Has, Peak, as-feas, is-six, is-feasible}
-use Rattle.oracles.specs.laws.Judge.{judge-pass, judge-stop, judge-middle, judge-sign, judge-feasible, unbroken-feasible}
+use Rattle.oracles.specs.Verdict.{Judgement, feasible, pass, stop, middle, sign, refused, Question, pass-end, stop-start, value-in, pass-breaks, stop-breaks, middle-breaks, sign-breaks, pass-broken, stop-broken, middle-broken, judge, Unbroken, no-stop-value, asked, limits, is-accepted, judgement, side-breaks, cut-breaks, Has, Peak, as-feas, is-six, is-feasible}
+use Rattle.oracles.specs.laws.Judge.{judge-pass, judge-stop, judge-middle, judge-sign, judge-none, judge-feasible, unbroken-feasible}
 use Rattle.oracles.specs.laws.CursorRule.{feas-rule, optim-rule}
 use Rattle.oracles.specs.laws.TwoOracles.{same-verdict, same-peak, same-optim, same-optim-peak}
 use Rattle.oracles.specs.declared.lowpass_oracle.LowpassOracle.{LowpassOracle}
@@ -21,16 +21,6 @@ use Rattle.oracles.specs.declared.lowpass_oracle.Verdict.the-variants.{Feasible
 use Rattle.oracles.specs.declared.lowpass_oracle.Group.the-variants.{Pass, Stop, Middle, Sign}
 
 -- ---- the words
-
--- some row of a group breaks it
-abbrev pub pass-broken : Question → Bool
-pass-broken q = some (pass-breaks q) 0 (pass-end q)
-
-abbrev pub stop-broken : Question → Bool
-stop-broken q = some (stop-breaks q) (stop-start q) (q .rows - stop-start q)
-
-abbrev pub middle-broken : Question → Bool
-middle-broken q = some (middle-breaks q) (pass-end q) (stop-start q - pass-end q)
 
 -- "the first broken group, in that order"
 abbrev pub First : Question → Judgement → Type 0
@@ -80,9 +70,9 @@ judge-first q = go (pass-broken q) refl (stop-broken q) refl (middle-broken q) r
     go true e₁ b e₂ c e₃ d e₄ = by pass (judge-pass q e₁) e₁
     go false e₁ true e₂ c e₃ d e₄ = by stop (judge-stop q e₁ e₂) (e₁, e₂)
     go false e₁ false e₂ true e₃ d e₄ = by middle (judge-middle q e₁ e₂ e₃) (e₁, e₂, e₃)
-    go false e₁ false e₂ false e₃ true e₄ = by sign (judge-sign q true e₁ e₂ e₃ e₄ ∙ is-hit true sign feasible refl) (e₁, e₂, e₃, e₄)
+    go false e₁ false e₂ false e₃ true e₄ = by sign (judge-sign q e₁ e₂ e₃ e₄) (e₁, e₂, e₃, e₄)
     go false e₁ false e₂ false e₃ false e₄ =
-        let e = judge-sign q false e₁ e₂ e₃ e₄ ∙ is-skip false sign feasible refl in
+        let e = judge-none q e₁ e₂ e₃ e₄ in
         by feasible e (judge-feasible q e)
 
 -- a side that is broken breaks the limits

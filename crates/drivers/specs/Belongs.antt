@@ -7,7 +7,7 @@ use lib.Ieee.{Float}
 use Rattle.numbers.specs.Pick.{pick}
 use Rattle.numbers.specs.Refusal.{unless}
 use Rattle.numbers.specs.declared.refusal.Fault.{Fault}
-use Rattle.oracles.specs.Scan.{table-fits}
+use Rattle.oracles.specs.Table.{table-fits}
 use Rattle.oracles.specs.LowpassOracle.{oracle-tests, assess-feas-answer}
 use Rattle.oracles.specs.Verdict.{asked, judge, is-feasible}
 use Rattle.drivers.specs.Job.{job-oracle}

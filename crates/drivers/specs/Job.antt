@@ -10,7 +10,8 @@ use Rattle.numbers.specs.Pick.{pick}
 use Rattle.numbers.specs.Bits.{float-of, word-at}
 use Rattle.numbers.specs.declared.refusal.Refusal.the-variants.{Band, Cursor, Room}
 use Rattle.numbers.specs.Refusal.{_⨾_, unless, ask-at, ask}
-use Rattle.oracles.specs.Scan.{none, is-rows}
+use Rattle.oracles.specs.Scan.{none}
+use Rattle.oracles.specs.Table.{is-rows}
 use Rattle.oracles.specs.LowpassOracle.{start-oracle, bands-fit, cursors-fit}
 use Rattle.oracles.specs.declared.lowpass_oracle.LowpassOracle.{LowpassOracle}
 use Rattle.drivers.specs.Record.{start-of, half-at, number-at, numbers-at, fields-of, no-places, place, record-fault, size-fault, lengths-fault, row-count, rows-of, fronted}

@@ -5,7 +5,6 @@ pub mod Job
 pub mod Belongs
 pub mod Text
 pub mod StepSound
-pub mod Untouched
 pub mod OptimSound
 pub mod Trace
 pub mod Calls

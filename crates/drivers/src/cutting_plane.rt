@@ -4,7 +4,7 @@ use numbers::cut::CutStatus;
 use numbers::refusal::Fault;
 use numbers::refusal::Refusal;
 use oracles::lowpass_oracle::LowpassOracle;
-use oracles::scan::table_fits;
+use oracles::table::table_fits;
 ghost use mathlib.Core.Path.{_≡_};
 ghost use Rattle.numbers.specs.Refusal.{_⨾_};
 ghost use Rattle.drivers.specs.CuttingPlane.{default-options, check-of, room-test, kept, proceeds};

@@ -27,7 +27,7 @@ use numbers::refusal::Fault;
 use numbers::refusal::Refusal;
 use numbers::refusal::is_fault;
 use oracles::lowpass_oracle::LowpassOracle;
-use oracles::scan::is_rows;
+use oracles::table::is_rows;
 ghost use mathlib.Core.Path.{_≡_};
 ghost use Prim.Native.Nat.{_*_, _+_, _≤_, _<_};
 ghost use lib.ListN.{length};

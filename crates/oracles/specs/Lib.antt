@@ -1,5 +1,6 @@
 -- Definitions, which a reader has to believe.
 pub mod RoundRobin
+pub mod Table
 pub mod Scan
 pub mod LowpassOracle
 pub mod Verdict

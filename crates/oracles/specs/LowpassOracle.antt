@@ -9,14 +9,15 @@ use lib.Signed.{leZ, ltZ}
 use lib.Ieee.{Float, nan, lt, neg, binary64, ofBits}
 use Rattle.numbers.specs.F64.{0ᶠ}
 use Rattle.numbers.specs.Pick.{pick}
-use Rattle.numbers.specs.Refusal.{_⨾_, unless, ask}
-use Rattle.numbers.specs.Arr.{row-of, sized}
+use Rattle.numbers.specs.Refusal.{unless}
+use Rattle.numbers.specs.Arr.{is-dimension, row-of}
 use Rattle.numbers.specs.declared.refusal.Refusal.{Refusal}
-use Rattle.numbers.specs.declared.refusal.Refusal.the-variants.{Band, Cursor, NoStopValue}
+use Rattle.numbers.specs.declared.refusal.Refusal.the-variants.{NoStopValue}
 use Rattle.numbers.specs.declared.refusal.Fault.{Fault}
 use Rattle.numbers.specs.declared.cut.CutChoice.the-variants.{Single, Parallel}
-use Rattle.oracles.specs.RoundRobin.{is-at, eqZ, moved, new-range-answer}
-use Rattle.oracles.specs.Scan.{−∞, none, is-rows, table-fits, scan-of, violated, band-beta, band-gradient}
+use Rattle.oracles.specs.RoundRobin.{is-at, eqZ, with-cur, new-range-answer}
+use Rattle.oracles.specs.Scan.{−∞, none, scan-of, first-fault, violated, band-beta, band-gradient}
+use Rattle.oracles.specs.Table.{is-rows, table-fits}
 use Rattle.oracles.specs.declared.round_robin.RoundRobin.{RoundRobin}
 use Rattle.oracles.specs.declared.round_robin.CursorAnswer.{CursorAnswer}
 use Rattle.oracles.specs.declared.round_robin.CursorAnswer.the-variants.{Accepted as Fresh, Refused as NoBand}
@@ -75,62 +76,36 @@ start-oracle nwpass nwstop mdim cur1 cur2 cur3 lp-sq up-sq sp-sq = record {
 
 -- ---- the assessment of a point, with `grad` as it is left
 
--- after the pass scan: more_alt is set, and idx1 takes cur
-abbrev pub after-pass : LowpassOracle → ℤ → RoundRobin → LowpassOracle
-after-pass o last rr = record {
-  «more_alt» = true;
-  idx1 = last;
+-- the oracle with another state; its bands, lp_sq and up_sq stay
+abbrev pub with-state : LowpassOracle → Bool → Float → ℤ → ℤ → ℤ → Float → ℤ → RoundRobin → RoundRobin → RoundRobin → LowpassOracle
+with-state o more-alt sp-sq idx1 idx2 idx3 fmax kmax rr1 rr2 rr3 = record {
+  «more_alt» = more-alt;
+  idx1 = idx1;
   nwpass = o .nwpass;
   nwstop = o .nwstop;
   «lp_sq» = o .«lp_sq»;
   «up_sq» = o .«up_sq»;
-  «sp_sq» = o .«sp_sq»;
-  idx2 = o .idx2;
-  idx3 = o .idx3;
-  fmax = o .fmax;
-  kmax = o .kmax;
-  rr1 = rr;
-  rr2 = o .rr2;
-  rr3 = o .rr3;
+  «sp_sq» = sp-sq;
+  idx2 = idx2;
+  idx3 = idx3;
+  fmax = fmax;
+  kmax = kmax;
+  rr1 = rr1;
+  rr2 = rr2;
+  rr3 = rr3;
 }
+
+-- after the pass scan: more_alt is set, and idx1 takes cur
+abbrev pub after-pass : LowpassOracle → ℤ → RoundRobin → LowpassOracle
+after-pass o last rr = with-state o true (o .«sp_sq») last (o .idx2) (o .idx3) (o .fmax) (o .kmax) rr (o .rr2) (o .rr3)
 
 -- after the stop scan
 abbrev pub after-stop : LowpassOracle → ℤ → RoundRobin → Float → ℤ → LowpassOracle
-after-stop o last rr fmax kmax = record {
-  «more_alt» = o .«more_alt»;
-  idx1 = o .idx1;
-  nwpass = o .nwpass;
-  nwstop = o .nwstop;
-  «lp_sq» = o .«lp_sq»;
-  «up_sq» = o .«up_sq»;
-  «sp_sq» = o .«sp_sq»;
-  idx2 = o .idx2;
-  idx3 = last;
-  fmax = fmax;
-  kmax = kmax;
-  rr1 = o .rr1;
-  rr2 = o .rr2;
-  rr3 = rr;
-}
+after-stop o last rr fmax kmax = with-state o (o .«more_alt») (o .«sp_sq») (o .idx1) (o .idx2) last fmax kmax (o .rr1) (o .rr2) rr
 
 -- after the middle scan
 abbrev pub after-middle : LowpassOracle → ℤ → RoundRobin → Bool → LowpassOracle
-after-middle o last rr more-alt = record {
-  «more_alt» = more-alt;
-  idx1 = o .idx1;
-  nwpass = o .nwpass;
-  nwstop = o .nwstop;
-  «lp_sq» = o .«lp_sq»;
-  «up_sq» = o .«up_sq»;
-  «sp_sq» = o .«sp_sq»;
-  idx2 = last;
-  idx3 = o .idx3;
-  fmax = o .fmax;
-  kmax = o .kmax;
-  rr1 = o .rr1;
-  rr2 = rr;
-  rr3 = o .rr3;
-}
+after-middle o last rr more-alt = with-state o more-alt (o .«sp_sq») (o .idx1) last (o .idx3) (o .fmax) (o .kmax) (o .rr1) rr (o .rr3)
 
 -- the last test: x[0] below zero, with the gradient −1, 0, .. 0
 unfoldable pub assess-sign : LowpassOracle → List Float → List Float → Assessed × List Float
@@ -143,7 +118,7 @@ assess-sign o x grad =
 unfoldable pub assess-middle : LowpassOracle → ℕ → List Float → List Float → List Float → Assessed × List Float
 assess-middle o n table x grad =
     let s = scan-of n table x (o .rr2) 0ᶠ Absent in
-    let rr = moved (o .rr2) (s .last) in
+    let rr = with-cur (o .rr2) (s .last) in
     violated (s .viol) (assess-sign (after-middle o (s .last) rr false) x grad)
     (λ row v over. (record { oracle = after-middle o (s .last) rr (o .«more_alt»); verdict = Cut (Middle row) (band-beta v over 0ᶠ Absent) }, band-gradient n table row over))
 
@@ -151,7 +126,7 @@ assess-middle o n table x grad =
 unfoldable pub assess-stop : LowpassOracle → ℕ → List Float → List Float → List Float → Assessed × List Float
 assess-stop o n table x grad =
     let s = scan-of n table x (o .rr3) 0ᶠ (Limit (o .«sp_sq»)) in
-    let rr = moved (o .rr3) (s .last) in
+    let rr = with-cur (o .rr3) (s .last) in
     violated (s .viol) (assess-middle (after-stop o (s .last) rr (s .fmax) (s .kmax)) n table x grad)
     (λ row v over. (record { oracle = after-stop o (s .last) rr −∞ none; verdict = Cut (Stop row over) (band-beta v over 0ᶠ (Limit (o .«sp_sq»))) }, band-gradient n table row over))
 
@@ -159,7 +134,7 @@ assess-stop o n table x grad =
 unfoldable pub assess-of : LowpassOracle → ℕ → List Float → List Float → List Float → Assessed × List Float
 assess-of o n table x grad =
     let s = scan-of n table x (o .rr1) (o .«lp_sq») (Limit (o .«up_sq»)) in
-    let o′ = after-pass o (s .last) (moved (o .rr1) (s .last)) in
+    let o′ = after-pass o (s .last) (with-cur (o .rr1) (s .last)) in
     violated (s .viol) (assess-stop o′ n table x grad)
     (λ row v over. (record { oracle = o′; verdict = Cut (Pass row over) (band-beta v over (o .«lp_sq») (Limit (o .«up_sq»))) }, band-gradient n table row over))
 
@@ -185,7 +160,7 @@ refused-of o why = record { oracle = o; verdict = Refused why }
 
 -- refusals 1 to 4 of a call with an oracle, whose lengths are right where `fit` is true
 abbrev pub oracle-tests : LowpassOracle → ℕ → ℕ → Bool → Fault
-oracle-tests o n rows fit = sized n fit ⨾ ask (bands-fit o rows) Band ⨾ ask (cursors-fit o) Cursor
+oracle-tests o n rows fit = first-fault (is-dimension n) fit (bands-fit o rows) (cursors-fit o)
 
 -- `assess_feas`
 abbrev pub assess-tests : LowpassOracle → ℕ → ℕ → List Float → List Float → List Float → Fault
@@ -196,22 +171,7 @@ assess-feas-answer o n rows table x grad = unless (assess-tests o n rows table x
 
 -- the oracle with the offered sp_sq
 abbrev pub offered : LowpassOracle → Float → LowpassOracle
-offered o gamma = record {
-  «more_alt» = o .«more_alt»;
-  idx1 = o .idx1;
-  nwpass = o .nwpass;
-  nwstop = o .nwstop;
-  «lp_sq» = o .«lp_sq»;
-  «up_sq» = o .«up_sq»;
-  «sp_sq» = gamma;
-  idx2 = o .idx2;
-  idx3 = o .idx3;
-  fmax = o .fmax;
-  kmax = o .kmax;
-  rr1 = o .rr1;
-  rr2 = o .rr2;
-  rr3 = o .rr3;
-}
+offered o gamma = with-state o (o .«more_alt») gamma (o .idx1) (o .idx2) (o .idx3) (o .fmax) (o .kmax) (o .rr1) (o .rr2) (o .rr3)
 
 -- a feasible point's answer: the kmax row cuts with (0, fmax) and the caller's number is fmax; refusal 6, and the oracle as it came, where no stop row compares
 unfoldable pub improved-of : LowpassOracle → Float → LowpassOracle → ℕ → List Float → List Float → AssessedOptim × List Float

@@ -26,13 +26,13 @@ eqZ (pos a) (negsuc b) = false
 eqZ (negsuc a) (pos b) = false
 eqZ (negsuc a) (negsuc b) = eqb a b
 
--- the cursor moved to z
-abbrev pub moved : RoundRobin → ℤ → RoundRobin
-moved c z = record { cur = z; lo = c .lo; hi = c .hi }
+-- the cursor at row z
+abbrev pub with-cur : RoundRobin → ℤ → RoundRobin
+with-cur c z = record { cur = z; lo = c .lo; hi = c .hi }
 
 -- one on, and hi turns into lo
 unfoldable pub advanced : RoundRobin → RoundRobin
-advanced c = moved c (pick (eqZ (c .cur +ℤ pos 1) (c .hi)) (c .lo) (c .cur +ℤ pos 1))
+advanced c = with-cur c (pick (eqZ (c .cur +ℤ pos 1) (c .hi)) (c .lo) (c .cur +ℤ pos 1))
 
 -- a fresh cursor stands just before its band
 abbrev pub fresh : ℤ → ℤ → RoundRobin

@@ -1,21 +1,20 @@
 -- A scan of a band of rows (`scan_band` of lowpass_oracle.rs), in the Rust's order. Definitions only.
-use Prim.Native.Nat.{ℕ, zero, suc, _*_}
+use Prim.Native.Nat.{ℕ, zero, suc}
 use mathlib.Core.Bool.{Bool, true, false, _&&_}
 use mathlib.Core.List.{List, map}
-use lib.Dec.{leb, eqb}
-use lib.ListN.{length}
 use lib.IntN.{ℤ, pos, negsuc, natAbs, _-ℤ_}
 use lib.Signed.{leZ}
 use lib.Ieee.{Float, inf, lt, neg}
 use Rattle.numbers.specs.F64.{_⊖_}
 use Rattle.numbers.specs.Pick.{pick}
 use Rattle.numbers.specs.Refusal.{_⨾_, unless, ask}
-use Rattle.numbers.specs.Arr.{sized, dot-of, row-of}
-use Rattle.numbers.specs.declared.refusal.Refusal.the-variants.{Band, Cursor}
+use Rattle.numbers.specs.Arr.{is-dimension, row-of}
+use Rattle.numbers.specs.declared.refusal.Refusal.the-variants.{Dimension, Length, Band, Cursor}
 use Rattle.numbers.specs.declared.refusal.Fault.{Fault}
 use Rattle.numbers.specs.declared.cut.CutChoice.{CutChoice}
 use Rattle.numbers.specs.declared.cut.CutChoice.the-variants.{Single, Parallel}
-use Rattle.oracles.specs.RoundRobin.{is-band, is-at, moved, advanced}
+use Rattle.oracles.specs.Table.{is-rows, table-fits, value-of}
+use Rattle.oracles.specs.RoundRobin.{is-band, is-at, with-cur, advanced}
 use Rattle.oracles.specs.declared.round_robin.RoundRobin.{RoundRobin}
 use Rattle.oracles.specs.declared.scan.Upper.{Upper}
 use Rattle.oracles.specs.declared.scan.Upper.the-variants.{Absent, Limit}
@@ -33,10 +32,6 @@ abbrev pub none : ℤ
 none = negsuc 0
 
 -- ---- a scan
-
--- row i's value: its `dot` with the point
-unfoldable pub value-of : ℕ → List Float → List Float → ℕ → Float
-value-of n table x i = dot-of (row-of n table i) x
 
 -- whether v lies above an upper limit, if there is one
 abbrev pub is-over : Upper → Float → Bool
@@ -58,26 +53,22 @@ scan-from n table x lower upper (suc left) c fmax kmax =
 unfoldable pub scan-of : ℕ → List Float → List Float → RoundRobin → Float → Upper → Scan
 scan-of n table x c lower upper = scan-from n table x lower upper (natAbs (c .hi -ℤ c .lo)) c −∞ none
 
--- a table has 1 to 1,024 rows
-abbrev pub is-rows : ℕ → Bool
-is-rows rows = leb 1 rows && leb rows 1024
-
--- the lengths that n and the row count say
-abbrev pub table-fits : ℕ → ℕ → List Float → List Float → Bool
-table-fits n rows table x = eqb (length table) (rows * n) && eqb (length x) n
-
 -- lo and hi are a band of a table of so many rows
 abbrev pub band-fits : ℕ → ℤ → ℤ → Bool
 band-fits rows lo hi = is-rows rows && (is-band lo hi && leZ hi (pos rows))
 
+-- refusals 1 to 4 in their order, by what was found of n, the lengths, the bands and the cursors
+abbrev pub first-fault : Bool → Bool → Bool → Bool → Fault
+first-fault dimension lengths bands cursors = (ask dimension Dimension ⨾ ask lengths Length) ⨾ ask bands Band ⨾ ask cursors Cursor
+
 -- `scan_band`: refusals 1, 2, 3 (row count, band, band within the rows) and 4; the answer, and the cursor as it is left
 abbrev pub scan-band-tests : ℕ → ℕ → List Float → List Float → RoundRobin → Fault
-scan-band-tests n rows table x c = sized n (table-fits n rows table x) ⨾ ask (band-fits rows (c .lo) (c .hi)) Band ⨾ ask (is-at c) Cursor
+scan-band-tests n rows table x c = first-fault (is-dimension n) (table-fits n rows table x) (band-fits rows (c .lo) (c .hi)) (is-at c)
 
 unfoldable pub scan-band-answer : ℕ → ℕ → List Float → List Float → RoundRobin → Float → Upper → ScanAnswer × RoundRobin
 scan-band-answer n rows table x c lower upper =
     let s = scan-of n table x c lower upper in
-    unless (scan-band-tests n rows table x c) (λ why place. (NotScanned why, c)) (Scanned s, moved c (s .last))
+    unless (scan-band-tests n rows table x c) (λ why place. (NotScanned why, c)) (Scanned s, with-cur c (s .last))
 
 -- ---- what a violation becomes
 

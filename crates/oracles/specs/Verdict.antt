@@ -12,7 +12,8 @@ use Rattle.numbers.specs.F64.{0ᶠ}
 use Rattle.numbers.specs.Pick.{pick, some}
 use Rattle.numbers.specs.Refusal.{refusal-number, is-fault}
 use Rattle.oracles.specs.RoundRobin.{eqZ}
-use Rattle.oracles.specs.Scan.{−∞, none, value-of}
+use Rattle.oracles.specs.Scan.{−∞, none}
+use Rattle.oracles.specs.Table.{value-of}
 use Rattle.oracles.specs.LowpassOracle.{assess-tests, offered}
 use Rattle.oracles.specs.declared.lowpass_oracle.LowpassOracle.{LowpassOracle}
 use Rattle.oracles.specs.declared.lowpass_oracle.Group.the-variants.{Pass, Stop, Middle, Sign}
@@ -79,13 +80,27 @@ middle-breaks q i = lt (value-in q i) 0ᶠ
 abbrev pub sign-breaks : Question → Bool
 sign-breaks q = lt (getD (q .x) 0 nan) 0ᶠ
 
--- the first broken of pass, stop, middle and sign
+-- a group is broken where one of its rows breaks it
+abbrev pub pass-broken : Question → Bool
+pass-broken q = some (pass-breaks q) 0 (pass-end q)
+
+abbrev pub stop-broken : Question → Bool
+stop-broken q = some (stop-breaks q) (stop-start q) (q .rows - stop-start q)
+
+abbrev pub middle-broken : Question → Bool
+middle-broken q = some (middle-breaks q) (pass-end q) (stop-start q - pass-end q)
+
+-- the first of pass, stop, middle and sign that is broken
+unfoldable pub first-broken : Bool → Bool → Bool → Bool → Judgement
+first-broken true s m g = pass
+first-broken false true m g = stop
+first-broken false false true g = middle
+first-broken false false false true = sign
+first-broken false false false false = feasible
+
+-- the verdict on a point
 unfoldable pub judge : Question → Judgement
-judge q =
-    pick (some (pass-breaks q) 0 (pass-end q)) pass
-    (pick (some (stop-breaks q) (stop-start q) (q .rows - stop-start q)) stop
-    (pick (some (middle-breaks q) (pass-end q) (stop-start q - pass-end q)) middle
-    (pick (sign-breaks q) sign feasible)))
+judge q = first-broken (pass-broken q) (stop-broken q) (middle-broken q) (sign-breaks q)
 
 -- no row breaks and the sign holds: what feasible means, said of each row
 pub record Unbroken (q : Question) : Type 0 where
@@ -166,6 +181,10 @@ pub record FeasRule (q : Question) (r : Assessed) : Type 0 where
   pub cut-at : cut-stands (r .oracle) (r .verdict) ≡ true
   pub peak : judge q ≡ feasible → Peak q (r .oracle .fmax) (r .oracle .kmax)
 
+-- demand 3 of a call of `assess_feas`: an accepted one answers by the rule, for the sp_sq stored
+abbrev pub ByFeasRule : LowpassOracle → ℕ → ℕ → List Float → List Float → List Float → Assessed → Type 0
+ByFeasRule o n rows table x grad r = is-accepted o n rows table x grad ≡ true → FeasRule (asked o (o .«sp_sq») n rows table x) r
+
 -- an answer of `assess_optim` as one of `assess_feas`: refusal 6 counts as feasible
 abbrev pub as-feas : OptimVerdict → Verdict
 as-feas (Improved beta) = Feasible
@@ -196,3 +215,7 @@ pub record OptimRule (q : Question) (r : AssessedOptim) : Type 0 where
   pub six-is : is-six (r .verdict) ≡ (is-feasible (judge q) && no-stop-value q)
   pub peak : is-six (r .verdict) ≡ false → judge q ≡ feasible → Has q (r .oracle .fmax) (r .oracle .kmax)
   pub offer : is-six (r .verdict) ≡ false → judge q ≡ feasible → r .gamma ≡ r .oracle .fmax
+
+-- demand 3 of a call of `assess_optim`: an accepted one answers by the rule, for the sp_sq offered
+abbrev pub ByOptimRule : LowpassOracle → Float → ℕ → ℕ → List Float → List Float → List Float → AssessedOptim → Type 0
+ByOptimRule o gamma n rows table x grad r = is-accepted o n rows table x grad ≡ true → OptimRule (asked o gamma n rows table x) r

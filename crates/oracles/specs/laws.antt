@@ -1,5 +1,6 @@
 pub mod RoundRobin
 pub mod FloatOrder
+pub mod ScanRows
 pub mod Scan
 pub mod ScanRun
 pub mod Assess
@@ -8,6 +9,7 @@ pub mod Judge
 pub mod CursorRule
 pub mod TwoOracles
 pub mod OracleAfter
+pub mod Untouched
 pub mod Known
 pub mod Smallest
 pub mod Matrix

@@ -1,4 +1,6 @@
 // The second layer: oracles and ellipsoids. Names and order of operations are those of the Rust in docs/src.
+pub mod assess;
+pub mod band_cut;
 pub mod ell;
 pub mod ell_common;
 pub mod ell_stable;
@@ -8,3 +10,5 @@ pub mod lowpass_oracle;
 pub mod numbered;
 pub mod round_robin;
 pub mod scan;
+pub mod scan_band;
+pub mod table;

@@ -1,29 +1,23 @@
-// The lowpass oracle (lowpass_oracle.rs): what a point breaks, and the cut that follows.
+// The lowpass oracle (lowpass_oracle.rs): its state, its start, and its two assessments of a point.
+use crate::band_cut::gradient_into;
 use crate::round_robin::CursorAnswer;
 use crate::round_robin::RoundRobin;
-use crate::scan::Scan;
-use crate::scan::Upper;
-use crate::scan::Violation;
-use crate::scan::is_rows;
-use crate::scan::scan_ready;
-use crate::scan::table_fits;
-use numbers::arr::copy_from;
-use numbers::arr::fill_zero;
+use crate::scan_band::first_fault;
+use crate::table::is_rows;
+use crate::table::table_fits;
 use numbers::arr::is_dimension;
 use numbers::cut::CutChoice;
+use numbers::refusal::Fault;
 use numbers::refusal::Refusal;
 ghost use mathlib.Core.Path.{_≡_};
-ghost use mathlib.Core.List.{map};
-ghost use Prim.Native.Nat.{_+_, _*_, _≤_, _<_};
-ghost use lib.Ieee.{neg};
+ghost use mathlib.Core.Bool.{false};
+ghost use Prim.Native.Nat.{_+_, _*_, _≤_};
 ghost use lib.ListN.{length};
-ghost use Rattle.oracles.specs.Scan.{band-beta, band-gradient};
 ghost use lib.IntN.{pos, natAbs};
 ghost use lib.Signed.{ltZ};
-ghost use mathlib.Core.Bool.{true, false};
-ghost use Rattle.oracles.specs.Verdict.{is-accepted, asked, FeasRule, OptimRule};
-ghost use Rattle.oracles.specs.LowpassOracle.{fresh-cur, start-oracle, bands-fit, cursors-fit, has-band, group-number, group-side, after-pass, after-stop, after-middle, offered, improved-of, refused-of, assess-sign, assess-middle, assess-stop, assess-of, assess-feas-answer, assess-optim-answer};
-ghost use Rattle.oracles.specs.laws.Scan.{Scannable};
+ghost use Rattle.oracles.specs.Verdict.{ByFeasRule, ByOptimRule};
+ghost use Rattle.oracles.specs.LowpassOracle.{fresh-cur, start-oracle, bands-fit, cursors-fit, has-band, group-number, group-side};
+ghost use Rattle.oracles.specs.LowpassOracle.{offered, improved-of, assess-feas-answer, assess-optim-answer};
 
 // The state of an oracle over a row table that the caller lends: pass rows are 0 to nwpass − 1, middle rows reach nwstop − 1, stop rows the end.
 pub struct LowpassOracle {
@@ -104,47 +98,6 @@ pub struct AssessedOptim {
     pub verdict: OptimVerdict,
 }
 
-// The gradient of a row below its lower limit.
-fn negate_into(row: &[f64], grad: &mut [f64])
-    requires { ⌜ length (now grad) ≡ length (now row) ⌝ }
-    ensures { λ _. ⌜ now (grad .exit) ≡ map neg (now (row .entry)) ⌝ }
-{
-    let mut i = 0;
-    while i < row.len() {
-        grad[i] = -row[i];
-        i += 1;
-    }
-}
-
-// The gradient of a row's cut.
-fn gradient_into(n: usize, table: &[f64], row: usize, is_over: bool, grad: &mut [f64])
-    requires { ⌜ (2 ≤ n) × (n ≤ 32) × (row * n + n ≤ length (now table)) × (length (now grad) ≡ n) ⌝ }
-    ensures { λ _. ⌜ now (grad .exit) ≡ band-gradient n (now (table .entry)) row «is_over» ⌝ }
-{
-    let at = row * n;
-    let end = at + n;
-    if is_over {
-        copy_from(n, grad, &table[at..end]);
-    } else {
-        negate_into(&table[at..end], grad);
-    }
-}
-
-// The betas of a row's cut (`band_cut`).
-fn band_beta(value: f64, is_over: bool, lower: f64, upper: Upper) -> CutChoice
-    ensures { λ r. ⌜ r ≡ band-beta value «is_over» lower upper ⌝ }
-{
-    match upper {
-        Upper::Absent => CutChoice::Single(lower - value),
-        Upper::Limit(u) => {
-            if is_over {
-                return CutChoice::Parallel(value - u, value - lower);
-            }
-            CutChoice::Parallel(lower - value, u - value)
-        }
-    }
-}
-
 // Whether the cursor's band is lo .. hi − 1.
 fn has_band(rr: RoundRobin, lo: i32, hi: i32) -> bool
     ensures { λ r. ⌜ r ≡ has-band rr lo hi ⌝ }
@@ -183,11 +136,11 @@ impl LowpassOracle {
         LowpassOracle {
             more_alt: true,
             idx1: fresh_cur(fresh1),
-            nwpass: nwpass,
-            nwstop: nwstop,
-            lp_sq: lp_sq,
-            up_sq: up_sq,
-            sp_sq: sp_sq,
+            nwpass,
+            nwstop,
+            lp_sq,
+            up_sq,
+            sp_sq,
             idx2: fresh_cur(fresh2),
             idx3: fresh_cur(fresh3),
             fmax: -1.0 / 0.0,
@@ -241,213 +194,12 @@ impl LowpassOracle {
         rr1.is_at() & rr2.is_at() & rr3.is_at()
     }
 
-    // The oracle after the pass scan.
-    fn after_pass(self, last: i32, rr: RoundRobin) -> LowpassOracle
-        ensures { λ r. ⌜ r ≡ after-pass self last rr ⌝ }
-    {
-        let rr2 = self.rr2;
-        let rr3 = self.rr3;
-        LowpassOracle {
-            more_alt: true,
-            idx1: last,
-            nwpass: self.nwpass,
-            nwstop: self.nwstop,
-            lp_sq: self.lp_sq,
-            up_sq: self.up_sq,
-            sp_sq: self.sp_sq,
-            idx2: self.idx2,
-            idx3: self.idx3,
-            fmax: self.fmax,
-            kmax: self.kmax,
-            rr1: rr,
-            rr2: rr2,
-            rr3: rr3,
-        }
-    }
-
-    // After the stop scan.
-    fn after_stop(self, last: i32, rr: RoundRobin, fmax: f64, kmax: i32) -> LowpassOracle
-        ensures { λ r. ⌜ r ≡ after-stop self last rr fmax kmax ⌝ }
-    {
-        let rr1 = self.rr1;
-        let rr2 = self.rr2;
-        LowpassOracle {
-            more_alt: self.more_alt,
-            idx1: self.idx1,
-            nwpass: self.nwpass,
-            nwstop: self.nwstop,
-            lp_sq: self.lp_sq,
-            up_sq: self.up_sq,
-            sp_sq: self.sp_sq,
-            idx2: self.idx2,
-            idx3: last,
-            fmax: fmax,
-            kmax: kmax,
-            rr1: rr1,
-            rr2: rr2,
-            rr3: rr,
-        }
-    }
-
-    // After the middle scan.
-    fn after_middle(self, last: i32, rr: RoundRobin, more_alt: bool) -> LowpassOracle
-        ensures { λ r. ⌜ r ≡ after-middle self last rr «more_alt» ⌝ }
-    {
-        let rr1 = self.rr1;
-        let rr3 = self.rr3;
-        LowpassOracle {
-            more_alt: more_alt,
-            idx1: self.idx1,
-            nwpass: self.nwpass,
-            nwstop: self.nwstop,
-            lp_sq: self.lp_sq,
-            up_sq: self.up_sq,
-            sp_sq: self.sp_sq,
-            idx2: last,
-            idx3: self.idx3,
-            fmax: self.fmax,
-            kmax: self.kmax,
-            rr1: rr1,
-            rr2: rr,
-            rr3: rr3,
-        }
-    }
-
     // With the offered sp_sq.
-    fn offered(self, gamma: f64) -> LowpassOracle
+    fn offered(mut self, gamma: f64) -> LowpassOracle
         ensures { λ r. ⌜ r ≡ offered self gamma ⌝ }
     {
-        let rr1 = self.rr1;
-        let rr2 = self.rr2;
-        let rr3 = self.rr3;
-        LowpassOracle {
-            more_alt: self.more_alt,
-            idx1: self.idx1,
-            nwpass: self.nwpass,
-            nwstop: self.nwstop,
-            lp_sq: self.lp_sq,
-            up_sq: self.up_sq,
-            sp_sq: gamma,
-            idx2: self.idx2,
-            idx3: self.idx3,
-            fmax: self.fmax,
-            kmax: self.kmax,
-            rr1: rr1,
-            rr2: rr2,
-            rr3: rr3,
-        }
-    }
-
-    // The last test: x[0] below zero.
-    fn assess_sign(self, x: &[f64], grad: &mut [f64]) -> Assessed
-        requires { ⌜ (0 < length (now x)) × (0 < length (now grad)) ⌝ }
-        ensures { λ r. ⌜ (r, now (grad .exit)) ≡ assess-sign self (now (x .entry)) (now (grad .entry)) ⌝ }
-    {
-        let x0 = x[0];
-        if x0 < 0.0 {
-            fill_zero(grad);
-            grad[0] = -1.0;
-            return Assessed {
-                oracle: self,
-                verdict: Verdict::Cut(Group::Sign, CutChoice::Single(-x0)),
-            };
-        }
-        Assessed {
-            oracle: self,
-            verdict: Verdict::Feasible,
-        }
-    }
-
-    // The middle rows, then the sign.
-    fn assess_middle(
-        self,
-        n: usize,
-        rows: usize,
-        table: &[f64],
-        x: &[f64],
-        grad: &mut [f64],
-    ) -> Assessed
-        requires { ⌜ Scannable n rows (now table) (now x) (self .rr2) × (length (now grad) ≡ n) ⌝ }
-        ensures { λ r. ⌜ (r, now (grad .exit)) ≡ assess-middle self n (now (table .entry)) (now (x .entry)) (now (grad .entry)) ⌝ }
-    {
-        let rr = self.rr2;
-        let swept = scan_ready(n, rows, table, x, rr, 0.0, Upper::Absent);
-        let scan = swept.scan;
-        let moved = swept.cursor;
-        let viol = scan.viol;
-        match viol {
-            Violation::Nothing => {
-                let after = self.after_middle(scan.last, moved, false);
-                after.assess_sign(x, grad)
-            }
-            Violation::Broken(row, value, is_over) => {
-                gradient_into(n, table, row, is_over, grad);
-                let beta = band_beta(value, is_over, 0.0, Upper::Absent);
-                Assessed {
-                    oracle: self.after_middle(scan.last, moved, self.more_alt),
-                    verdict: Verdict::Cut(Group::Middle(row), beta),
-                }
-            }
-        }
-    }
-
-    // The stop rows, then the rest.
-    fn assess_stop(
-        self,
-        n: usize,
-        rows: usize,
-        table: &[f64],
-        x: &[f64],
-        grad: &mut [f64],
-    ) -> Assessed
-        requires { ⌜ Scannable n rows (now table) (now x) (self .rr3) × Scannable n rows (now table) (now x) (self .rr2) × (length (now grad) ≡ n) ⌝ }
-        ensures { λ r. ⌜ (r, now (grad .exit)) ≡ assess-stop self n (now (table .entry)) (now (x .entry)) (now (grad .entry)) ⌝ }
-    {
-        let upper = Upper::Limit(self.sp_sq);
-        let rr = self.rr3;
-        let swept = scan_ready(n, rows, table, x, rr, 0.0, upper);
-        let scan = swept.scan;
-        let moved = swept.cursor;
-        let viol = scan.viol;
-        match viol {
-            Violation::Nothing => {
-                let after = self.after_stop(scan.last, moved, scan.fmax, scan.kmax);
-                after.assess_middle(n, rows, table, x, grad)
-            }
-            Violation::Broken(row, value, is_over) => {
-                gradient_into(n, table, row, is_over, grad);
-                let beta = band_beta(value, is_over, 0.0, upper);
-                Assessed {
-                    oracle: self.after_stop(scan.last, moved, -1.0 / 0.0, -1),
-                    verdict: Verdict::Cut(Group::Stop(row, is_over), beta),
-                }
-            }
-        }
-    }
-
-    fn assess(self, n: usize, rows: usize, table: &[f64], x: &[f64], grad: &mut [f64]) -> Assessed
-        requires { ⌜ Scannable n rows (now table) (now x) (self .rr1) × Scannable n rows (now table) (now x) (self .rr3) × Scannable n rows (now table) (now x) (self .rr2) × (length (now grad) ≡ n) ⌝ }
-        ensures { λ r. ⌜ (r, now (grad .exit)) ≡ assess-of self n (now (table .entry)) (now (x .entry)) (now (grad .entry)) ⌝ }
-    {
-        let lower = self.lp_sq;
-        let upper = Upper::Limit(self.up_sq);
-        let rr = self.rr1;
-        let swept = scan_ready(n, rows, table, x, rr, lower, upper);
-        let scan = swept.scan;
-        let moved = swept.cursor;
-        let after = self.after_pass(scan.last, moved);
-        let viol = scan.viol;
-        match viol {
-            Violation::Nothing => after.assess_stop(n, rows, table, x, grad),
-            Violation::Broken(row, value, is_over) => {
-                gradient_into(n, table, row, is_over, grad);
-                let beta = band_beta(value, is_over, lower, upper);
-                Assessed {
-                    oracle: after,
-                    verdict: Verdict::Cut(Group::Pass(row, is_over), beta),
-                }
-            }
-        }
+        self.sp_sq = gamma;
+        self
     }
 
     // Tries pass, stop and middle rows and then the sign of x[0]; on a break `grad` is the cut's gradient. The second `ensures` is demand 3: the verdict
@@ -461,30 +213,21 @@ impl LowpassOracle {
         grad: &mut [f64],
     ) -> Assessed
         ensures { λ r. ⌜ (r, now (grad .exit)) ≡ assess-feas-answer self n rows (now (table .entry)) (now (x .entry)) (now (grad .entry)) ⌝ }
-        ensures { λ r. ⌜ (is-accepted self n rows (now (table .entry)) (now (x .entry)) (now (grad .entry)) ≡ true → FeasRule (asked self (self .«sp_sq») n rows (now (table .entry)) (now (x .entry))) r) ⌝ }
+        ensures { λ r. ⌜ ByFeasRule self n rows (now (table .entry)) (now (x .entry)) (now (grad .entry)) r ⌝ }
     {
-        if !is_dimension(n) {
-            return self.refused(Refusal::Dimension);
-        }
-        if !(table_fits(n, rows, table.len(), x.len()) & (grad.len() == n)) {
-            return self.refused(Refusal::Length);
-        }
-        if !self.bands_fit(rows) {
-            return self.refused(Refusal::Band);
-        }
-        if !self.cursors_fit() {
-            return self.refused(Refusal::Cursor);
-        }
-        self.assess(n, rows, table, x, grad)
-    }
-
-    // The oracle as it came, with the reason.
-    fn refused(self, why: Refusal) -> Assessed
-        ensures { λ r. ⌜ r ≡ refused-of self why ⌝ }
-    {
-        Assessed {
-            oracle: self,
-            verdict: Verdict::Refused(why),
+        let lengths = table_fits(n, rows, table.len(), x.len()) & (grad.len() == n);
+        let fault = first_fault(
+            is_dimension(n),
+            lengths,
+            self.bands_fit(rows),
+            self.cursors_fit(),
+        );
+        match fault {
+            Fault::Sound => self.assess(n, table, x, grad),
+            Fault::At(why, _) => Assessed {
+                oracle: self,
+                verdict: Verdict::Refused(why),
+            },
         }
     }
 
@@ -499,7 +242,7 @@ impl LowpassOracle {
         grad: &mut [f64],
     ) -> AssessedOptim
         ensures { λ r. ⌜ (r, now (grad .exit)) ≡ assess-optim-answer self gamma n rows (now (table .entry)) (now (x .entry)) (now (grad .entry)) ⌝ }
-        ensures { λ r. ⌜ (is-accepted self n rows (now (table .entry)) (now (x .entry)) (now (grad .entry)) ≡ true → OptimRule (asked self gamma n rows (now (table .entry)) (now (x .entry))) r) ⌝ }
+        ensures { λ r. ⌜ ByOptimRule self gamma n rows (now (table .entry)) (now (x .entry)) (now (grad .entry)) r ⌝ }
     {
         let after = self.offered(gamma);
         let assessed = after.assess_feas(n, rows, table, x, grad);
@@ -508,13 +251,13 @@ impl LowpassOracle {
         match verdict {
             Verdict::Feasible => self.improved(gamma, oracle, n, table, grad),
             Verdict::Cut(group, beta) => AssessedOptim {
-                oracle: oracle,
-                gamma: gamma,
+                oracle,
+                gamma,
                 verdict: OptimVerdict::Cut(group, beta),
             },
             Verdict::Refused(why) => AssessedOptim {
                 oracle: self,
-                gamma: gamma,
+                gamma,
                 verdict: OptimVerdict::Refused(why),
             },
         }
@@ -535,7 +278,7 @@ impl LowpassOracle {
         if after.kmax < 0 {
             return AssessedOptim {
                 oracle: self,
-                gamma: gamma,
+                gamma,
                 verdict: OptimVerdict::Refused(Refusal::NoStopValue),
             };
         }

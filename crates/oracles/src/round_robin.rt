@@ -3,7 +3,7 @@ use numbers::refusal::Refusal;
 ghost use mathlib.Core.Path.{_≡_};
 ghost use Prim.Native.Nat.{_<_};
 ghost use lib.IntN.{pos};
-ghost use Rattle.oracles.specs.RoundRobin.{is-band, is-at, moved, advanced, new-range-answer, advance-answer};
+ghost use Rattle.oracles.specs.RoundRobin.{is-band, is-at, with-cur, advanced, new-range-answer, advance-answer};
 ghost use Rattle.oracles.specs.laws.RoundRobin.{Legal};
 
 // Row numbers of the band lo .. hi − 1, each in turn; cur is the last one given, lo − 1 at first.
@@ -42,8 +42,8 @@ impl RoundRobin {
         }
         CursorAnswer::Accepted(RoundRobin {
             cur: lo - 1,
-            lo: lo,
-            hi: hi,
+            lo,
+            hi,
         })
     }
 
@@ -55,11 +55,11 @@ impl RoundRobin {
     }
 
     // The cursor at another row.
-    pub(crate) fn moved(self, cur: i32) -> RoundRobin
-        ensures { λ r. ⌜ r ≡ moved self cur ⌝ }
+    pub(crate) fn with_cur(self, cur: i32) -> RoundRobin
+        ensures { λ r. ⌜ r ≡ with-cur self cur ⌝ }
     {
         RoundRobin {
-            cur: cur,
+            cur,
             lo: self.lo,
             hi: self.hi,
         }

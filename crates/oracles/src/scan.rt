@@ -1,26 +1,20 @@
-// `scan_band` of lowpass_oracle.rs: the rows of a band in turn, from where its cursor stands.
+// A scan: the rows of a band in turn, from where its cursor stands. The cursor is had by value.
 use crate::round_robin::RoundRobin;
-use crate::round_robin::is_band;
-use numbers::arr::Four;
-use numbers::arr::dot_four;
-use numbers::arr::dot_zip;
-use numbers::arr::is_dimension;
+use crate::table::four_values;
+use crate::table::row_value;
 use numbers::refusal::Refusal;
 ghost use mathlib.Core.Path.{_≡_};
 ghost use Prim.Native.Nat.{_+_, _*_, _≤_, _<_};
-ghost use lib.Dec.{T, eqb};
-ghost use mathlib.Core.Bool.{_&&_};
+ghost use lib.Dec.{T};
 ghost use mathlib.Core.Logic.{_⊎_};
 ghost use lib.IntN.{pos, natAbs};
 ghost use lib.Signed.{nonNeg};
 ghost use lib.ListN.{length};
-ghost use Rattle.oracles.specs.RoundRobin.{moved};
-ghost use Rattle.oracles.specs.declared.scan.ScanAnswer.the-variants.{Refused};
 ghost use Rattle.oracles.specs.declared.scan.Upper.the-variants.{Limit};
-ghost use Rattle.oracles.specs.laws.ScanRun.{limit-of, is-broken, four-values, judged-of, scan-run, Going};
-ghost use Rattle.oracles.specs.Scan.{value-of, is-rows, band-fits, scan-from, scan-of, scan-band-answer};
+ghost use Rattle.oracles.specs.laws.ScanRun.{limit-of, is-broken, judged-of, scan-run, RowsLeft};
+ghost use Rattle.oracles.specs.Scan.{scan-from, scan-of};
 ghost use Rattle.oracles.specs.laws.RoundRobin.{Legal};
-ghost use Rattle.oracles.specs.laws.Scan.{Ready, Scannable};
+ghost use Rattle.oracles.specs.laws.ScanRows.{Ready};
 
 // The upper limit of a band, where it has one.
 pub enum Upper {
@@ -57,36 +51,6 @@ pub struct ScanEnd {
 pub(crate) struct Swept {
     pub(crate) scan: Scan,
     pub(crate) cursor: RoundRobin,
-}
-
-// Whether a table can have so many rows.
-pub fn is_rows(rows: usize) -> bool
-    ensures { λ r. ⌜ r ≡ is-rows rows ⌝ }
-{
-    (1 <= rows) & (rows <= 1024)
-}
-
-// Whether the table has `rows` rows of n, and the point n numbers. By division where rows × n may be beyond the machine's numbers.
-pub fn table_fits(n: usize, rows: usize, table: usize, x: usize) -> bool
-    ensures { λ r. ⌜ r ≡ (eqb table (rows * n) && eqb x n) ⌝ }
-{
-    if (n <= 65536) & (rows <= 65536) {
-        return (table == rows * n) & (x == n);
-    }
-    if n == 0 {
-        return (table == 0) & (x == 0);
-    }
-    (table / n == rows) & (table % n == 0) & (x == n)
-}
-
-// Whether lo and hi are a band of a table of so many rows.
-fn band_fits(rows: usize, lo: i32, hi: i32) -> bool
-    ensures { λ r. ⌜ r ≡ band-fits rows lo hi ⌝ }
-{
-    if !is_rows(rows) {
-        return false;
-    }
-    is_band(lo, hi) & (hi <= rows as i32)
 }
 
 // The upper limit as a number: infinity, above which no value lies, where there is none.
@@ -132,29 +96,6 @@ fn row_at(rr: RoundRobin) -> usize
     rr.cur as usize
 }
 
-// Row i's value: the row is the part of the table that begins at i × n.
-fn row_value(n: usize, table: &[f64], x: &[f64], i: usize) -> f64
-    requires { ⌜ i * n + n ≤ length (now table) ⌝ }
-    ensures { λ r. ⌜ r ≡ value-of n (now (table .entry)) (now (x .entry)) i ⌝ }
-{
-    let at = i * n;
-    let end = at + n;
-    dot_zip(&table[at..end], x)
-}
-
-// The values of the four rows from row i on, each handed on as its part of the table.
-fn four_values(n: usize, table: &[f64], x: &[f64], i: usize) -> Four
-    requires { ⌜ i * n + 4 * n ≤ length (now table) ⌝ }
-    ensures { λ r. ⌜ r ≡ four-values n (now (table .entry)) (now (x .entry)) i ⌝ }
-{
-    let a = i * n;
-    let b = a + n;
-    let c = b + n;
-    let d = c + n;
-    let end = d + n;
-    dot_four(&table[a..b], &table[b..c], &table[c..d], &table[d..end], x)
-}
-
 // A row's value against the limits, and the largest value so far with this one.
 fn test_row(row: usize, value: f64, lower: f64, limit: f64, fmax: f64, kmax: i32) -> Scan
     requires { ⌜ row < 1024 ⌝ }
@@ -164,17 +105,17 @@ fn test_row(row: usize, value: f64, lower: f64, limit: f64, fmax: f64, kmax: i32
     if value > limit {
         return Scan {
             viol: Violation::Broken(row, value, true),
-            fmax: fmax,
-            kmax: kmax,
-            last: last,
+            fmax,
+            kmax,
+            last,
         };
     }
     if value < lower {
         return Scan {
             viol: Violation::Broken(row, value, false),
-            fmax: fmax,
-            kmax: kmax,
-            last: last,
+            fmax,
+            kmax,
+            last,
         };
     }
     if value > fmax {
@@ -182,14 +123,14 @@ fn test_row(row: usize, value: f64, lower: f64, limit: f64, fmax: f64, kmax: i32
             viol: Violation::Nothing,
             fmax: value,
             kmax: last,
-            last: last,
+            last,
         };
     }
     Scan {
         viol: Violation::Nothing,
-        fmax: fmax,
-        kmax: kmax,
-        last: last,
+        fmax,
+        kmax,
+        last,
     }
 }
 
@@ -274,7 +215,7 @@ fn scan_rest(
     peak: f64,
     peak_row: i32,
 ) -> Scan
-    requires { ⌜ Going n (now table) start count ⌝ }
+    requires { ⌜ RowsLeft n (now table) start count ⌝ }
     ensures { λ r. ⌜ r ≡ scan-from n (now (table .entry)) (now (x .entry)) lower (Limit limit) count start peak «peak_row» ⌝ }
 {
     let mut rr = start;
@@ -292,19 +233,19 @@ fn scan_rest(
         }
         fmax = s.fmax;
         kmax = s.kmax;
-        rr = rr.moved(s.last);
+        rr = rr.with_cur(s.last);
         left -= many;
     }
     Scan {
         viol: Violation::Nothing,
-        fmax: fmax,
-        kmax: kmax,
+        fmax,
+        kmax,
         last: rr.cur,
     }
 }
 
 // The rows of the band in turn, each once at most. The first singly: most scans that break a limit end there.
-fn scan_rows(
+pub(crate) fn scan_rows(
     n: usize,
     table: &[f64],
     x: &[f64],
@@ -321,7 +262,7 @@ fn scan_rows(
     if all == 0 {
         return Scan {
             viol: Violation::Nothing,
-            fmax: fmax,
+            fmax,
             kmax: -1,
             last: start.cur,
         };
@@ -335,128 +276,4 @@ fn scan_rows(
         return s;
     }
     scan_rest(n, table, x, rr, all - 1, lower, limit, s.fmax, s.kmax)
-}
-
-// A refusal, and the cursor as it came.
-fn scan_refused(rr: RoundRobin, why: Refusal) -> ScanEnd
-    ensures { λ r. ⌜ r ≡ record { answer = Refused why; cursor = rr } ⌝ }
-{
-    ScanEnd {
-        answer: ScanAnswer::Refused(why),
-        cursor: rr,
-    }
-}
-
-// `scan_band` with the cursor by value.
-fn scan_by_value(
-    n: usize,
-    rows: usize,
-    table: &[f64],
-    x: &[f64],
-    rr: RoundRobin,
-    lower: f64,
-    upper: Upper,
-) -> ScanEnd
-    ensures { λ r. ⌜ (r .answer, r .cursor) ≡ scan-band-answer n rows (now (table .entry)) (now (x .entry)) rr lower upper ⌝ }
-{
-    if !is_dimension(n) {
-        return scan_refused(rr, Refusal::Dimension);
-    }
-    if !table_fits(n, rows, table.len(), x.len()) {
-        return scan_refused(rr, Refusal::Length);
-    }
-    if !band_fits(rows, rr.lo, rr.hi) {
-        return scan_refused(rr, Refusal::Band);
-    }
-    if !rr.is_at() {
-        return scan_refused(rr, Refusal::Cursor);
-    }
-    let scan = scan_rows(n, table, x, rr, lower, upper);
-    let cursor = RoundRobin {
-        cur: scan.last,
-        lo: rr.lo,
-        hi: rr.hi,
-    };
-    ScanEnd {
-        answer: ScanAnswer::Scanned(scan),
-        cursor: cursor,
-    }
-}
-
-// The cursor is lent and moved. A thin form over the one by value.
-pub fn scan_band(
-    n: usize,
-    rows: usize,
-    table: &[f64],
-    x: &[f64],
-    rr: &mut RoundRobin,
-    lower: f64,
-    upper: Upper,
-) -> ScanAnswer
-    ensures { λ r. ⌜ (r, now (rr .exit)) ≡ scan-band-answer n rows (now (table .entry)) (now (x .entry)) (now (rr .entry)) lower upper ⌝ }
-{
-    let c = *rr;
-    let end = scan_by_value(n, rows, table, x, c, lower, upper);
-    *rr = end.cursor;
-    end.answer
-}
-
-// Lends a local cursor to `scan_band`, so that its callers have plain parameters.
-pub fn scan_lent(
-    n: usize,
-    rows: usize,
-    table: &[f64],
-    x: &[f64],
-    start: RoundRobin,
-    lower: f64,
-    upper: Upper,
-) -> ScanEnd
-    ensures { λ r. ⌜ (r .answer, r .cursor) ≡ scan-band-answer n rows (now (table .entry)) (now (x .entry)) start lower upper ⌝ }
-{
-    let mut c = start;
-    let answer = scan_band(n, rows, table, x, &mut c, lower, upper);
-    ScanEnd {
-        answer: answer,
-        cursor: c,
-    }
-}
-
-// `scan_band` where nothing is left to refuse.
-pub(crate) fn scan_ready(
-    n: usize,
-    rows: usize,
-    table: &[f64],
-    x: &[f64],
-    start: RoundRobin,
-    lower: f64,
-    upper: Upper,
-) -> Swept
-    requires { ⌜ Scannable n rows (now table) (now x) start ⌝ }
-    ensures { λ r. ⌜ (r .scan ≡ scan-of n (now (table .entry)) (now (x .entry)) start lower upper) × (r .cursor ≡ moved start (r .scan .last)) ⌝ }
-{
-    let end = scan_lent(n, rows, table, x, start, lower, upper);
-    let answer = end.answer;
-    let back = end.cursor;
-    // number by number: a copy of the whole would wait until all three are stored
-    let cursor = RoundRobin {
-        cur: back.cur,
-        lo: back.lo,
-        hi: back.hi,
-    };
-    match answer {
-        ScanAnswer::Scanned(scan) => Swept {
-            scan: scan,
-            cursor: cursor,
-        },
-        // does not occur
-        ScanAnswer::Refused(_) => Swept {
-            scan: Scan {
-                viol: Violation::Nothing,
-                fmax: 0.0,
-                kmax: -1,
-                last: -1,
-            },
-            cursor: cursor,
-        },
-    }
 }

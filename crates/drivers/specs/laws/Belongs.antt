@@ -14,8 +14,9 @@ use Rattle.numbers.specs.laws.Refusal.{failed, held, at-first, at-next, refuses
 use Rattle.numbers.specs.declared.refusal.Refusal.the-variants.{Dimension, Length}
 use Rattle.numbers.specs.declared.refusal.Fault.{Fault}
 use Rattle.numbers.specs.laws.Pick.{is-hit, is-skip, by-test, pick-cong, and-parts}
-use Rattle.oracles.specs.Scan.{table-fits}
+use Rattle.oracles.specs.Table.{table-fits}
 use Rattle.oracles.specs.LowpassOracle.{oracle-tests, assess-tests, assess-feas-answer}
+use Rattle.oracles.specs.laws.Judge.{judge-answers}
 use Rattle.oracles.specs.Verdict.{Judgement, feasible, pass, stop, middle, sign, refused, Question, judge, judgement, is-feasible, is-accepted}
 use Rattle.oracles.specs.laws.CursorRule.{feas-rule}
 use Rattle.oracles.specs.declared.lowpass_oracle.Assessed.{Assessed}
@@ -51,12 +52,16 @@ is-refused sign = false
 is-refused refused = true
 
 judged : (q : Question) → is-refused (judge q) ≡ false
-unfolding judge is-refused
-judged q =
-    by-test P _ _ _ (λ t. refl) (λ t. by-test P _ _ _ (λ t. refl) (λ t. by-test P _ _ _ (λ t. refl) (λ t. by-test P _ _ _ (λ t. refl) (λ t. refl))))
+unfolding is-refused
+judged q = go (judge q) refl
   where
-    P : Judgement → Type 0
-    P j = is-refused j ≡ false
+    go : (j : Judgement) → judge q ≡ j → is-refused j ≡ false
+    go feasible e = refl
+    go pass e = refl
+    go stop e = refl
+    go middle e = refl
+    go sign e = refl
+    go refused e = absurd (judge-answers q e)
 
 -- what a verdict says of an answer, by its judgement
 decided : (v : Verdict) (found : Bool) → is-refused (judgement v) ≡ false → belonging-of v found ≡ yes-if (pick found (is-feasible (judgement v)) (not (is-feasible (judgement v))))

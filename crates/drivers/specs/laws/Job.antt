@@ -15,7 +15,8 @@ use Rattle.numbers.specs.declared.refusal.Fault.the-variants.{Sound}
 use Rattle.numbers.specs.laws.Pick.{is-hit, and-parts}
 use Rattle.numbers.specs.Refusal.{is-fault, _⨾_, ask-at}
 use Rattle.numbers.specs.laws.Refusal.{no-fault, both-sound, ask-sound}
-use Rattle.oracles.specs.Scan.{none, is-rows}
+use Rattle.oracles.specs.Scan.{none}
+use Rattle.oracles.specs.Table.{is-rows}
 use Rattle.oracles.specs.LowpassOracle.{start-oracle, has-band, bands-fit, cursors-fit}
 use Rattle.oracles.specs.laws.Start.{start-before}
 use Rattle.oracles.specs.declared.lowpass_oracle.LowpassOracle.{LowpassOracle}

@@ -35,7 +35,7 @@ use Rattle.drivers.specs.CuttingPlaneOptim.{OptimState, plain, optim-upd
 use Rattle.drivers.specs.CuttingPlane.{check-state, kept}
 use Rattle.drivers.specs.Numbered.{optim-number}
 use Rattle.drivers.specs.laws.StepSound.{Fitting, sound-fits, fits-sound, oracle-accepts, ell-accepts}
-use Rattle.drivers.specs.laws.Untouched.{is-improved, untouched}
+use Rattle.oracles.specs.laws.Untouched.{is-improved, untouched}
 use Rattle.numbers.specs.declared.refusal.Fault.the-variants.{Sound}
 
 -- ---- a step

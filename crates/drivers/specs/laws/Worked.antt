@@ -12,7 +12,8 @@ use Rattle.numbers.specs.EllCalc.{made, calc-bias-cut, calc-parallel-impl, calc
 use Rattle.numbers.specs.Refusal.{_⨾_}
 use Rattle.numbers.specs.laws.Refusal.{failed, at-first, refuses}
 use Rattle.oracles.specs.RoundRobin.{advanced, new-range-answer}
-use Rattle.oracles.specs.Scan.{value-of, scan-from, scan-of, band-gradient}
+use Rattle.oracles.specs.Scan.{scan-from, scan-of, band-gradient}
+use Rattle.oracles.specs.Table.{value-of}
 use Rattle.oracles.specs.LowpassOracle.{start-oracle, assess-of, assess-feas-answer}
 use Rattle.oracles.specs.Ell.{ell-update-of}
 use Rattle.drivers.specs.Record.{size-fault, after, number-at, fields-from, fields-of, field-fault, walk-of, missing-fault, record-fault, lengths-fault, row-count, rows-of}

@@ -1,9 +1,9 @@
 -- Laws of tests, of choices by them, and of tests over a range. Assumes nothing.
 use mathlib.Core.Path.{_≡_, refl, sym, ap, _∙_}
-use mathlib.Core.Bool.{Bool, true, false, not, _&&_, _||_, and-eq-true-iff, true≢false}
+use mathlib.Core.Bool.{Bool, true, false, not, _&&_, _||_, or-false, or-assoc, and-eq-true-iff, true≢false}
 use mathlib.Core.Logic.{⊎-elim, inl, inr}
 use Prim.Native.Nat.{ℕ, zero, suc, _≤_, _<_, _+_}
-use native.Mathlib.Nat.{eq-or-lt-of-le}
+use native.Mathlib.Nat.{eq-or-lt-of-le, add-zero}
 use native.Mathlib.Omega.{arith}
 use borrow.Author.Tests.{ltb-true, ltb-false, lt-ltb, le-ltb, not-true, not-false}
 use lib.Dec.{ltb}
@@ -97,3 +97,29 @@ some-holds f lo count i a b h = go (some f lo count) refl
     go : (t : Bool) → some f lo count ≡ t → some f lo count ≡ true
     go true e = e
     go false e = absurd (true≢false (sym h ∙ some-false f lo count e i a b))
+
+-- a range in two parts
+pub some-split : (f : ℕ → Bool) (lo m k : ℕ) → some f lo (m + k) ≡ (some f lo m || some f (lo + m) k)
+unfolding some
+some-split f lo m zero = ap (some f lo) (add-zero m) ∙ sym (or-false (some f lo m))
+some-split f lo m (suc k) =
+    let e : m + suc k ≡ suc (m + k) = omega arith in
+    let q : lo + (m + k) ≡ lo + m + k = omega arith in
+    ap (some f lo) e ∙ (λ j. some-split f lo m k j || f (q j)) ∙ or-assoc (some f lo m) (some f (lo + m) k) (f (lo + m + k))
+
+-- a range moved on by d
+pub some-shift : (f : ℕ → Bool) (d lo count : ℕ) → some f (lo + d) count ≡ some (λ i. f (i + d)) lo count
+unfolding some
+some-shift f d lo zero = refl
+some-shift f d lo (suc count) =
+    let q : lo + d + count ≡ lo + count + d = omega arith in
+    λ j. some-shift f d lo count j || f (q j)
+
+-- two tests that agree on a range
+pub some-same : (f g : ℕ → Bool) (lo count : ℕ) → ((i : ℕ) → lo ≤ i → i < lo + count → f i ≡ g i) → some f lo count ≡ some g lo count
+unfolding some
+some-same f g lo zero h = refl
+some-same f g lo (suc count) h =
+    let rest = some-same f g lo count (λ i a b. h i a (omega arith)) in
+    let last = h (lo + count) (omega arith) (omega arith) in
+    λ j. rest j || last j

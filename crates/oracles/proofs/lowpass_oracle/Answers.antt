@@ -1,107 +1,66 @@
 -- What the public calls of an oracle answer, by what the tests say. Assumes nothing.
 use mathlib.Core.Path.{_≡_, refl, sym, ap, _∙_, subst}
-use mathlib.Core.Bool.{Bool, true, false, _&&_, true≢false}
+use mathlib.Core.Bool.{Bool, true, false, not, _&&_, true≢false}
 use mathlib.Core.List.{List, [], _∷_}
 use mathlib.Core.Logic.{inl, inr}
 use Prim.Native.Nat.{ℕ, _≤_, _+_, _*_}
 use native.Mathlib.Nat.{suc-mul, mul-le-mul-right}
 use native.Mathlib.Omega.{arith}
-use borrow.Author.Tests.{le-leb, eqb-true}
 use types.Run.{OneOf}
 use denote.Enum.Declared.{tagOf}
 use lib.Dec.{eqb}
 use lib.IntN.{pos, natAbs}
-use lib.Signed.{leZ, ltZ}
+use lib.Signed.{ltZ}
 use lib.ListN.{length}
 use lib.Ieee.{Float}
-use Rattle.numbers.specs.Arr.{is-dimension}
 use Rattle.numbers.specs.laws.Arr.{dimension-least, dimension-most}
-use Rattle.numbers.specs.declared.refusal.Refusal.the-variants.{Dimension, Length, Band, Cursor}
-use Rattle.numbers.specs.laws.Pick.{and-parts}
-use Rattle.numbers.specs.laws.Refusal.{failed, held, at-first, at-next, refuses, accepts}
-use Rattle.oracles.specs.laws.RoundRobin.{legal-band, legal-at}
-use Rattle.oracles.specs.Scan.{is-rows, table-fits}
-use Rattle.oracles.specs.LowpassOracle.{bands-fit, cursors-fit, refused-of, assess-of, assess-feas-answer, optim-of, assess-optim-answer, offered}
-use Rattle.oracles.specs.Verdict.{feasible, refused, asked, is-accepted, is-feasible, judgement, Peak, FeasRule, OptimRule}
-use Rattle.oracles.specs.laws.Assess.{Spans, fit-of, Accepted, accepted-of, fits-oracle}
+use Rattle.numbers.specs.Arr.{is-dimension}
+use Rattle.numbers.specs.Refusal.{is-fault}
+use Rattle.numbers.specs.declared.refusal.Refusal.{Refusal}
+use Rattle.numbers.specs.declared.refusal.Fault.{Fault}
+use Rattle.numbers.specs.declared.refusal.Fault.the-variants.{Sound, At}
+use Rattle.numbers.specs.laws.Refusal.{refuses}
+use Rattle.oracles.specs.Table.{table-fits}
+use Rattle.oracles.specs.Scan.{first-fault}
+use Rattle.oracles.specs.laws.ScanRows.{fault-by}
+use Rattle.oracles.specs.LowpassOracle.{bands-fit, cursors-fit, refused-of, assess-of, assess-tests, assess-feas-answer, optim-of, assess-optim-answer, offered}
+use Rattle.oracles.specs.Verdict.{feasible, refused, asked, is-accepted, is-feasible, judgement, Peak, FeasRule, OptimRule, ByFeasRule, ByOptimRule}
+use Rattle.oracles.specs.laws.Assess.{Accepted, accepted-of, accepted-is}
 use Rattle.oracles.specs.laws.CursorRule.{feas-rule, optim-rule, refused-unless}
 use Rattle.oracles.specs.laws.OracleAfter.{gradient-length}
-use Rattle.oracles.specs.declared.round_robin.RoundRobin.{RoundRobin}
 use Rattle.oracles.specs.declared.lowpass_oracle.LowpassOracle.{LowpassOracle}
 use Rattle.oracles.specs.declared.lowpass_oracle.Verdict.{Verdict}
 use Rattle.oracles.specs.declared.lowpass_oracle.Verdict.the-variants.{Feasible, Cut, Refused}
 use Rattle.oracles.specs.declared.lowpass_oracle.Assessed.{Assessed}
 use Rattle.oracles.specs.declared.lowpass_oracle.AssessedOptim.{AssessedOptim}
-use Rattle.oracles.specs.laws.Scan.{Scannable}
 use Rattle.oracles.proofs.lowpass_oracle.Verdict as Y
 
 module _ (o : LowpassOracle) (n rows : ℕ) (table x grad : List Float) where
   abbrev Answer : Type 0
   Answer = Assessed × List Float
 
-  -- the lengths' test
-  abbrev fits : Bool
-  fits = table-fits n rows table x && eqb (length grad) n
-
   -- the answer brings the rule with it
   pub with-rule : (r : Assessed) (grad′ : List Float) → _≡_ {A = Answer} (r, grad′) (assess-feas-answer o n rows table x grad)
-      → (_≡_ {A = Answer} (r, grad′) (assess-feas-answer o n rows table x grad)) × (is-accepted o n rows table x grad ≡ true → FeasRule (asked o (o .«sp_sq») n rows table x) r)
+      → (_≡_ {A = Answer} (r, grad′) (assess-feas-answer o n rows table x grad)) × (ByFeasRule o n rows table x grad r)
   with-rule r grad′ e = (e, λ h. subst (FeasRule (asked o (o .«sp_sq») n rows table x)) (sym (ap (λ (p : Answer). p .0) e)) (feas-rule o n rows table x grad h))
 
-  -- a refusal, as it is made
-  pub refused-as : (r why : Assessed) → r ≡ why → _≡_ {A = Answer} (why, grad) (assess-feas-answer o n rows table x grad)
-      → (_≡_ {A = Answer} (r, grad) (assess-feas-answer o n rows table x grad)) × (is-accepted o n rows table x grad ≡ true → FeasRule (asked o (o .«sp_sq») n rows table x) r)
-  refused-as r why e q = with-rule r grad (ap (λ (z : Assessed). (z, grad)) e ∙ q)
+  -- the fault is that of the tests
+  pub tests-found : {f : Fault} {d t b k : Bool} → f ≡ first-fault d (t && eqb (length grad) n) b k
+      → d ≡ is-dimension n → t ≡ table-fits n rows table x → b ≡ bands-fit o rows → k ≡ cursors-fit o → f ≡ assess-tests o n rows table x grad
+  tests-found e hd ht hb hk = fault-by e hd (ap (λ (z : Bool). z && eqb (length grad) n) ht) hb hk
 
-  pub no-dimension : is-dimension n ≡ false → _≡_ {A = Answer} (refused-of o Dimension, grad) (assess-feas-answer o n rows table x grad)
+  -- the answer by what the tests found
+  pub tests-refuse : {f : Fault} {why : Refusal} {place : ℕ} → f ≡ At why place → f ≡ assess-tests o n rows table x grad
+      → (_≡_ {A = Answer} (refused-of o why, grad) (assess-feas-answer o n rows table x grad)) × ByFeasRule o n rows table x grad (refused-of o why)
   unfolding assess-feas-answer
-  no-dimension h = refuses _ _ _ (at-first _ (at-first _ (failed h))) refl
+  tests-refuse e h = with-rule _ grad (refuses _ _ _ (sym e ∙ h) refl)
 
-  pub no-length : is-dimension n ≡ true → fits ≡ false → _≡_ {A = Answer} (refused-of o Length, grad) (assess-feas-answer o n rows table x grad)
-  unfolding assess-feas-answer
-  no-length d h = refuses _ _ _ (at-first _ (at-next (held _ _ d) (failed h))) refl
+  pub tests-accept : {f : Fault} → f ≡ Sound → f ≡ assess-tests o n rows table x grad → is-accepted o n rows table x grad ≡ true
+  tests-accept e h = ap (λ (g : Fault). not (is-fault g)) (sym h ∙ e)
 
-  module _ (d : is-dimension n ≡ true) (f : fits ≡ true) where
-    pub no-bands : bands-fit o rows ≡ false → _≡_ {A = Answer} (refused-of o Band, grad) (assess-feas-answer o n rows table x grad)
-    unfolding assess-feas-answer
-    no-bands h = refuses _ _ _ (at-next (at-next (held _ _ d) (held _ _ f)) (at-first _ (failed h))) refl
-
-    pub no-cursors : bands-fit o rows ≡ true → cursors-fit o ≡ false → _≡_ {A = Answer} (refused-of o Cursor, grad) (assess-feas-answer o n rows table x grad)
-    unfolding assess-feas-answer
-    no-cursors b h = refuses _ _ _ (at-next (at-next (held _ _ d) (held _ _ f)) (at-next (held _ _ b) (failed h))) refl
-
-    pub all-passed : bands-fit o rows ≡ true → cursors-fit o ≡ true → (p : Answer) → p ≡ assess-of o n table x grad → p ≡ assess-feas-answer o n rows table x grad
-    unfolding assess-feas-answer
-    all-passed b c p e = accepts _ _ _ (fits-oracle o n rows fits (record { dimension = d; long = f; bands = b; cursors = c })) e
-
-    -- each band can be scanned
-    module _ (b : bands-fit o rows ≡ true) (c : cursors-fit o ≡ true) where
-      has-rows : is-rows rows ≡ true
-      has-rows = go (is-rows rows) refl
-        where
-          go : (t : Bool) → is-rows rows ≡ t → is-rows rows ≡ true
-          go true e = e
-          go false e = absurd (true≢false (sym b ∙ rw e))
-
-      spanned : (rr : RoundRobin) (from past : ℕ) → Spans rr from past → past ≤ rows → Scannable n rows table x rr
-      spanned rr from past S h =
-          let L = S .legal in
-          let l : leZ (rr .hi) (pos rows) ≡ true = rw (L .hi-is) (le-leb (L .past) rows (omega (arith, S .past-is))) in
-          record {
-            dimension = d;
-            long = and-parts (table-fits n rows table x) (eqb (length grad) n) f .0;
-            band = rw (has-rows, legal-band rr L, l);
-            at = legal-at rr L;
-          }
-
-      pub all-scannable : Scannable n rows table x (o .rr1) × Scannable n rows table x (o .rr3) × Scannable n rows table x (o .rr2) × (length grad ≡ n)
-      all-scannable =
-          let F = fit-of o rows b c in (
-            spanned (o .rr1) _ _ (F .pass-rows) (F .pass-high),
-            spanned (o .rr3) _ _ (F .stop-rows) (omega arith),
-            spanned (o .rr2) _ _ (F .middle-rows) (F .middle-high),
-            eqb-true (length grad) n (and-parts (table-fits n rows table x) (eqb (length grad) n) f .1),
-          )
+  pub assessed : (r : Assessed) (grad′ : List Float) → is-accepted o n rows table x grad ≡ true → _≡_ {A = Answer} (r, grad′) (assess-of o n table x grad)
+      → (_≡_ {A = Answer} (r, grad′) (assess-feas-answer o n rows table x grad)) × ByFeasRule o n rows table x grad r
+  assessed r grad′ h e = with-rule r grad′ (e ∙ sym (accepted-is o n rows table x grad h))
 
   -- a feasible point was accepted
   feasible-accepted : assess-feas-answer o n rows table x grad .0 .verdict ≡ Feasible → is-accepted o n rows table x grad ≡ true
@@ -134,7 +93,7 @@ module _ (o : LowpassOracle) (gamma : Float) (n rows : ℕ) (table x grad : List
     (e : _≡_ {A = Assessed × List Float} (r, grad′) (assess-feas-answer (offered o gamma) n rows table x grad)) where
   -- the answer by the verdict, with the rule that it brings
   pub optim-as : (v : Verdict) → r .verdict ≡ v → (s : AssessedOptim) (g : List Float) → _≡_ {A = AssessedOptim × List Float} (s, g) (optim-of o gamma n table (r .oracle) v grad′)
-      → (_≡_ {A = AssessedOptim × List Float} (s, g) (assess-optim-answer o gamma n rows table x grad)) × (is-accepted o n rows table x grad ≡ true → OptimRule (asked o gamma n rows table x) s)
+      → (_≡_ {A = AssessedOptim × List Float} (s, g) (assess-optim-answer o gamma n rows table x grad)) × (ByOptimRule o gamma n rows table x grad s)
   optim-as v ev s g q =
       let t : _≡_ {A = AssessedOptim × List Float} (s, g) (assess-optim-answer o gamma n rows table x grad) =
       subst (λ (z : Assessed × List Float). _≡_ {A = AssessedOptim × List Float} (s, g) (optim-of o gamma n table (z .0 .oracle) (z .0 .verdict) (z .1))) e (rw ev q)

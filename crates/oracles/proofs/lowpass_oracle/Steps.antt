@@ -1,14 +1,12 @@
 -- The steps of an assessment: what a scan's answer leads to. Assumes nothing.
-use mathlib.Core.Path.{_≡_, refl, sym, ap, _∙_}
+use mathlib.Core.Path.{_≡_, refl, sym, ap, _∙_, subst}
 use mathlib.Core.Bool.{Bool, false}
 use mathlib.Core.List.{List, [], _∷_}
 use Prim.Native.Nat.{ℕ, _≤_, _+_, _*_}
 use native.Mathlib.Nat.{suc-mul, mul-le-mul-right}
 use native.Mathlib.Omega.{arith}
-use borrow.Author.Tests.{eqb-true}
 use types.Run.{OneOf}
 use denote.Enum.Declared.{tagOf}
-use lib.Dec.{eqb}
 use lib.IntN.{ℤ}
 use lib.ListN.{length}
 use lib.Ieee.{Float}
@@ -17,12 +15,12 @@ use mir.Val.{SFits}
 use mir.Facts.{toZ-ofZ}
 use Rattle.numbers.specs.F64.{0ᶠ}
 use Rattle.numbers.specs.declared.cut.CutChoice.{CutChoice}
-use Rattle.numbers.specs.laws.Arr.{dimension-least, dimension-most}
-use Rattle.numbers.specs.laws.Pick.{and-parts}
-use Rattle.oracles.specs.RoundRobin.{moved}
+use Rattle.oracles.specs.RoundRobin.{with-cur}
 use Rattle.oracles.specs.Scan.{−∞, none, scan-of, violated, band-beta, band-gradient}
 use Rattle.oracles.specs.LowpassOracle.{after-pass, after-stop, after-middle, assess-sign, assess-middle, assess-stop, assess-of}
-use Rattle.oracles.specs.laws.Scan.{broken-in, Scannable}
+use Rattle.oracles.specs.laws.ScanRows.{Ready}
+use Rattle.oracles.specs.laws.Scan.{broken-in, left-ready}
+use Rattle.oracles.specs.laws.Assess.{Assessable}
 use Rattle.oracles.specs.declared.round_robin.RoundRobin.{RoundRobin}
 use Rattle.oracles.specs.declared.scan.Upper.{Upper}
 use Rattle.oracles.specs.declared.scan.Upper.the-variants.{Absent, Limit}
@@ -35,7 +33,6 @@ use Rattle.oracles.specs.declared.scan.Violation.the-variants.{Nothing, 
 use Rattle.oracles.specs.declared.scan.Scan.{Scan}
 use Rattle.oracles.proofs.scan.Violation as Y
 use Rattle.oracles.proofs.Signed.{read}
-use Rattle.oracles.proofs.scan.Tests.{ready-of}
 
 -- a violation with the key 0 is none
 pub nothing-of : (v : Violation) → OneOf (0 ∷ []) (tagOf Y.the-type v) → v ≡ Nothing
@@ -52,30 +49,52 @@ breaks v kept broken r row value over e q = rw e q
 
 -- ---- what is known where nothing is left to refuse
 
-module _ {n rows : ℕ} {table x : List Float} {c : RoundRobin} (S : Scannable n rows table x c) where
-  pub least : 2 ≤ n
-  least = dimension-least n (S .dimension)
-
-  pub most : n ≤ 32
-  most = dimension-most n (S .dimension)
-
-  pub x-long : length x ≡ n
-  x-long = eqb-true (length x) n (and-parts (eqb (length table) (rows * n)) (eqb (length x) n) (S .long) .1)
-
+module _ {o : LowpassOracle} {n : ℕ} {table x grad : List Float} (A : Assessable o n table x grad) {c : RoundRobin} (R : Ready n table x c) (lower : Float) (upper : Upper)
+    {s : Scan} (es : s ≡ scan-of n table x c lower upper) where
   -- the row of a violation can be read
-  pub row-fits : (lower : Float) (upper : Upper) (s : Scan) → s ≡ scan-of n table x c lower upper → (row : ℕ) (v : Float) (over : Bool) → s .viol ≡ Broken row v over → row * n + n ≤ length table
-  row-fits lower upper s es row v over e =
-      let R = ready-of n rows table x c S in
+  pub cut-fits : (row : ℕ) (v : Float) (over : Bool) → s .viol ≡ Broken row v over → (2 ≤ n) × (n ≤ 32) × (row * n + n ≤ length table) × (length grad ≡ n)
+  cut-fits row v over e =
       let i = broken-in n table x c lower upper (R .legal) row v over (ap (λ (z : Scan). z .viol) (sym es) ∙ e) in
-      omega (arith, suc-mul row n, mul-le-mul-right n (i .1), R .high)
+      (A .least, A .most, omega (arith, suc-mul row n, mul-le-mul-right n (i .1), R .high), A .grad-long)
+
+  -- so can those of the next scan, from the cursor that is left
+  ready-again : {rr : RoundRobin} → rr ≡ with-cur c (s .last) → Ready n table x rr
+  ready-again er = subst (Ready n table x) (sym (er ∙ ap (λ (z : Scan). with-cur c (z .last)) es)) (left-ready n table x c lower upper R)
+
+module _ {o : LowpassOracle} {n : ℕ} {table x grad : List Float} (A : Assessable o n table x grad) {s : Scan} {rr : RoundRobin} {o′ : LowpassOracle} where
+  pub pass-assessable : s ≡ scan-of n table x (o .rr1) (o .«lp_sq») (Limit (o .«up_sq»)) → rr ≡ with-cur (o .rr1) (s .last) → o′ ≡ after-pass o (read (s .last)) rr → Assessable o′ n table x grad
+  pass-assessable es er eo =
+      subst (λ (z : LowpassOracle). Assessable z n table x grad) (sym eo)
+      (record {
+        least = A .least;
+        most = A .most;
+        x-long = A .x-long;
+        grad-long = A .grad-long;
+        pass-ready = ready-again A (A .pass-ready) (o .«lp_sq») (Limit (o .«up_sq»)) es er;
+        stop-ready = A .stop-ready;
+        middle-ready = A .middle-ready;
+      })
+
+  pub stop-assessable : s ≡ scan-of n table x (o .rr3) 0ᶠ (Limit (o .«sp_sq»)) → rr ≡ with-cur (o .rr3) (s .last) → o′ ≡ after-stop o (read (s .last)) rr (s .fmax) (read (s .kmax)) → Assessable o′ n table x grad
+  stop-assessable es er eo =
+      subst (λ (z : LowpassOracle). Assessable z n table x grad) (sym eo)
+      (record {
+        least = A .least;
+        most = A .most;
+        x-long = A .x-long;
+        grad-long = A .grad-long;
+        pass-ready = A .pass-ready;
+        stop-ready = ready-again A (A .stop-ready) 0ᶠ (Limit (o .«sp_sq»)) es er;
+        middle-ready = A .middle-ready;
+      })
 
 -- ---- a scan that was made, from the cursor c, and the cursor that it left
 
 module _ (n : ℕ) (table x : List Float) (c : RoundRobin) (lower : Float) (upper : Upper) (s : Scan) (rr : RoundRobin)
-    (es : s ≡ scan-of n table x c lower upper) (er : rr ≡ moved c (s .last)) (fl : SFits w32 (s .last)) where
+    (es : s ≡ scan-of n table x c lower upper) (er : rr ≡ with-cur c (s .last)) (fl : SFits w32 (s .last)) where
   -- an oracle made of the scan's last row, as it is read, and of the cursor
-  placed : (f : ℤ → RoundRobin → LowpassOracle) → f (read (s .last)) rr ≡ f (scan-of n table x c lower upper .last) (moved c (scan-of n table x c lower upper .last))
-  placed f = (λ i. f (toZ-ofZ fl i) (er i)) ∙ ap (λ (z : Scan). f (z .last) (moved c (z .last))) es
+  placed : (f : ℤ → RoundRobin → LowpassOracle) → f (read (s .last)) rr ≡ f (scan-of n table x c lower upper .last) (with-cur c (scan-of n table x c lower upper .last))
+  placed f = (λ i. f (toZ-ofZ fl i) (er i)) ∙ ap (λ (z : Scan). f (z .last) (with-cur c (z .last))) es
 
   found : {v : Violation} → s .viol ≡ v → scan-of n table x c lower upper .viol ≡ v
   found e = ap (λ (z : Scan). z .viol) (sym es) ∙ e
@@ -88,7 +107,7 @@ module _ (o : LowpassOracle) (n : ℕ) (table x grad : List Float) (s : Scan) (r
   abbrev Cuts : ℕ → Float → Bool → Float → Upper → CutChoice → List Float → Type 0
   Cuts row v over lower upper beta grad′ = (beta ≡ band-beta v over lower upper) × (grad′ ≡ band-gradient n table row over)
 
-  module _ (es : s ≡ scan-of n table x (o .rr2) 0ᶠ Absent) (er : rr ≡ moved (o .rr2) (s .last)) where
+  module _ (es : s ≡ scan-of n table x (o .rr2) 0ᶠ Absent) (er : rr ≡ with-cur (o .rr2) (s .last)) where
     pub middle-passes : s .viol ≡ Nothing → o′ ≡ after-middle o (read (s .last)) rr false → (p : Answer) → p ≡ assess-sign o′ x grad → p ≡ assess-middle o n table x grad
     unfolding assess-middle
     middle-passes e eo p q =
@@ -103,13 +122,13 @@ module _ (o : LowpassOracle) (n : ℕ) (table x grad : List Float) (s : Scan) (r
         breaks _ _ _ _ row v over (found n table x (o .rr2) 0ᶠ Absent s rr es er fl e)
         (rw (eo ∙ placed n table x (o .rr2) 0ᶠ Absent s rr es er fl (λ last r. after-middle o last r (o .«more_alt»)), k .0, k .1))
 
-  module _ (es : s ≡ scan-of n table x (o .rr3) 0ᶠ (Limit (o .«sp_sq»))) (er : rr ≡ moved (o .rr3) (s .last)) where
+  module _ (es : s ≡ scan-of n table x (o .rr3) 0ᶠ (Limit (o .«sp_sq»))) (er : rr ≡ with-cur (o .rr3) (s .last)) where
     pub stop-passes : SFits w32 (s .kmax) → s .viol ≡ Nothing → o′ ≡ after-stop o (read (s .last)) rr (s .fmax) (read (s .kmax)) → (p : Answer) → p ≡ assess-middle o′ n table x grad
         → p ≡ assess-stop o n table x grad
     unfolding assess-stop
     stop-passes fk e eo p q =
-        let u = ap (λ (z : Scan). after-stop o (z .last) (moved (o .rr3) (z .last)) (z .fmax) (z .kmax)) es in
-        let w : after-stop o (s .last) (moved (o .rr3) (s .last)) (s .fmax) (s .kmax) ≡ after-stop o (read (s .last)) rr (s .fmax) (read (s .kmax)) =
+        let u = ap (λ (z : Scan). after-stop o (z .last) (with-cur (o .rr3) (z .last)) (z .fmax) (z .kmax)) es in
+        let w : after-stop o (s .last) (with-cur (o .rr3) (s .last)) (s .fmax) (s .kmax) ≡ after-stop o (read (s .last)) rr (s .fmax) (read (s .kmax)) =
         rw (er, toZ-ofZ fl, toZ-ofZ fk)
         in
         goes-on _ _ _ p (found n table x (o .rr3) 0ᶠ (Limit (o .«sp_sq»)) s rr es er fl e)
@@ -123,7 +142,7 @@ module _ (o : LowpassOracle) (n : ℕ) (table x grad : List Float) (s : Scan) (r
         breaks _ _ _ _ row v over (found n table x (o .rr3) 0ᶠ (Limit (o .«sp_sq»)) s rr es er fl e)
         (rw (eo ∙ placed n table x (o .rr3) 0ᶠ (Limit (o .«sp_sq»)) s rr es er fl (λ last r. after-stop o last r −∞ none), k .0, k .1))
 
-  module _ (es : s ≡ scan-of n table x (o .rr1) (o .«lp_sq») (Limit (o .«up_sq»))) (er : rr ≡ moved (o .rr1) (s .last)) (eo : o′ ≡ after-pass o (read (s .last)) rr) where
+  module _ (es : s ≡ scan-of n table x (o .rr1) (o .«lp_sq») (Limit (o .«up_sq»))) (er : rr ≡ with-cur (o .rr1) (s .last)) (eo : o′ ≡ after-pass o (read (s .last)) rr) where
     pub pass-passes : s .viol ≡ Nothing → (p : Answer) → p ≡ assess-stop o′ n table x grad → p ≡ assess-of o n table x grad
     unfolding assess-of
     pass-passes e p q =

@@ -11,7 +11,9 @@ use Rattle.numbers.specs.Pick.{pick}
 use Rattle.numbers.specs.laws.Pick.{hit, skip}
 use Rattle.oracles.specs.RoundRobin.{advanced}
 use Rattle.oracles.specs.laws.RoundRobin.{canon, adv-next}
-use Rattle.oracles.specs.Scan.{value-of, is-over, scan-from}
+use Rattle.oracles.specs.Scan.{is-over, scan-from}
+use Rattle.numbers.specs.declared.arr.Four.{Four}
+use Rattle.oracles.specs.Table.{value-of, four-values}
 use Rattle.oracles.specs.laws.ScanRun.{limit-of, is-broken, tested-by, judged-of, scan-run}
 use Rattle.oracles.specs.declared.round_robin.RoundRobin.{RoundRobin}
 use Rattle.oracles.specs.declared.scan.Upper.{Upper}
@@ -83,6 +85,56 @@ module _ (n : ℕ) (table x : List Float) (lower limit : Float) where
           → is-broken (pick t (judged i f k) rest .viol) ≡ false → pick t (judged i f k) rest .last ≡ predℤ (pos (i + suc m))
       go true h r q = absurd (true≢false (sym h ∙ q))
       go false h r q = r q ∙ ap (λ (z : ℕ). predℤ (pos z)) (let e : suc i + m ≡ i + suc m = omega arith in e)
+
+-- ---- four rows, whose values are had first
+
+next : (i : ℕ) → i + 1 ≡ suc i
+next i = omega arith
+
+next₂ : (i : ℕ) → i + 2 ≡ suc (suc i)
+next₂ i = omega arith
+
+next₃ : (i : ℕ) → i + 3 ≡ suc (suc (suc i))
+next₃ i = omega arith
+
+module _ (n : ℕ) (table x : List Float) (lower limit : Float) (row : ℕ) (f : Float) (k : ℤ) {values : Four} (ev : values ≡ four-values n table x row)
+    {k₁ : ℤ} (e₁ : k₁ ≡ k) {s₁ : Scan} (t₁ : s₁ ≡ judged-of lower limit row (values .a) f k₁) where
+  abbrev whole : Scan
+  whole = scan-run n table x lower limit 4 row f k
+
+  abbrev Judged : ℕ → Float → ℤ → Scan → Type 0
+  Judged i f k s = s ≡ judged-of lower limit i (value-of n table x i) f k
+
+  j₁ : Judged row f k s₁
+  j₁ = as-judged n table x lower limit f refl (ap (λ (z : Four). z .a) ev) e₁ t₁
+
+  pub ends-first : is-broken (s₁ .viol) ≡ true → s₁ ≡ whole
+  ends-first b = run-ends n table x lower limit row f k j₁ 3 b
+
+  module _ (b₁ : is-broken (s₁ .viol) ≡ false) {k₂ : ℤ} (e₂ : k₂ ≡ s₁ .kmax) {s₂ : Scan} (t₂ : s₂ ≡ judged-of lower limit (row + 1) (values .b) (s₁ .fmax) k₂) where
+    j₂ : Judged (suc row) (s₁ .fmax) (s₁ .kmax) s₂
+    j₂ = as-judged n table x lower limit (s₁ .fmax) (next row) (ap (λ (z : Four). z .b) ev) e₂ t₂
+
+    rest₁ : scan-run n table x lower limit 3 (suc row) (s₁ .fmax) (s₁ .kmax) ≡ whole
+    rest₁ = run-on n table x lower limit row f k j₁ 3 b₁
+
+    pub ends-second : is-broken (s₂ .viol) ≡ true → s₂ ≡ whole
+    ends-second b = run-ends n table x lower limit (suc row) (s₁ .fmax) (s₁ .kmax) j₂ 2 b ∙ rest₁
+
+    module _ (b₂ : is-broken (s₂ .viol) ≡ false) {k₃ : ℤ} (e₃ : k₃ ≡ s₂ .kmax) {s₃ : Scan} (t₃ : s₃ ≡ judged-of lower limit (row + 2) (values .c) (s₂ .fmax) k₃) where
+      j₃ : Judged (suc (suc row)) (s₂ .fmax) (s₂ .kmax) s₃
+      j₃ = as-judged n table x lower limit (s₂ .fmax) (next₂ row) (ap (λ (z : Four). z .c) ev) e₃ t₃
+
+      rest₂ : scan-run n table x lower limit 2 (suc (suc row)) (s₂ .fmax) (s₂ .kmax) ≡ whole
+      rest₂ = run-on n table x lower limit (suc row) (s₁ .fmax) (s₁ .kmax) j₂ 2 b₂ ∙ rest₁
+
+      pub ends-third : is-broken (s₃ .viol) ≡ true → s₃ ≡ whole
+      ends-third b = run-ends n table x lower limit (suc (suc row)) (s₂ .fmax) (s₂ .kmax) j₃ 1 b ∙ rest₂
+
+      pub ends-last : is-broken (s₃ .viol) ≡ false → {k₄ : ℤ} → k₄ ≡ s₃ .kmax → {s₄ : Scan} → s₄ ≡ judged-of lower limit (row + 3) (values .d) (s₃ .fmax) k₄ → s₄ ≡ whole
+      ends-last b₃ e₄ t₄ =
+          run-one n table x lower limit (suc (suc (suc row))) (s₃ .fmax) (s₃ .kmax) (as-judged n table x lower limit (s₃ .fmax) (next₃ row) (ap (λ (z : Four). z .d) ev) e₄ t₄)
+          ∙ run-on n table x lower limit (suc (suc row)) (s₂ .fmax) (s₂ .kmax) j₃ 1 b₃ ∙ rest₂
 
 -- ---- a scan with the upper limit as a number
 

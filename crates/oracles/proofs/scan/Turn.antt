@@ -10,11 +10,12 @@ use lib.IntN.{ℤ, pos, predℤ, natAbs, _-ℤ_}
 use lib.Signed.{nonNeg}
 use lib.ListN.{length}
 use lib.Ieee.{Float}
-use Rattle.oracles.specs.RoundRobin.{moved, advanced}
+use Rattle.oracles.specs.RoundRobin.{with-cur, advanced}
 use Rattle.oracles.specs.laws.RoundRobin.{canon, legal-canon, adv-next, Legal}
-use Rattle.oracles.specs.laws.Scan.{NextRow, next-row, band-count, Ready}
-use Rattle.oracles.specs.Scan.{−∞, none, value-of, scan-from, scan-of}
-use Rattle.oracles.specs.laws.ScanRun.{limit-of, is-broken, judged-of, scan-run, Going}
+use Rattle.oracles.specs.laws.ScanRows.{NextRow, next-row, band-count, Ready}
+use Rattle.oracles.specs.Scan.{−∞, none, scan-from, scan-of}
+use Rattle.oracles.specs.Table.{value-of}
+use Rattle.oracles.specs.laws.ScanRun.{limit-of, is-broken, judged-of, scan-run, RowsLeft}
 use Rattle.oracles.specs.declared.round_robin.RoundRobin.{RoundRobin}
 use Rattle.oracles.specs.declared.scan.Upper.{Upper}
 use Rattle.oracles.specs.declared.scan.Upper.the-variants.{Limit}
@@ -23,8 +24,8 @@ use Rattle.oracles.specs.declared.scan.Scan.{Scan}
 use Rattle.oracles.proofs.scan.Run.{after, after-broken, after-whole, run-one, run-last, by-limit, by-run}
 
 -- a scan of the band from .. past − 1 whose next row is `next`
-going : (n : ℕ) (table : List Float) (from past next left : ℕ) → from ≤ next → next ≤ past → past ≤ 1024 → left ≤ past - from → past * n ≤ length table → Going n table (canon from past next) left
-going n table from past next left a b s r h =
+rows-left : (n : ℕ) (table : List Float) (from past next left : ℕ) → from ≤ next → next ≤ past → past ≤ 1024 → left ≤ past - from → past * n ≤ length table → RowsLeft n table (canon from past next) left
+rows-left n table from past next left a b s r h =
     record { legal = record { from = from; past = past; next = next; lo-is = refl; hi-is = refl; cur-is = refl; above = a; below = b; small = s }; room = r; high = h }
 
 -- a scan goes by where its cursor goes
@@ -36,7 +37,7 @@ same-way n table x lower upper (suc left) c e f k h q = rw q refl
 
 -- ---- a turn
 
-module _ {n : ℕ} {table : List Float} (x : List Float) (lower limit : Float) {c : RoundRobin} {left : ℕ} (f : Float) (k : ℤ) {whole : Scan} (G : Going n table c left)
+module _ {n : ℕ} {table : List Float} (x : List Float) (lower limit : Float) {c : RoundRobin} {left : ℕ} (f : Float) (k : ℤ) {whole : Scan} (G : RowsLeft n table c left)
     (inv : scan-from n table x lower (Limit limit) left c f k ≡ whole) where
   pub clear : left ≤ 0 → record { viol = Nothing; fmax = f; kmax = k; last = c .cur } ≡ whole
   unfolding scan-from
@@ -62,12 +63,12 @@ module _ {n : ℕ} {table : List Float} (x : List Float) (lower limit : Float) {
     row-there = rw stands tt
 
     pub legal-there : Legal d
-    legal-there = subst Legal (sym goes-to) (going n table lo hi (suc (next .row)) 0 (omega (arith, next .low)) (next .high) (G .legal .small) (omega arith) (G .high) .legal)
+    legal-there = subst Legal (sym goes-to) (rows-left n table lo hi (suc (next .row)) 0 (omega (arith, next .low)) (next .high) (G .legal .small) (omega arith) (G .high) .legal)
 
-    pub left-there : Going n table d (left - 1)
+    pub left-there : RowsLeft n table d (left - 1)
     left-there =
-        subst (λ (e : RoundRobin). Going n table e (left - 1)) (sym goes-to)
-        (going n table lo hi (suc (next .row)) (left - 1) (omega (arith, next .low)) (next .high) (G .legal .small) (omega (arith, G .room)) (G .high))
+        subst (λ (e : RoundRobin). RowsLeft n table e (left - 1)) (sym goes-to)
+        (rows-left n table lo hi (suc (next .row)) (left - 1) (omega (arith, next .low)) (next .high) (G .legal .small) (omega (arith, G .room)) (G .high))
 
     module _ {row : ℕ} (er : row ≡ natAbs (d .cur)) where
       row-is : row ≡ next .row
@@ -122,20 +123,24 @@ module _ {n : ℕ} {table : List Float} (x : List Float) (lower limit : Float) {
               last-is = ap (λ (z : Scan). z .last) es ∙ run-last n table x lower limit many row f k (ap (λ (z : Scan). is-broken (z .viol)) (sym es) ∙ b)
 
               -- the cursor after the last of the rows
-              on : moved d (s .last) ≡ canon lo hi (row + many)
+              on : with-cur d (s .last) ≡ canon lo hi (row + many)
               on = λ i. record { cur = last-is i; lo = goes-to i .lo; hi = goes-to i .hi }
 
               -- of one row, it is where the cursor stands
-              pub one-row : many ≡ 1 → d ≡ moved d (s .last)
+              pub one-row : many ≡ 1 → d ≡ with-cur d (s .last)
               one-row e = goes-to ∙ ap (λ (z : ℕ). canon lo hi z) (let q : suc (next .row) ≡ row + many = omega (arith, row-is) in q) ∙ sym on
 
-              pub still : {e : RoundRobin} → e ≡ moved d (s .last) → Going n table e (left - many)
+              still : {e : RoundRobin} → e ≡ with-cur d (s .last) → RowsLeft n table e (left - many)
               still {e} q =
-                  subst (λ (z : RoundRobin). Going n table z (left - many)) (sym (q ∙ on))
-                  (going n table lo hi (row + many) (left - many) (omega (arith, low)) fits (G .legal .small) (omega (arith, G .room)) (G .high))
+                  subst (λ (z : RoundRobin). RowsLeft n table z (left - many)) (sym (q ∙ on))
+                  (rows-left n table lo hi (row + many) (left - many) (omega (arith, low)) fits (G .legal .small) (omega (arith, G .room)) (G .high))
 
-              pub goes-on : {e : RoundRobin} → e ≡ moved d (s .last) → scan-from n table x lower (Limit limit) (left - many) e (s .fmax) (s .kmax) ≡ whole
+              pub goes-on : {e : RoundRobin} → e ≡ with-cur d (s .last) → scan-from n table x lower (Limit limit) (left - many) e (s .fmax) (s .kmax) ≡ whole
               goes-on {e} q = ap (λ (z : RoundRobin). scan-from n table x lower (Limit limit) (left - many) z (s .fmax) (s .kmax)) (q ∙ on) ∙ after-whole s _ b ∙ opened
+
+              -- both, as the loop has them
+              pub turned : {e : RoundRobin} → e ≡ with-cur d (s .last) → RowsLeft n table e (left - many) × (scan-from n table x lower (Limit limit) (left - many) e (s .fmax) (s .kmax) ≡ whole)
+              turned q = (still q, goes-on q)
 
 -- ---- the start
 
@@ -152,7 +157,7 @@ module _ {n : ℕ} {table x : List Float} {c : RoundRobin} (R : Ready n table x 
   counted : natAbs (c .hi -ℤ c .lo) ≡ hi - lo
   counted = band-count c (R .legal) ∙ (λ i. hi-is i - from-is i)
 
-  pub starts : Going n table c (hi - lo)
+  pub starts : RowsLeft n table c (hi - lo)
   starts = record { legal = R .legal; room = omega (arith, from-is, hi-is); high = R .high }
 
   -- of a band with no rows

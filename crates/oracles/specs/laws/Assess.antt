@@ -3,6 +3,7 @@ use mathlib.Core.Path.{_≡_, refl, sym, ap}
 use mathlib.Core.Bool.{Bool, true, false, not, _&&_, true≢false}
 use mathlib.Core.List.{List}
 use Prim.Native.Nat.{ℕ, _*_, _≤_}
+use native.Mathlib.Nat.{mul-le-mul-right, le-refl}
 use native.Mathlib.Omega.{arith}
 use borrow.Author.Tests.{leb-true, le-leb, eqb-true}
 use lib.Dec.{leb, eqb}
@@ -11,17 +12,19 @@ use lib.IntN.{ℤ, pos, negsuc, natAbs}
 use lib.Signed.{leZ}
 use lib.Ieee.{Float, nan, lt, neg}
 use Rattle.numbers.specs.F64.{0ᶠ}
-use Rattle.numbers.specs.Refusal.{is-fault, ask}
-use Rattle.numbers.specs.Arr.{is-dimension, sized}
-use Rattle.numbers.specs.declared.refusal.Refusal.the-variants.{Dimension, Band}
+use Rattle.numbers.specs.Refusal.{is-fault}
+use Rattle.numbers.specs.Arr.{is-dimension}
 use Rattle.numbers.specs.declared.refusal.Fault.{Fault}
 use Rattle.numbers.specs.declared.refusal.Fault.the-variants.{Sound}
-use Rattle.numbers.specs.laws.Refusal.{both-sound, ask-sound, sound-is, held, at-next, accepts}
+use Rattle.numbers.specs.laws.Refusal.{sound-is, held, at-next, accepts}
 use Rattle.numbers.specs.declared.cut.CutChoice.the-variants.{Single}
 use Rattle.numbers.specs.laws.Pick.{and-parts, by-test}
-use Rattle.oracles.specs.RoundRobin.{is-at, moved}
+use Rattle.numbers.specs.laws.Arr.{dimension-least, dimension-most}
+use Rattle.oracles.specs.RoundRobin.{is-at, with-cur}
 use Rattle.oracles.specs.laws.RoundRobin.{eqZ-true, legal-of, Legal}
-use Rattle.oracles.specs.Scan.{−∞, none, is-rows, table-fits, scan-of, violated, band-beta, band-gradient}
+use Rattle.oracles.specs.Scan.{−∞, none, scan-of, violated, band-beta, band-gradient}
+use Rattle.oracles.specs.Table.{is-rows, table-fits}
+use Rattle.oracles.specs.laws.ScanRows.{Ready, all-hold}
 use Rattle.oracles.specs.LowpassOracle.{−1ᶠ, has-band, bands-fit, cursors-fit, after-pass, after-stop, after-middle, assess-sign, assess-middle, assess-stop, assess-of, oracle-tests, assess-tests, assess-feas-answer}
 use Rattle.oracles.specs.Verdict.{is-accepted}
 use Rattle.oracles.specs.declared.round_robin.RoundRobin.{RoundRobin}
@@ -96,10 +99,8 @@ pub record OracleFits (o : LowpassOracle) (n rows : ℕ) (fit : Bool) : Type 0 w
 module _ (o : LowpassOracle) (n rows : ℕ) (fit : Bool) where
   pub oracle-fits : oracle-tests o n rows fit ≡ Sound → OracleFits o n rows fit
   oracle-fits e =
-      let p = both-sound (sized n fit) _ e in
-      let q = both-sound (ask (is-dimension n) Dimension) _ (p .0) in
-      let r = both-sound (ask (bands-fit o rows) Band) _ (p .1) in
-      record { dimension = ask-sound _ _ _ (q .0); long = ask-sound _ _ _ (q .1); bands = ask-sound _ _ _ (r .0); cursors = ask-sound _ _ _ (r .1) }
+      let h = all-hold _ _ _ _ e in
+      record { dimension = h .0; long = h .1; bands = h .2; cursors = h .3 }
 
   pub fits-oracle : OracleFits o n rows fit → Sound ≡ oracle-tests o n rows fit
   fits-oracle f = at-next (at-next (held _ _ (f .dimension)) (held _ _ (f .long))) (at-next (held _ _ (f .bands)) (held _ _ (f .cursors)))
@@ -138,6 +139,34 @@ pub accepted-is : (o : LowpassOracle) (n rows : ℕ) (table x grad : List Float)
 unfolding assess-feas-answer
 accepted-is o n rows table x grad h = sym (accepts _ _ (assess-tests o n rows table x grad) (sym (sound-is h)) refl)
 
+-- nothing left to refuse: the sizes, and rows that a scan from each of the three cursors can read
+pub record Assessable (o : LowpassOracle) (n : ℕ) (table x grad : List Float) : Type 0 where
+  pub least : 2 ≤ n
+  pub most : n ≤ 32
+  pub x-long : length x ≡ n
+  pub grad-long : length grad ≡ n
+  pub pass-ready : Ready n table x (o .rr1)
+  pub stop-ready : Ready n table x (o .rr3)
+  pub middle-ready : Ready n table x (o .rr2)
+
+pub assessable-of : (o : LowpassOracle) (n rows : ℕ) (table x grad : List Float) → Accepted o n rows table x grad → Assessable o n table x grad
+assessable-of o n rows table x grad a =
+    let F = fit-of o rows (a .bands) (a .cursors) in
+    record {
+      least = dimension-least n (a .dimension);
+      most = dimension-most n (a .dimension);
+      x-long = a .x-long;
+      grad-long = a .grad-long;
+      pass-ready = ready (o .rr1) _ _ (F .pass-rows) (F .pass-high);
+      stop-ready = ready (o .rr3) _ _ (F .stop-rows) (le-refl rows);
+      middle-ready = ready (o .rr2) _ _ (F .middle-rows) (F .middle-high);
+    }
+  where
+    ready : (c : RoundRobin) (from past : ℕ) → Spans c from past → past ≤ rows → Ready n table x c
+    ready c from past S h =
+        let l : S .legal .past ≤ rows = omega (arith, S .past-is) in
+        record { legal = S .legal; high = omega (arith, mul-le-mul-right n l, a .table-long) }
+
 -- ---- the ways of an assessment
 
 -- what holds of both answers holds of the one that is taken
@@ -159,13 +188,13 @@ module _ (o : LowpassOracle) (n : ℕ) (table x : List Float) where
 
   -- the oracle after each scan
   abbrev pub pass-left : LowpassOracle
-  pass-left = after-pass o (pass-scan .last) (moved (o .rr1) (pass-scan .last))
+  pass-left = after-pass o (pass-scan .last) (with-cur (o .rr1) (pass-scan .last))
 
   abbrev pub stop-left : Float → ℤ → LowpassOracle
-  stop-left fmax kmax = after-stop pass-left (stop-scan .last) (moved (o .rr3) (stop-scan .last)) fmax kmax
+  stop-left fmax kmax = after-stop pass-left (stop-scan .last) (with-cur (o .rr3) (stop-scan .last)) fmax kmax
 
   abbrev pub middle-left : Bool → LowpassOracle
-  middle-left more-alt = after-middle (stop-left (stop-scan .fmax) (stop-scan .kmax)) (middle-scan .last) (moved (o .rr2) (middle-scan .last)) more-alt
+  middle-left more-alt = after-middle (stop-left (stop-scan .fmax) (stop-scan .kmax)) (middle-scan .last) (with-cur (o .rr2) (middle-scan .last)) more-alt
 
   -- what holds of each holds of the assessment
   pub assess-cases : (grad : List Float) (P : Assessed × List Float → Type 0)

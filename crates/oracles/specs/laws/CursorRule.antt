@@ -23,12 +23,13 @@ use Rattle.numbers.specs.laws.Pick.{none-some, some-holds}
 use Rattle.numbers.specs.laws.Refusal.{of-test, of-chain, by-tests}
 use Rattle.oracles.specs.laws.RoundRobin.{eqZ-yes}
 use Rattle.oracles.specs.laws.FloatOrder.{only-nan}
-use Rattle.oracles.specs.Scan.{−∞, none, value-of, scan-of, band-beta, table-fits}
+use Rattle.oracles.specs.Scan.{−∞, none, scan-of, band-beta}
+use Rattle.oracles.specs.Table.{value-of, table-fits}
 use Rattle.oracles.specs.laws.Scan.{row-breaks, Found, Passed, found-in, top-in, passed-in, nothing-none, broken-some}
 use Rattle.oracles.specs.LowpassOracle.{offered, assess-of, improved-of, optim-of, oracle-tests, assess-tests, assess-feas-answer, assess-optim-answer}
 use Rattle.oracles.specs.laws.Assess.{Spans, Fit, fit-of, pass-scan, stop-scan, middle-scan, pass-left, stop-left, middle-left, assess-cases, accepted-of, accepted-is}
-use Rattle.oracles.specs.Verdict.{refused, Question, stop-start, value-in, sign-breaks, judge, no-stop-value, asked, is-accepted, judgement, side-breaks, cut-breaks, cut-stands, Has, Peak, FeasRule, as-feas, is-six, is-feasible, OptimRule}
-use Rattle.oracles.specs.laws.Judge.{pass-broken, stop-broken, middle-broken, judge-pass, judge-stop, judge-middle, judge-sign, judge-answers}
+use Rattle.oracles.specs.Verdict.{refused, Question, stop-start, value-in, sign-breaks, pass-broken, stop-broken, middle-broken, judge, no-stop-value, asked, is-accepted, judgement, side-breaks, cut-breaks, cut-stands, Has, Peak, FeasRule, as-feas, is-six, is-feasible, OptimRule}
+use Rattle.oracles.specs.laws.Judge.{judge-pass, judge-stop, judge-middle, judge-sign, judge-none, judge-answers}
 use Rattle.oracles.specs.declared.round_robin.RoundRobin.{RoundRobin}
 use Rattle.oracles.specs.declared.scan.Upper.{Upper}
 use Rattle.oracles.specs.declared.scan.Upper.the-variants.{Absent, Limit}
@@ -143,13 +144,13 @@ module _ (o : LowpassOracle) (n rows : ℕ) (table x : List Float) (F : Fit o ro
 
       on-sign : pass-scan o n table x .viol ≡ Nothing → stop-scan o n table x .viol ≡ Nothing → middle-scan o n table x .viol ≡ Nothing → sign-breaks point ≡ true
           → FeasRule point (record { oracle = middle-left o n table x false; verdict = Cut Sign (Single (neg (getD x 0 nan))) })
-      on-sign e₁ e₂ e₃ e = cut-rule point _ refl (judge-sign point true (pass-clear e₁) (stop-clear e₂) (middle-clear e₃) e) e refl
+      on-sign e₁ e₂ e₃ e = cut-rule point _ refl (judge-sign point (pass-clear e₁) (stop-clear e₂) (middle-clear e₃) e) e refl
 
       on-feasible : pass-scan o n table x .viol ≡ Nothing → stop-scan o n table x .viol ≡ Nothing → middle-scan o n table x .viol ≡ Nothing → sign-breaks point ≡ false
           → FeasRule point (record { oracle = middle-left o n table x false; verdict = Feasible })
       on-feasible e₁ e₂ e₃ e =
           record {
-            verdict-is = sym (judge-sign point false (pass-clear e₁) (stop-clear e₂) (middle-clear e₃) e);
+            verdict-is = sym (judge-none point (pass-clear e₁) (stop-clear e₂) (middle-clear e₃) e);
             cut-is = refl;
             cut-at = refl;
             peak = λ j. peak-of point (o .rr3) (F .stop-rows) e₂;

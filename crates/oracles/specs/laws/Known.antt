@@ -14,7 +14,8 @@ use Rattle.numbers.specs.Cut.{status-number, chosen}
 use Rattle.numbers.specs.EllCalcCore.{core-new, core-parallel-bias-cut-fast, core-bias-cut-fast, core-bias-cut}
 use Rattle.numbers.specs.EllCalc.{made, calc-bias-cut, calc-bias-cut-q, calc-parallel-impl, calc-parallel-bias-cut}
 use Rattle.oracles.specs.RoundRobin.{fresh, advanced}
-use Rattle.oracles.specs.Scan.{−∞, none, value-of, scan-from, scan-of}
+use Rattle.oracles.specs.Scan.{−∞, none, scan-from, scan-of}
+use Rattle.oracles.specs.Table.{value-of}
 use Rattle.oracles.specs.LowpassOracle.{group-number, group-side, assess-sign, assess-middle, assess-stop, assess-of, assess-feas-answer}
 use Rattle.oracles.specs.Matrix.{grid, total}
 use Rattle.oracles.specs.LdltMgr.{get-elem, taken, reduced, stored, stop-from, stop-of, filled, position-of, factor-rows, factor-of, factor-answer, witness-tail, witness-of, witness-answer, quad-term, quad-of, sym-quad-answer}

@@ -3,71 +3,23 @@ use mathlib.Core.Path.{_≡_, refl, sym, ap, _∙_}
 use mathlib.Core.Bool.{Bool, true, false, _||_, true≢false}
 use mathlib.Core.Logic.{_⊎_, inl, inr}
 use mathlib.Core.List.{List}
-use lib.ListN.{length}
-use Prim.Native.Nat.{ℕ, zero, suc, _≤_, _<_, _+_, _-_, _*_}
-use native.Mathlib.Nat.{eq-or-lt-of-le}
+use Prim.Native.Nat.{ℕ, zero, suc, _≤_, _<_, _+_, _-_}
 use native.Mathlib.Decide.{decLt}
 use native.Mathlib.Omega.{arith}
-use lib.IntN.{ℤ, pos, predℤ, natAbs, _-ℤ_}
+use lib.IntN.{ℤ, pos, predℤ}
 use lib.Ieee.{Float, lt, isNan}
 use Rattle.numbers.specs.Pick.{pick, some}
 use Rattle.numbers.specs.laws.Pick.{none-some, some-holds}
-use Rattle.oracles.specs.RoundRobin.{is-band, is-at, moved, advanced}
-use Rattle.oracles.specs.laws.RoundRobin.{canon, legal-canon, adv-next, adv-wrap, band-is, legal-band, legal-at, Legal}
+use Rattle.oracles.specs.RoundRobin.{is-band, is-at, with-cur}
+use Rattle.oracles.specs.laws.RoundRobin.{canon, legal-canon, legal-band, legal-at, Legal}
+use Rattle.oracles.specs.laws.ScanRows.{Ready, band-count, Seen, NextRow, next-row}
 use Rattle.oracles.specs.laws.FloatOrder.{nlt-trans, lt-asym, lt-irrefl, above-compares}
-use Rattle.oracles.specs.Scan.{−∞, none, value-of, is-over, scan-from, scan-of, table-fits, band-fits}
+use Rattle.oracles.specs.Scan.{−∞, none, is-over, scan-from, scan-of}
+use Rattle.oracles.specs.Table.{value-of}
 use Rattle.oracles.specs.declared.round_robin.RoundRobin.{RoundRobin}
 use Rattle.oracles.specs.declared.scan.Upper.{Upper}
 use Rattle.oracles.specs.declared.scan.Violation.the-variants.{Nothing, Broken}
 use Rattle.oracles.specs.declared.scan.Scan.{Scan}
-use Rattle.numbers.specs.Arr.{is-dimension}
-
--- ---- what the inner functions ask for
-
--- rows that a scan from c can read
-pub record Ready (n : ℕ) (table x : List Float) (c : RoundRobin) : Type 0 where
-  pub legal : Legal c
-  pub high : legal .past * n ≤ length table
-
--- a scan with nothing left to refuse
-pub record Scannable (n rows : ℕ) (table x : List Float) (c : RoundRobin) : Type 0 where
-  pub dimension : is-dimension n ≡ true
-  pub long : table-fits n rows table x ≡ true
-  pub band : band-fits rows (c .lo) (c .hi) ≡ true
-  pub at : is-at c ≡ true
-
--- ---- how many rows a scan has, and which
-
--- one for each row of the band
-pub band-count : (c : RoundRobin) (L : Legal c) → natAbs (c .hi -ℤ c .lo) ≡ L .past - L .from
-band-count c L = ap natAbs (band-is c L)
-
--- row i is one of the next `left` rows from k on: before the band's end, or past it and so from the band's start on
-abbrev pub Seen : ℕ → ℕ → ℕ → ℕ → ℕ → Type 0
-Seen from past k left i = ((k ≤ i) × (i < k + left)) ⊎ ((i < k) × (i + (past - from) < k + left))
-
--- where an advance of the cursor whose next row is k leads: to row k, and where k is the band's end to its start;
--- a row that is still to be seen is this one, or is seen after it
-pub record NextRow (from past k : ℕ) : Type 0 where
-  pub row : ℕ
-  pub low : from ≤ row
-  pub high : row < past
-  pub goes : advanced (canon from past k) ≡ canon from past (suc row)
-  pub rest : (left i : ℕ) → from ≤ i → i < past → Seen from past k (suc left) i → (row ≡ i) ⊎ Seen from past (suc row) left i
-
-pub next-row : (from past k : ℕ) → from ≤ k → k ≤ past → from < past → NextRow from past k
-next-row from past k a b some = elim (eq-or-lt-of-le b) [
-  | inl e ↦ record { row = from; low = omega arith; high = some; goes = rw e (adv-wrap from past); rest = λ left i u w h. from-start left i u w e h }
-  | inr l ↦ record { row = k; low = a; high = l; goes = adv-next from past k (λ e. omega arith); rest = λ left i u w h. from-k left i h }
-]
-  where
-    from-start : (left i : ℕ) → from ≤ i → i < past → k ≡ past → Seen from past k (suc left) i → (from ≡ i) ⊎ Seen from past (suc from) left i
-    from-start left i u w e (inl h) = absurd (omega arith)
-    from-start left i u w e (inr h) = elim (eq-or-lt-of-le u) [ inl q ↦ inl q | inr l ↦ inr (inl (l, omega arith)) ]
-
-    from-k : (left i : ℕ) → Seen from past k (suc left) i → (k ≡ i) ⊎ Seen from past (suc k) left i
-    from-k left i (inl h) = elim (eq-or-lt-of-le (h .0)) [ inl q ↦ inl q | inr l ↦ inr (inl (l, omega arith)) ]
-    from-k left i (inr h) = inr (inr (omega arith))
 
 -- ---- one row of a scan
 
@@ -244,11 +196,11 @@ row-breaks n table x lower upper i = is-over upper (value-of n table x i) || lt 
 
 -- the cursor c as a scan leaves it: legal over the same band
 pub record LeftAt (c : RoundRobin) (L : Legal c) (last : ℤ) : Type 0 where
-  pub legal : Legal (moved c last)
+  pub legal : Legal (with-cur c last)
   pub from-is : legal .from ≡ L .from
   pub past-is : legal .past ≡ L .past
-  pub at : is-at (moved c last) ≡ true
-  pub band : is-band (moved c last .lo) (moved c last .hi) ≡ true
+  pub at : is-at (with-cur c last) ≡ true
+  pub band : is-band (with-cur c last .lo) (with-cur c last .hi) ≡ true
 
 module _ (n : ℕ) (table x : List Float) (c : RoundRobin) (lower : Float) (upper : Upper) (L : Legal c) where
   -- it begins at the cursor's next row
@@ -273,9 +225,9 @@ module _ (n : ℕ) (table x : List Float) (c : RoundRobin) (lower : Float) (uppe
 
   -- where the cursor is left, another scan may begin
   pub last-legal : LeftAt c L (scan-of n table x c lower upper .last)
-  last-legal = record { legal = l; from-is = refl; past-is = refl; at = legal-at (moved c (scan-of n table x c lower upper .last)) l; band = legal-band c L }
+  last-legal = record { legal = l; from-is = refl; past-is = refl; at = legal-at (with-cur c (scan-of n table x c lower upper .last)) l; band = legal-band c L }
     where
-      l : Legal (moved c (scan-of n table x c lower upper .last))
+      l : Legal (with-cur c (scan-of n table x c lower upper .last))
       l = record {
         from = L .from;
         past = L .past;
@@ -312,3 +264,9 @@ module _ (n : ℕ) (table x : List Float) (c : RoundRobin) (lower : Float) (uppe
       go : (o : Bool) → (o ≡ true → is-over upper v ≡ true) → (o ≡ false → (is-over upper v ≡ false) × (lt v lower ≡ true)) → (is-over upper v || lt v lower) ≡ true
       go true above below = rw (above refl)
       go false above below = rw (below refl .0) (below refl .1)
+
+-- the rows of a band can be read again after a scan
+pub left-ready : (n : ℕ) (table x : List Float) (c : RoundRobin) (lower : Float) (upper : Upper) → Ready n table x c → Ready n table x (with-cur c (scan-of n table x c lower upper .last))
+left-ready n table x c lower upper R =
+    let l = last-legal n table x c lower upper (R .legal) in
+    record { legal = l .legal; high = rw (l .past-is) (R .high) }

@@ -1,13 +1,12 @@
 -- Rows that a scan looks at one after the other, with no turn of the cursor between them. Definitions only.
-use Prim.Native.Nat.{ℕ, zero, suc, _≤_, _+_, _-_, _*_}
+use Prim.Native.Nat.{ℕ, zero, suc, _≤_, _-_, _*_}
 use mathlib.Core.Bool.{Bool, true, false}
 use mathlib.Core.List.{List}
 use lib.ListN.{length}
 use lib.IntN.{ℤ, pos, predℤ}
 use lib.Ieee.{Float, inf, lt}
 use Rattle.numbers.specs.Pick.{pick}
-use Rattle.numbers.specs.declared.arr.Four.{Four}
-use Rattle.oracles.specs.Scan.{value-of}
+use Rattle.oracles.specs.Table.{value-of}
 use Rattle.oracles.specs.declared.round_robin.RoundRobin.{RoundRobin}
 use Rattle.oracles.specs.declared.scan.Upper.{Upper}
 use Rattle.oracles.specs.declared.scan.Upper.the-variants.{Absent, Limit}
@@ -24,16 +23,6 @@ limit-of (Limit u) = u
 abbrev pub is-broken : Violation → Bool
 is-broken Nothing = false
 is-broken (Broken row value over) = true
-
--- the values of the four rows from row i on
-abbrev pub four-values : ℕ → List Float → List Float → ℕ → Four
-four-values n table x i =
-    record {
-      a = value-of n table x i;
-      b = value-of n table x (i + 1);
-      c = value-of n table x (i + 2);
-      d = value-of n table x (i + 3);
-    }
 
 -- row i with the value v, after the largest value so far and its row, by two tests: whether v lies above the limit, and below the lower one
 abbrev pub tested-by : Bool → Bool → ℕ → Float → Float → ℤ → Scan
@@ -52,8 +41,8 @@ scan-run n table x lower limit (suc count) i fmax kmax =
     let s = judged-of lower limit i (value-of n table x i) fmax kmax in
     pick (is-broken (s .viol)) s (scan-run n table x lower limit count (suc i) (s .fmax) (s .kmax))
 
--- a scan from c with rows left, no more than the band has
-pub record Going (n : ℕ) (table : List Float) (c : RoundRobin) (left : ℕ) : Type 0 where
+-- the part of a band that is left to scan: `left` rows from the cursor c on, no more than the band has, all in the table
+pub record RowsLeft (n : ℕ) (table : List Float) (c : RoundRobin) (left : ℕ) : Type 0 where
   pub legal : Legal c
   pub room : left ≤ legal .past - legal .from
   pub high : legal .past * n ≤ length table

@@ -10,7 +10,8 @@ use Rattle.numbers.specs.Arr.{tab, dot-from, dot-of}
 use Rattle.numbers.specs.declared.refusal.Refusal.the-variants.{Dimension, Band, Position, NoStopValue}
 use Rattle.numbers.specs.declared.arr.Number.the-variants.{Value, Refused as NoNumber}
 use Rattle.oracles.specs.RoundRobin.{fresh, advanced, new-range-answer, advance-answer}
-use Rattle.oracles.specs.Scan.{−∞, none, value-of, scan-from, scan-of}
+use Rattle.oracles.specs.Scan.{−∞, none, scan-from, scan-of}
+use Rattle.oracles.specs.Table.{value-of}
 use Rattle.oracles.specs.LowpassOracle.{assess-sign, assess-middle, assess-stop, assess-of, assess-feas-answer, improved-of, assess-optim-answer}
 use Rattle.oracles.specs.Matrix.{grid, total}
 use Rattle.oracles.specs.LdltMgr.{get-elem, taken, reduced, stored, stop-from, stop-of, filled, position-of, factor-rows, factor-of, factor-answer, witness-tail, witness-of, witness-answer, quad-term, quad-of, sym-quad-answer}

@@ -11,7 +11,8 @@ use lib.Ieee.{Float}
 use Rattle.numbers.specs.laws.Pick.{and-parts}
 use Rattle.numbers.specs.laws.Refusal.{held, accepts}
 use Rattle.oracles.specs.RoundRobin.{is-band, new-range-tests, new-range-answer}
-use Rattle.oracles.specs.Scan.{none, is-rows}
+use Rattle.oracles.specs.Scan.{none}
+use Rattle.oracles.specs.Table.{is-rows}
 use Rattle.oracles.specs.LowpassOracle.{fresh-cur, start-oracle, has-band, bands-fit}
 use Rattle.oracles.specs.declared.lowpass_oracle.LowpassOracle.{LowpassOracle}
 

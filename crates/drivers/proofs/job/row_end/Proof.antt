@@ -8,7 +8,8 @@ use lib.Dec.{leb}
 use mir.Syntax.{w32}
 use mir.Val.{toZ}
 use Rattle.numbers.specs.laws.Pick.{hit, skip, and-parts}
-use Rattle.oracles.specs.Scan.{none, is-rows}
+use Rattle.oracles.specs.Scan.{none}
+use Rattle.oracles.specs.Table.{is-rows}
 use Rattle.drivers.specs.Job.{row-end}
 use Rattle.drivers.proofs.job.Signs.{half-fits, reads-half}
 use Rattle.drivers.proofs.job.row_end.Statement.{statement}

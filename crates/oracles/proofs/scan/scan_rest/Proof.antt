@@ -8,16 +8,16 @@ use mir.Val.{toZ}
 use mir.Facts.{toZ-ofZ}
 use lib.IntN.{ℤ}
 use Rattle.oracles.specs.Scan.{scan-from}
-use Rattle.oracles.specs.laws.ScanRun.{Going}
+use Rattle.oracles.specs.laws.ScanRun.{RowsLeft}
 use Rattle.oracles.specs.declared.scan.Upper.the-variants.{Limit}
 use Rattle.oracles.proofs.Signed.{cur-fits}
-use Rattle.oracles.proofs.scan.Turn.{clear, row-there, legal-there, row-before-past, rows-small, rows-in, ends, still, goes-on}
+use Rattle.oracles.proofs.scan.Turn.{clear, row-there, legal-there, row-before-past, rows-small, rows-in, ends, turned}
 use Rattle.oracles.proofs.scan.scan_rest.Statement.{statement}
 use Rattle.oracles.proofs.scan.scan_rest.Tie as tie
 
 abbrev Inv-loop : tie.InvT-loop
 Inv-loop n table x count lower limit peak peak-row rr₀ fmax₀ kmax₀ left₀ rr fmax kmax left =
-    Going n table rr left × (scan-from n table x lower (Limit limit) left rr fmax (toZ w32 kmax) ≡ scan-from n table x lower (Limit limit) left₀ rr₀ fmax₀ (toZ w32 kmax₀))
+    RowsLeft n table rr left × (scan-from n table x lower (Limit limit) left rr fmax (toZ w32 kmax) ≡ scan-from n table x lower (Limit limit) left₀ rr₀ fmax₀ (toZ w32 kmax₀))
 
 abbrev μ-loop : tie.MeasureT-loop
 μ-loop n table x count lower limit peak peak-row rr₀ fmax₀ kmax₀ left₀ rr fmax kmax left = left
@@ -89,21 +89,19 @@ is-broken-requires c κs = tt
 
 returns : tie.Need-returns Inv-loop μ-loop
 returns c =
-    let b = c .before in
-    let k = b .before in
-    let m = k .before in
-    let p = m .before in
-    let r = p .before in
-    let s = r .before in
+    let k = c .before .before in
+    let p = k .before .before in
+    let s = p .before .before in
     let i = s .before in
     let l = i .before .loop in
     let st = i .before .before .before .before in
     let a = st .args in
-    ends (a .x .now) (a .lower) (a .limit) (l .fmax) (toZ w32 (l .kmax)) (l .inv .0) (l .inv .1) (i .loop-test .taken) (s .step .ensures) (r .row-at .ensures) (p .band-past .ensures) (m .rows-together .ensures .1) (m .rows-together .ensures .2) (k .look-at .ensures) (sym (b .is-broken .ensures) ∙ c .if1 .taken)
+    ends (a .x .now) (a .lower) (a .limit) (l .fmax) (toZ w32 (l .kmax)) (l .inv .0) (l .inv .1) (i .loop-test .taken) (s .step .ensures)
+    (p .before .row-at .ensures) (p .band-past .ensures) (k .before .rows-together .ensures .1) (k .before .rows-together .ensures .2) (k .look-at .ensures) (sym (c .before .is-broken .ensures) ∙ c .if1 .taken)
     ∙ ap (λ (k : ℤ). scan-from (a .n) (a .table .now) (a .x .now) (a .lower) (Limit (a .limit)) (a .count) (a .start) (a .peak) k) (toZ-ofZ (st .fits .peak-row))
 
-moved-requires : tie.Need-moved-requires Inv-loop μ-loop
-moved-requires c κs = tt
+with-cur-requires : tie.Need-with-cur-requires Inv-loop μ-loop
+with-cur-requires c κs = tt
 
 sub-left : tie.Need-sub-left Inv-loop μ-loop
 sub-left c = c .before .before .before .before .before .before .rows-together .ensures .1
@@ -116,22 +114,16 @@ loop-less c =
 loop-again : tie.Need-loop-again Inv-loop μ-loop
 loop-again c =
     let u = c .before .before in
-    let b = u .before .before in
-    let k = b .before in
-    let m = k .before in
-    let p = m .before in
-    let r = p .before in
-    let s = r .before in
+    let k = u .before .before .before in
+    let p = k .before .before in
+    let s = p .before .before in
     let i = s .before in
     let l = i .before .loop in
-    let st = i .before .before .before .before in
-    let a = st .args in
-    let q = sym (b .is-broken .ensures) ∙ u .before .if1 .left in
-    let v = rw (toZ-ofZ (record { sfits = c .before .struct-told2 .given .1 .1 .1 .0 .1 })) at (c .moved .ensures) in (
-      still (a .x .now) (a .lower) (a .limit) (l .fmax) (toZ w32 (l .kmax)) (l .inv .0) (l .inv .1) (i .loop-test .taken) (s .step .ensures) (r .row-at .ensures) (p .band-past .ensures) (m .rows-together .ensures .1) (m .rows-together .ensures .2) (k .look-at .ensures) q v,
-      rw (toZ-ofZ (record { sfits = u .struct-told .given .1 .1 .0 .1 }))
-          (goes-on (a .x .now) (a .lower) (a .limit) (l .fmax) (toZ w32 (l .kmax)) (l .inv .0) (l .inv .1) (i .loop-test .taken) (s .step .ensures) (r .row-at .ensures) (p .band-past .ensures) (m .rows-together .ensures .1) (m .rows-together .ensures .2) (k .look-at .ensures) q v),
-    )
+    let a = i .before .before .before .before .args in
+    let v = rw (toZ-ofZ (record { sfits = c .before .struct-told2 .given .1 .1 .1 .0 .1 })) at (c .with-cur .ensures) in
+    let w = turned (a .x .now) (a .lower) (a .limit) (l .fmax) (toZ w32 (l .kmax)) (l .inv .0) (l .inv .1) (i .loop-test .taken) (s .step .ensures)
+    (p .before .row-at .ensures) (p .band-past .ensures) (k .before .rows-together .ensures .1) (k .before .rows-together .ensures .2) (k .look-at .ensures) (sym (u .before .before .is-broken .ensures) ∙ u .before .if1 .left) v in
+    (w .0, rw (toZ-ofZ (record { sfits = u .struct-told .given .1 .1 .0 .1 })) (w .1))
 
 returns-2 : tie.Need-returns-2 Inv-loop μ-loop
 returns-2 c =
@@ -158,7 +150,7 @@ scan-rest-spec =
     look-at-requires
     is-broken-requires
     returns
-    moved-requires
+    with-cur-requires
     sub-left
     loop-less
     loop-again

@@ -1,15 +1,12 @@
 -- `oracles::lowpass_oracle::LowpassOracle::assess` meets its contract. Assumes nothing.
-use mathlib.Core.Path.{sym, subst}
 use borrow.Author.Needs.{needs}
 use Rattle.oracles.specs.declared.scan.Upper.the-variants.{Limit}
-use Rattle.oracles.specs.declared.lowpass_oracle.LowpassOracle.{LowpassOracle}
-use Rattle.oracles.specs.laws.Scan.{Scannable}
-use Rattle.oracles.proofs.lowpass_oracle.Steps.{nothing-of, least, most, row-fits, pass-passes, pass-breaks}
+use Rattle.oracles.proofs.lowpass_oracle.Steps.{nothing-of, cut-fits, pass-assessable, pass-passes, pass-breaks}
 use Rattle.oracles.proofs.lowpass_oracle.LowpassOracle.assess.Statement.{statement}
 use Rattle.oracles.proofs.lowpass_oracle.LowpassOracle.assess.Tie as tie
 
-scan-ready-requires : tie.Need-scan-ready-requires
-scan-ready-requires c κs = c .before .before .before .before .pre .0
+scan-lent-requires : tie.Need-scan-lent-requires
+scan-lent-requires c κs = c .before .before .before .before .pre .pass-ready
 
 after-pass-requires : tie.Need-after-pass-requires
 after-pass-requires c κs = tt
@@ -17,16 +14,12 @@ after-pass-requires c κs = tt
 enum-told : tie.Need-enum-told
 enum-told c = search needs
 
--- the other two cursors are as they were
 assess-stop-requires : tie.Need-assess-stop-requires
 assess-stop-requires c κs =
     let p = c .before .before .before in
-    let st = p .before .before .before .before .before .before .before .before .before in
-    let a = st .args in (
-      subst (λ (o : LowpassOracle). Scannable (a .n) (a .rows) (a .table .now) (a .x .now) (o .rr3)) (sym (p .after-pass .ensures)) (st .pre .1),
-      subst (λ (o : LowpassOracle). Scannable (a .n) (a .rows) (a .table .now) (a .x .now) (o .rr2)) (sym (p .after-pass .ensures)) (st .pre .2),
-      st .pre .3,
-    )
+    let sr = p .before .before .before .before in
+    let st = sr .before .before .before .before .before in
+    pass-assessable (st .pre) (sr .scan-lent .ensures .0) (sr .scan-lent .ensures .1) (p .after-pass .ensures)
 
 enum-known-viol : tie.Need-enum-known-viol
 enum-known-viol c = search needs
@@ -35,7 +28,7 @@ gradient-into-requires : tie.Need-gradient-into-requires
 gradient-into-requires c κs =
     let sr = c .before .before .before .before .before .before .before .before in
     let st = sr .before .before .before .before .before in
-    (least (st .pre .0), most (st .pre .0), row-fits (st .pre .0) (st .args .self .«lp_sq») (Limit (st .args .self .«up_sq»)) (sr .scan-ready .result .scan) (sr .scan-ready .ensures .0) _ _ _ (c .before .before .viol .given .1), st .pre .3)
+    cut-fits (st .pre) (st .pre .pass-ready) (st .args .self .«lp_sq») (Limit (st .args .self .«up_sq»)) (sr .scan-lent .ensures .0) _ _ _ (c .before .before .viol .given .1)
 
 band-beta-requires : tie.Need-band-beta-requires
 band-beta-requires c κs = tt
@@ -51,7 +44,7 @@ returns c =
     let t = p .before in
     let sr = t .before .before .before in
     let a = sr .before .before .before .before .before .args in
-    let w = sr .scan-ready in
+    let w = sr .scan-lent in
     pass-passes (a .self) (a .n) (a .table .now) (a .x .now) (a .grad .now) (w .result .scan) (w .result .cursor) (record { sfits = t .struct-told .given .1 .1 .1 .0 .1 })
     (p .after-pass .result) (w .ensures .0) (w .ensures .1) (p .after-pass .ensures) (nothing-of _ (mt .match .keys1)) _ (k .assess-stop .ensures)
 
@@ -66,11 +59,11 @@ returns-2 c =
     let t = p .before in
     let sr = t .before .before .before in
     let a = sr .before .before .before .before .before .args in
-    let w = sr .scan-ready in
+    let w = sr .scan-lent in
     pass-breaks (a .self) (a .n) (a .table .now) (a .x .now) (a .grad .now) (w .result .scan) (w .result .cursor) (record { sfits = t .struct-told .given .1 .1 .1 .0 .1 })
     (p .after-pass .result) (w .ensures .0) (w .ensures .1) (p .after-pass .ensures) _ _ _ (v .viol .given .1) _ _ (c .band-beta .ensures, g .gradient-into .ensures)
 
 pub assess-spec : {M : Type 1} → statement M
 assess-spec =
     tie.close
-    (tie.spec scan-ready-requires after-pass-requires enum-told assess-stop-requires enum-known-viol gradient-into-requires band-beta-requires same-length returns same-length-2 returns-2)
+    (tie.spec scan-lent-requires after-pass-requires enum-told assess-stop-requires enum-known-viol gradient-into-requires band-beta-requires same-length returns same-length-2 returns-2)

@@ -9,7 +9,7 @@ use lib.Signed.{leZ}
 use mir.Syntax.{w32}
 use mir.Val.{SFits}
 use mir.Facts.{toZ-ofZ}
-use Rattle.oracles.specs.Scan.{is-rows}
+use Rattle.oracles.specs.Table.{is-rows}
 use Rattle.oracles.specs.LowpassOracle.{has-band, bands-fit}
 use Rattle.oracles.specs.declared.lowpass_oracle.LowpassOracle.{LowpassOracle}
 use Rattle.oracles.proofs.Signed.{read, pos-fits}

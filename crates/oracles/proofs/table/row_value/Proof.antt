@@ -1,4 +1,4 @@
--- `oracles::scan::row_value` meets its contract. Assumes nothing.
+-- `oracles::table::row_value` meets its contract. Assumes nothing.
 use mathlib.Core.Path.{_≡_, refl, ap, _∙_}
 use mathlib.Core.List.{List}
 use Prim.Native.Nat.{ℕ, _+_, _-_, _*_}
@@ -6,10 +6,10 @@ use lib.Ieee.{Float}
 use lib.ListN.{take, drop}
 use Rattle.numbers.specs.Arr.{dot-of}
 use Rattle.numbers.specs.laws.Arr.{row-part}
-use Rattle.oracles.specs.Scan.{value-of}
+use Rattle.oracles.specs.Table.{value-of}
 use borrow.Author.Needs.{needs}
-use Rattle.oracles.proofs.scan.row_value.Statement.{statement}
-use Rattle.oracles.proofs.scan.row_value.Tie as tie
+use Rattle.oracles.proofs.table.row_value.Statement.{statement}
+use Rattle.oracles.proofs.table.row_value.Tie as tie
 
 -- the part from i × n to i × n + n is row i
 row-is : (n : ℕ) (table x : List Float) (i : ℕ) → dot-of (take (i * n + n - i * n) (drop (i * n) table)) x ≡ value-of n table x i

@@ -1,4 +1,4 @@
--- `oracles::scan::four_values` meets its contract. Assumes nothing.
+-- `oracles::table::four_values` meets its contract. Assumes nothing.
 use mathlib.Core.Path.{_≡_, refl, _∙_}
 use mathlib.Core.List.{List}
 use Prim.Native.Nat.{ℕ, _+_, _-_, _*_}
@@ -8,11 +8,10 @@ use lib.ListN.{take, drop}
 use Rattle.numbers.specs.Arr.{dot-of, four-of}
 use Rattle.numbers.specs.laws.Arr.{row-part}
 use Rattle.numbers.specs.declared.arr.Four.{Four}
-use Rattle.oracles.specs.Scan.{value-of}
-use Rattle.oracles.specs.laws.ScanRun.{four-values}
+use Rattle.oracles.specs.Table.{value-of, four-values}
 use borrow.Author.Needs.{needs}
-use Rattle.oracles.proofs.scan.four_values.Statement.{statement}
-use Rattle.oracles.proofs.scan.four_values.Tie as tie
+use Rattle.oracles.proofs.table.four_values.Statement.{statement}
+use Rattle.oracles.proofs.table.four_values.Tie as tie
 
 -- four rows, each from its part of the table
 values : (n : ℕ) (table x : List Float) (i : ℕ) {r : Four}

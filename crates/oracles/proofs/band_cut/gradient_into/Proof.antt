@@ -1,4 +1,4 @@
--- `oracles::lowpass_oracle::gradient_into` meets its contract. Assumes nothing.
+-- `oracles::band_cut::gradient_into` meets its contract. Assumes nothing.
 use mathlib.Core.Path.{_≡_, refl, sym, ap, _∙_}
 use mathlib.Core.Bool.{Bool, true, false, _&&_}
 use mathlib.Core.List.{List, map}
@@ -15,8 +15,8 @@ use Rattle.numbers.specs.declared.arr.Written.{Written}
 use Rattle.numbers.specs.laws.Pick.{hit, skip}
 use Rattle.oracles.specs.Scan.{band-gradient}
 use borrow.Author.Needs.{needs}
-use Rattle.oracles.proofs.lowpass_oracle.gradient_into.Statement.{statement}
-use Rattle.oracles.proofs.lowpass_oracle.gradient_into.Tie as tie
+use Rattle.oracles.proofs.band_cut.gradient_into.Statement.{statement}
+use Rattle.oracles.proofs.band_cut.gradient_into.Tie as tie
 
 -- the part that is lent is the row
 row-is : (n row : ℕ) (table : List Float) → take (row * n + n - row * n) (drop (row * n) table) ≡ row-of n table row

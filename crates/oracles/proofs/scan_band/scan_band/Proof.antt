@@ -1,4 +1,4 @@
--- `oracles::scan::scan_band` meets its contract: a walk of its MIR. The cursor's borrow is opened, and stays open over the call of `scan_by_value`, which takes a copy of
+-- `oracles::scan_band::scan_band` meets its contract: a walk of its MIR. The cursor's borrow is opened, and stays open over the call of `scan_by_value`, which takes a copy of
 -- the cursor; the cursor that comes back is stored, and the borrow is closed at it. At exit only the cursor's borrow is had: of every other parameter nothing is kept
 -- (`stay-dropped`), so what the slices own goes to the callee for good.
 -- Assumes nothing.
@@ -58,14 +58,14 @@ use Rattle.oracles.proofs.scan.ScanAnswer as R
 use Rattle.oracles.proofs.scan.ScanAnswer.Laws as R′
 use Rattle.oracles.proofs.scan.ScanEnd as S
 use Rattle.oracles.proofs.scan.ScanEnd.Laws as S′
-use Rattle.oracles.proofs.scan.scan_by_value as g
-use Rattle.oracles.proofs.scan.scan_by_value.Symbol as g-def
-use Rattle.oracles.proofs.scan.scan_by_value.Symbol.{name as #scan-by-value}
-use Rattle.oracles.proofs.scan.scan_by_value.Met as g-thm
-use Rattle.oracles.proofs.scan.scan_band.Key.{name as #scan-band}
-use Rattle.oracles.proofs.scan.scan_band as f
-use Rattle.oracles.proofs.scan.scan_band.Statement as stated
-use Rattle.oracles.proofs.scan.scan_band.Code as code
+use Rattle.oracles.proofs.scan_band.scan_by_value as g
+use Rattle.oracles.proofs.scan_band.scan_by_value.Symbol as g-def
+use Rattle.oracles.proofs.scan_band.scan_by_value.Symbol.{name as #scan-by-value}
+use Rattle.oracles.proofs.scan_band.scan_by_value.Met as g-thm
+use Rattle.oracles.proofs.scan_band.scan_band.Key.{name as #scan-band}
+use Rattle.oracles.proofs.scan_band.scan_band as f
+use Rattle.oracles.proofs.scan_band.scan_band.Statement as stated
+use Rattle.oracles.proofs.scan_band.scan_band.Code as code
 
 -- nothing is kept but the cursor's borrow
 abbrev stayed : Stays (f.ended .signature .params) (f.ended .kept)
@@ -233,4 +233,4 @@ scan-band-spec 𝓤 H 𝓜 𝓖 𝓡 =
     entered 𝓤 H (tripleOf 𝓤 H (𝓖 .A) f.signature (f.spec 𝓤 H (𝓖 .A) (𝓜 .mem) (𝓡 .run)))
     (tables 𝓤 H 𝓜 𝓡 code.env .C) (tables 𝓤 H 𝓜 𝓡 code.env .Λ) #scan-band code.function (code.unfolded 𝓤 H 𝓜 𝓡)
     (scan-band-meets 𝓤 H (𝓖 .A) (givenOf 𝓤 H 𝓜 𝓖) (𝓜 .mem) (𝓡 .run) (tablesOf 𝓤 H 𝓜 (tables 𝓤 H 𝓜 𝓡 code.env))
-    (cited 𝓤 H (ByValue 𝓤 H (𝓖 .A) (𝓜 .mem) (𝓡 .run)) 𝓜 𝓡 code.env #scan-by-value g-def.routine code.calls-oracles·scan·scan-by-value (g-thm.met 𝓤 H 𝓜 𝓖 𝓡)))
+    (cited 𝓤 H (ByValue 𝓤 H (𝓖 .A) (𝓜 .mem) (𝓡 .run)) 𝓜 𝓡 code.env #scan-by-value g-def.routine code.calls-oracles·scan-band·scan-by-value (g-thm.met 𝓤 H 𝓜 𝓖 𝓡)))

@@ -1,4 +1,4 @@
--- `oracles::scan::band_fits` meets its contract. Assumes nothing.
+-- `oracles::scan_band::band_fits` meets its contract. Assumes nothing.
 use mathlib.Core.Path.{_≡_, sym, _∙_}
 use mathlib.Core.Bool.{Bool, true, false, not, _&&_}
 use Prim.Native.Nat.{ℕ}
@@ -10,10 +10,11 @@ use mir.Syntax.{w32}
 use mir.Val.{SFits, toZ, ofZ}
 use mir.Facts.{toZ-ofZ}
 use Rattle.oracles.specs.RoundRobin.{is-band}
-use Rattle.oracles.specs.Scan.{is-rows, band-fits}
+use Rattle.oracles.specs.Scan.{band-fits}
+use Rattle.oracles.specs.Table.{is-rows}
 use Rattle.oracles.proofs.Signed.{read, pos-fits}
-use Rattle.oracles.proofs.scan.band_fits.Statement.{statement}
-use Rattle.oracles.proofs.scan.band_fits.Tie as tie
+use Rattle.oracles.proofs.scan_band.band_fits.Statement.{statement}
+use Rattle.oracles.proofs.scan_band.band_fits.Tie as tie
 use Rattle.numbers.specs.laws.Pick.{and-parts}
 
 module _ (rows : ℕ) (lo hi : ℤ) {t : Bool} (e : t ≡ is-rows rows) where

@@ -1,4 +1,4 @@
--- `oracles::lowpass_oracle::negate_into` meets its contract. The invariant: the loop has written the entries below i. Assumes nothing.
+-- `oracles::band_cut::negate_into` meets its contract. The invariant: the loop has written the entries below i. Assumes nothing.
 use mathlib.Core.Path.{_≡_, refl, sym, _∙_}
 use mathlib.Core.List.{List, map}
 use Prim.Native.Nat.{ℕ, _-_}
@@ -7,8 +7,8 @@ use lib.Ieee.{Float, nan, neg}
 use Rattle.numbers.specs.Arr.{tab}
 use Rattle.numbers.specs.laws.Arr.{FilledTo, filled-start, filled-turn, filled-done, tab-ext}
 use borrow.Author.Needs.{needs}
-use Rattle.oracles.proofs.lowpass_oracle.negate_into.Statement.{statement}
-use Rattle.oracles.proofs.lowpass_oracle.negate_into.Tie as tie
+use Rattle.oracles.proofs.band_cut.negate_into.Statement.{statement}
+use Rattle.oracles.proofs.band_cut.negate_into.Tie as tie
 
 -- the table of a row's negated entries is the row negated
 negated : (row : List Float) (n : ℕ) → n ≡ length row → tab (λ k. neg (getD row k nan)) n ≡ map neg row

@@ -1,4 +1,4 @@
--- `oracles::lowpass_oracle::band_beta` meets its contract. Assumes nothing.
+-- `oracles::band_cut::band_beta` meets its contract. Assumes nothing.
 use mathlib.Core.Path.{_≡_, refl, sym, ap, _∙_}
 use mathlib.Core.Bool.{Bool}
 use mathlib.Core.List.{[], _∷_}
@@ -15,8 +15,8 @@ use Rattle.oracles.specs.declared.scan.Upper.{Upper}
 use Rattle.oracles.specs.declared.scan.Upper.the-variants.{Absent, Limit}
 use Rattle.oracles.proofs.scan.Upper as B
 use Rattle.oracles.specs.Scan.{band-beta}
-use Rattle.oracles.proofs.lowpass_oracle.band_beta.Statement.{statement}
-use Rattle.oracles.proofs.lowpass_oracle.band_beta.Tie as tie
+use Rattle.oracles.proofs.band_cut.band_beta.Statement.{statement}
+use Rattle.oracles.proofs.band_cut.band_beta.Tie as tie
 
 -- a limit with the key 0 is absent
 single : (v : Float) (over : Bool) (lower : Float) (upper : Upper) → OneOf (0 ∷ []) (tagOf B.the-type upper) → Single (lower ⊖ v) ≡ band-beta v over lower upper

@@ -1,4 +1,4 @@
--- `oracles::scan::table_fits` meets its contract: the quotient is rows and the remainder 0 exactly where the length is rows × n. Assumes nothing.
+-- `oracles::table::table_fits` meets its contract: the quotient is rows and the remainder 0 exactly where the length is rows × n. Assumes nothing.
 use mathlib.Core.Path.{_≡_, refl, ap}
 use mathlib.Core.Bool.{Bool, true, false, _&&_}
 use Prim.Native.Nat.{ℕ, _≤_, _<_, _+_, _*_, _/_, _%_}
@@ -7,8 +7,8 @@ use native.Mathlib.Omega.{arith}
 use borrow.Author.Tests.{leb-true, eqb-true, eqb-false, eq-eqb}
 use borrow.Author.Needs.{needs}
 use lib.Dec.{leb, eqb}
-use Rattle.oracles.proofs.scan.table_fits.Statement.{statement}
-use Rattle.oracles.proofs.scan.table_fits.Tie as tie
+use Rattle.oracles.proofs.table.table_fits.Statement.{statement}
+use Rattle.oracles.proofs.table.table_fits.Tie as tie
 use Rattle.numbers.specs.laws.Pick.{and-parts}
 
 divides : (t n rows : ℕ) → 0 < n → (eqb (t / n) rows && eqb (t % n) 0) ≡ eqb t (rows * n)
