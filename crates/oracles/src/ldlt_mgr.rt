@@ -1,4 +1,5 @@
 // The factorization A = L D Lᵀ of a matrix of order m, and what proves that it is not positive definite (ldlt_mgr.rs).
+use crate::matrix::at;
 use numbers::arr::Number;
 use numbers::refusal::Refusal;
 ghost use mathlib.Core.Path.{_≡_};
@@ -27,14 +28,6 @@ pub fn is_order(m: usize) -> bool
     ensures { λ r. ⌜ r ≡ is-order m ⌝ }
 {
     1 <= m && m <= 32
-}
-
-// Entry (i, j) of a matrix (`at` of arr.rs).
-pub(crate) fn at(m: usize, mat: &[f64], i: usize, j: usize) -> f64
-    requires { ⌜ (m ≤ 32) × (i < m) × (j < m) × (length (now mat) ≡ m * m) ⌝ }
-    ensures { λ r. ⌜ r ≡ at m (now (mat .entry)) i j ⌝ }
-{
-    mat[i * m + j]
 }
 
 // The LMI's entry (i, j); with an empty xc it is mat_b's own.

@@ -1,10 +1,10 @@
 // The LMI assessment: is mat_b − Σ xc[k] mat_f[k] positive definite (lmi_oracle.rs, lmi_oracle_base.rs)?
 use crate::ldlt_mgr::Pos;
-use crate::ldlt_mgr::at;
 use crate::ldlt_mgr::factor_rows;
 use crate::ldlt_mgr::is_order;
 use crate::ldlt_mgr::quad;
 use crate::ldlt_mgr::witness_into;
+use crate::matrix::at;
 use numbers::arr::is_dimension;
 use numbers::cut::CutChoice;
 use numbers::refusal::Refusal;

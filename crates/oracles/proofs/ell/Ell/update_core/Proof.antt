@@ -3,11 +3,11 @@ use borrow.Author.Needs.{needs}
 use Rattle.oracles.proofs.ell.Ell.update_core.Statement.{statement}
 use Rattle.oracles.proofs.ell.Ell.update_core.Tie as tie
 
-cut-requires : tie.Need-cut-requires
-cut-requires c κs = search needs
+change-requires : tie.Need-change-requires
+change-requires c κs = search needs
 
-after-requires : tie.Need-after-requires
-after-requires c κs = tt
+changed-requires : tie.Need-changed-requires
+changed-requires c κs = tt
 
 answer-requires : tie.Need-answer-requires
 answer-requires c κs = tt
@@ -22,14 +22,14 @@ same-length-3 : tie.Need-same-length-3
 same-length-3 c = search needs
 
 returns : tie.Need-returns
-returns c = rw (c .answer .ensures, c .before .after .ensures) (c .before .before .before .before .before .before .before .before .cut .ensures)
+returns c = rw (c .answer .ensures, c .before .changed .ensures) (c .before .before .before .before .before .before .before .before .change .ensures)
 
 pub update-core-spec : {M : Type 1} → statement M
 update-core-spec =
     tie.close
     (tie.spec
-    cut-requires
-    after-requires
+    change-requires
+    changed-requires
     answer-requires
     same-length
     same-length-2

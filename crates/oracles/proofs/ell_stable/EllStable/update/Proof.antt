@@ -1,7 +1,8 @@
 -- `oracles::ell_stable::EllStable::update` meets its contract. Assumes nothing.
 use mathlib.Core.Path.{_∙_}
 use borrow.Author.Needs.{needs}
-use Rattle.oracles.proofs.ell_stable.Laws.{no-effect, fails, succeeds}
+use Rattle.oracles.specs.EllStable.{stable-buffers}
+use Rattle.oracles.proofs.ell_stable.Laws.{stable-no-effect, stable-fails, stable-succeeds}
 use Rattle.oracles.proofs.ell_stable.EllStable.update.Statement.{statement}
 use Rattle.oracles.proofs.ell_stable.EllStable.update.Tie as tie
 
@@ -31,10 +32,10 @@ returns c =
     let i = c .before .before .before .before .before .before .before .before .before .before .before .before .before .before .before .before .before .before .before .before .before .before .before in
     let a = i .args in
     let p = c .before .before .before .before .before .before .before .before .before .before .before .prepare in
-    no-effect (a .self) (a .strategy) (a .grad .now) (a .beta)
-    (record { mq = a .mq .now; xc = a .xc .now; inv-ml-g = a .inv-ml-g .now; inv-md-inv-ml-g = a .inv-md-inv-ml-g .now; gg-t = a .gg-t .now; g-t = a .g-t .now })
-    (p .result) _ _ _ _ _ (p .ensures) (c .before .before .is-tiny .ensures)
-    (c .said .result) (c .before .if1 .taken) (c .said .ensures)
+    stable-no-effect (a .self) (a .strategy) (a .grad .now) (a .beta)
+    (stable-buffers (a .mq .now) (a .xc .now) (a .inv-ml-g .now) (a .inv-md-inv-ml-g .now) (a .gg-t .now) (a .g-t .now))
+    (c .said .result) (p .result) _ _ _ _ _ (p .ensures) (c .before .before .is-tiny .ensures)
+    (c .before .if1 .taken) (c .said .ensures)
 
 calc-requires : tie.Need-calc-requires
 calc-requires c κs = search needs
@@ -62,17 +63,17 @@ returns-2 c =
     let i = c .before .before .before .before .before .before .before .before .before .before .before .before .before .before .before .before .before .before .before .before .before .before .before .before .before .before .before .before in
     let a = i .args in
     let p = c .before .before .before .before .before .before .before .before .before .before .before .before .before .before .before .before .prepare in
-    fails (a .self) (a .strategy) (a .grad .now) (a .beta)
-    (record { mq = a .mq .now; xc = a .xc .now; inv-ml-g = a .inv-ml-g .now; inv-md-inv-ml-g = a .inv-md-inv-ml-g .now; gg-t = a .gg-t .now; g-t = a .g-t .now })
-    (p .result) _ _ _ _ _ (p .ensures) (c .before .before .before .before .before .before .before .is-tiny .ensures)
+    stable-fails (a .self) (a .strategy) (a .grad .now) (a .beta)
+    (stable-buffers (a .mq .now) (a .xc .now) (a .inv-ml-g .now) (a .inv-md-inv-ml-g .now) (a .gg-t .now) (a .g-t .now))
+    (c .said2 .result) (p .result) _ _ _ _ _ (p .ensures) (c .before .before .before .before .before .before .before .is-tiny .ensures)
     (c .before .before .before .calc .result) _ (c .before .before .before .calc .ensures) (c .before .before .is-success .ensures) (c .before .before .before .before .before .before .if1 .left)
-    (c .said2 .result) (c .before .if2 .taken) (c .said2 .ensures)
+    (c .before .if2 .taken) (c .said2 .ensures)
 
 succeed-requires : tie.Need-succeed-requires
 succeed-requires c κs =
     let i = c .before .before .before .before .before .before .before .before .before .before .before .before .before .before .before .before .before .before .before .before .before .before .before .before .before .before .before .before .before .before .before .before in
     let p = c .before .before .before .before .before .before .before .before .before .before .before .before .before .before .before .before .before .before .before .before .prepare in
-    (i .pre .0, i .pre .1, p .kept .1 .1 .0 ∙ i .pre .2, i .pre .3, p .kept .1 .1 .1 .1 .0 ∙ i .pre .5, i .pre .7)
+    (i .pre .0, i .pre .1, p .kept .1 .1 .0 ∙ i .pre .2 .mq-long, i .pre .2 .xc-long, p .kept .1 .1 .1 .1 .0 ∙ i .pre .2 .inv-md-inv-ml-g-long, i .pre .2 .g-t-long)
 
 said-requires-3 : tie.Need-said-requires-3
 said-requires-3 c κs = search needs
@@ -103,11 +104,11 @@ returns-3 c =
     let a = i .args in
     let p = c .before .before .before .before .before .before .before .before .before .before .before .before .before .before .before .before .before .before .before .before .before .before .before .before .before .before .before .before .before .before .prepare in
     let k = c .before .before .before .before .before .before .before .before .before .before .before .before .before .before .before .before .before .calc in
-    succeeds (a .self) (a .strategy) (a .grad .now) (a .beta)
-    (record { mq = a .mq .now; xc = a .xc .now; inv-ml-g = a .inv-ml-g .now; inv-md-inv-ml-g = a .inv-md-inv-ml-g .now; gg-t = a .gg-t .now; g-t = a .g-t .now })
-    (p .result) _ _ _ _ _ (p .ensures) (c .before .before .before .before .before .before .before .before .before .before .before .before .before .before .before .before .before .before .before .before .before .is-tiny .ensures)
+    stable-succeeds (a .self) (a .strategy) (a .grad .now) (a .beta)
+    (stable-buffers (a .mq .now) (a .xc .now) (a .inv-ml-g .now) (a .inv-md-inv-ml-g .now) (a .gg-t .now) (a .g-t .now))
+    (c .said3 .result) (p .result) _ _ _ _ _ (p .ensures) (c .before .before .before .before .before .before .before .before .before .before .before .before .before .before .before .before .before .before .before .before .before .is-tiny .ensures)
     (k .result) _ (k .ensures) (c .before .before .before .before .before .before .before .before .before .before .before .before .before .before .before .before .is-success .ensures) (c .before .before .before .before .before .before .before .before .before .before .before .before .before .before .before .before .before .before .before .before .if1 .left)
-    (c .said3 .result) _ _ _ (c .before .before .before .before .before .before .before .before .before .before .before .before .before .before .before .if2 .left) (c .before .before .before .before .before .before .before .before .before .succeed .ensures) (c .said3 .ensures)
+    _ _ _ (c .before .before .before .before .before .before .before .before .before .before .before .before .before .before .before .if2 .left) (c .before .before .before .before .before .before .before .before .before .succeed .ensures) (c .said3 .ensures)
 
 pub update-spec : {M : Type 1} → statement M
 update-spec =

@@ -3,6 +3,7 @@ use mathlib.Core.Path.{refl, _∙_}
 use Rattle.numbers.specs.laws.Arr.{dimension-most}
 use Rattle.numbers.specs.laws.Pick.{says-no, says-yes}
 use Rattle.numbers.specs.laws.Refusal.{failed, held, at-first, at-next, refuses, accepts}
+use Rattle.oracles.specs.EllStable.{stable-buffers, stable-update-of}
 use Rattle.oracles.proofs.ell_stable.Laws.{unfit, fit-by, lengths-known}
 use Rattle.oracles.proofs.ell_stable.EllStable.update_core.Statement.{statement}
 use Rattle.oracles.proofs.ell_stable.EllStable.update_core.Tie as tie
@@ -55,9 +56,11 @@ returns-3 c =
 
 update-requires : tie.Need-update-requires
 update-requires c κs =
-    lengths-known _ _ _ _ _ _ _ _ (says-yes _ _ (c .before .before .before .before .before .before .before .before .before .before .before .before .before .before .before .is-dimension .ensures) (c .before .before .before .before .before .before .before .before .before .before .before .before .before .before .if1 .left))
+    let a = c .before .before .before .before .before .before .before .before .before .before .before .before .before .before .before .before .before .before .before .before .before .before .before .args in
+    let k = lengths-known _ (a .grad .now) (stable-buffers (a .mq .now) (a .xc .now) (a .inv-ml-g .now) (a .inv-md-inv-ml-g .now) (a .gg-t .now) (a .g-t .now))
     (says-yes _ _ (c .before .before .before .before .before .before .before .before .before .before .before .before .before .lengths-fit .ensures) (c .before .before .before .before .before .before .before .before .before .before .before .before .if2 .left))
-    (says-yes _ _ (c .before .before .before .before .before .before .before .scratch-fits .ensures) (c .before .before .before .before .before .before .if3 .left))
+    (says-yes _ _ (c .before .before .before .before .before .before .before .scratch-fits .ensures) (c .before .before .before .before .before .before .if3 .left)) in
+    (says-yes _ _ (c .before .before .before .before .before .before .before .before .before .before .before .before .before .before .before .is-dimension .ensures) (c .before .before .before .before .before .before .before .before .before .before .before .before .before .before .if1 .left), k .0, k .1)
 
 same-length-5 : tie.Need-same-length-5
 same-length-5 c = c .before .before .before .before .before .before .before .before .before .before .before .before .update .kept .1 .1 .1 .1 .0
@@ -78,6 +81,7 @@ same-length-10 : tie.Need-same-length-10
 same-length-10 c = c .before .before .before .before .before .before .before .before .before .before .before .before .update .kept .1 .1 .1 .1 .1 .1 .1 .1 .1 .0
 
 returns-4 : tie.Need-returns-4
+unfolding stable-update-of
 returns-4 c =
     c .before .before .before .before .before .before .before .before .before .before .before .before .update .ensures
     ∙ accepts _ _ _

@@ -1,13 +1,13 @@
--- `oracles::ell_stable::backward` meets its contract. The invariant: the entries from i on are solved. Assumes nothing.
+-- `oracles::ell_factors::backward` meets its contract. The invariant: the entries from i on are solved. Assumes nothing.
 use mathlib.Core.Path.{_≡_}
 use mathlib.Core.List.{_++_}
 use Prim.Native.Nat.{_-_, _<_}
 use borrow.Author.Needs.{needs}
 use lib.ListN.{length, take}
 use Rattle.oracles.specs.EllStable.{backward}
-use Rattle.oracles.proofs.ell_stable.Laws.{back-rows-start, back-rows-turn, back-rows-done}
-use Rattle.oracles.proofs.ell_stable.backward.Statement.{statement}
-use Rattle.oracles.proofs.ell_stable.backward.Tie as tie
+use Rattle.oracles.proofs.ell_factors.Laws.{back-rows-start, back-rows-turn, back-rows-done}
+use Rattle.oracles.proofs.ell_factors.backward.Statement.{statement}
+use Rattle.oracles.proofs.ell_factors.backward.Tie as tie
 
 abbrev Inv-loop : tie.InvT-loop
 Inv-loop n mq q₀ i₀ q i = (i < n) × (length q ≡ n) × (q ≡ take i q₀ ++ backward n mq q₀ (n - i))

@@ -1,13 +1,13 @@
--- `oracles::ell::Ell::said` meets its contract. Assumes nothing.
+-- `oracles::ell::said` meets its contract. Assumes nothing.
 use mathlib.Core.Path.{refl}
-use Rattle.oracles.proofs.ell.Ell.said.Statement.{statement}
-use Rattle.oracles.proofs.ell.Ell.said.Tie as tie
+use Rattle.oracles.proofs.ell.said.Statement.{statement}
+use Rattle.oracles.proofs.ell.said.Tie as tie
 
 outcome-of-requires : tie.Need-outcome-of-requires
 outcome-of-requires c κs = tt
 
 returns : tie.Need-returns
-returns c = rw (c .outcome-of .ensures) refl
+returns c = λ b. rw (c .outcome-of .ensures) refl
 
 pub said-spec : {M : Type 1} → statement M
 said-spec = tie.close (tie.spec outcome-of-requires returns)

@@ -1,9 +1,9 @@
--- `oracles::ldlt_mgr::at` meets its contract. Assumes nothing.
+-- `oracles::matrix::at` meets its contract. Assumes nothing.
 use native.Mathlib.Omega.{arith}
 use borrow.Author.Needs.{needs}
 use Rattle.oracles.specs.laws.Matrix.{row-small, place-in}
-use Rattle.oracles.proofs.ldlt_mgr.at.Statement.{statement}
-use Rattle.oracles.proofs.ldlt_mgr.at.Tie as tie
+use Rattle.oracles.proofs.matrix.at.Statement.{statement}
+use Rattle.oracles.proofs.matrix.at.Tie as tie
 
 mul-result : tie.Need-mul-result
 mul-result c = omega (arith, row-small (c .args .m) (c .args .i) (search needs) (search needs))

@@ -1,4 +1,4 @@
--- `oracles::ell_stable::forward_row` meets its contract. The invariant: the first j products are stored in the row, and taken from the start. Assumes nothing.
+-- `oracles::ell_factors::forward_row` meets its contract. The invariant: the first j products are stored in the row, and taken from the start. Assumes nothing.
 use mathlib.Core.Path.{_≡_, refl}
 use Prim.Native.Nat.{_-_, _≤_}
 use native.Mathlib.Omega.{arith}
@@ -8,8 +8,8 @@ use Rattle.oracles.specs.Matrix.{nth, total}
 use Rattle.oracles.specs.laws.Matrix.{total-turn, total-at}
 use Rattle.oracles.specs.laws.Loop.{VectorOf, swept, sweep-zero, sweep-turn, sweep-done}
 use borrow.Author.Needs.{needs}
-use Rattle.oracles.proofs.ell_stable.forward_row.Statement.{statement}
-use Rattle.oracles.proofs.ell_stable.forward_row.Tie as tie
+use Rattle.oracles.proofs.ell_factors.forward_row.Statement.{statement}
+use Rattle.oracles.proofs.ell_factors.forward_row.Tie as tie
 
 abbrev Inv-loop : tie.InvT-loop
 Inv-loop row₀ column w start s₀ j₀ row s j = (j ≤ length row₀) × VectorOf (length row₀) (swept (λ k. nth column k ⊗ nth w k) (λ k. nth row₀ k) j) row × (s ≡ total _⊖_ start (λ k. nth column k ⊗ nth w k) j)

@@ -1,4 +1,4 @@
--- `oracles::ell_stable::forward` meets its contract. The invariant: the rows below i are solved, and their products stored. Row i is lent, and comes back in its place.
+-- `oracles::ell_factors::forward` meets its contract. The invariant: the rows below i are solved, and their products stored. Row i is lent, and comes back in its place.
 -- Assumes nothing.
 use mathlib.Core.Path.{_≡_}
 use Prim.Native.Nat.{_-_}
@@ -8,9 +8,9 @@ use lib.ListN.{length}
 use Rattle.numbers.specs.laws.Arr.{row-in}
 use Rattle.oracles.specs.laws.Matrix.{row-small}
 use Rattle.oracles.specs.laws.Loop.{VectorOf, MatrixOf, sweep-done}
-use Rattle.oracles.proofs.ell_stable.Laws.{lowered-to, solved, lowered-start, solved-start, row-fits, lowered-turn, solved-turn, lowered-done}
-use Rattle.oracles.proofs.ell_stable.forward.Statement.{statement}
-use Rattle.oracles.proofs.ell_stable.forward.Tie as tie
+use Rattle.oracles.proofs.ell_factors.Laws.{lowered-to, solved, lowered-start, solved-start, row-fits, lowered-turn, solved-turn, lowered-done}
+use Rattle.oracles.proofs.ell_factors.forward.Statement.{statement}
+use Rattle.oracles.proofs.ell_factors.forward.Tie as tie
 
 abbrev Inv-loop : tie.InvT-loop
 Inv-loop n mq₀ w₀ column₀ i₀ mq w column i = MatrixOf n (lowered-to n mq₀ w₀ i) mq × VectorOf n (solved n mq₀ w₀ i) w × (length column ≡ n)

@@ -1,4 +1,4 @@
--- `oracles::ell_stable::update_row` meets its contract. The invariant: the entries below l are written. Assumes nothing.
+-- `oracles::ell_factors::update_row` meets its contract. The invariant: the entries below l are written. Assumes nothing.
 use mathlib.Core.Path.{refl, _∙_}
 use Prim.Native.Nat.{_-_, _<_}
 use native.Mathlib.Omega.{arith}
@@ -8,9 +8,9 @@ use lib.Dec.{eqb}
 use lib.ListN.{length, length-set}
 use Rattle.oracles.specs.Matrix.{nth}
 use Rattle.oracles.specs.laws.Loop.{VectorOf, swept, sweep-start, sweep-left, sweep-turn, sweep-done}
-use Rattle.oracles.proofs.ell_stable.Laws.{updated-from, row-done}
-use Rattle.oracles.proofs.ell_stable.update_row.Statement.{statement}
-use Rattle.oracles.proofs.ell_stable.update_row.Tie as tie
+use Rattle.oracles.proofs.ell_factors.Laws.{updated-from, row-done}
+use Rattle.oracles.proofs.ell_factors.update_row.Statement.{statement}
+use Rattle.oracles.proofs.ell_factors.update_row.Tie as tie
 use Rattle.numbers.specs.laws.Pick.{hit, skip}
 
 abbrev Inv-loop : tie.InvT-loop

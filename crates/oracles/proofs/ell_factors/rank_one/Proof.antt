@@ -1,4 +1,4 @@
--- `oracles::ell_stable::rank_one` meets its contract. The invariant: the rows below j are done, and their columns taken from v. Row j is lent from its diagonal on.
+-- `oracles::ell_factors::rank_one` meets its contract. The invariant: the rows below j are done, and their columns taken from v. Row j is lent from its diagonal on.
 -- Assumes nothing.
 use mathlib.Core.Path.{_≡_, refl}
 use Prim.Native.Nat.{_-_, _≤_}
@@ -9,9 +9,9 @@ use Rattle.oracles.specs.Matrix.{total}
 use Rattle.oracles.specs.laws.Matrix.{row-small}
 use Rattle.oracles.specs.laws.Loop.{VectorOf, MatrixOf, by-zero}
 use Rattle.oracles.specs.laws.EllStable.{t-after}
-use Rattle.oracles.proofs.ell_stable.Laws.{factored-to, columns-to, columns-start, columns-turn, parts-fit, t-turn, factored-turn, factored-done, columns-done}
-use Rattle.oracles.proofs.ell_stable.rank_one.Statement.{statement}
-use Rattle.oracles.proofs.ell_stable.rank_one.Tie as tie
+use Rattle.oracles.proofs.ell_factors.Laws.{factored-to, columns-to, columns-start, columns-turn, parts-fit, t-turn, factored-turn, factored-done, columns-done}
+use Rattle.oracles.proofs.ell_factors.rank_one.Statement.{statement}
+use Rattle.oracles.proofs.ell_factors.rank_one.Tie as tie
 
 abbrev Inv-loop : tie.InvT-loop
 Inv-loop n mq₀ z v₀ t0 oldt₀ j₀ mq v oldt j = (j ≤ n) × MatrixOf n (factored-to n mq₀ z v₀ t0 j) mq × VectorOf n (columns-to n mq₀ v₀ j) v × (oldt ≡ t-after n mq₀ z v₀ t0 j)
