@@ -6,7 +6,7 @@ use numbers::cut::CutStatus;
 use numbers::refusal::Fault;
 use numbers::refusal::Refusal;
 use oracles::ell::Ell;
-use oracles::ell::Moved;
+use oracles::ell::EllChange;
 use oracles::ell_common::CutStrategy;
 use oracles::ell_common::Update;
 use oracles::lowpass_oracle::Group;
@@ -16,7 +16,7 @@ use oracles::lowpass_oracle::Verdict;
 use oracles::scan::table_fits;
 ghost use mathlib.Core.Path.{_≡_};
 ghost use mathlib.Core.Bool.{false};
-ghost use Rattle.oracles.specs.Ell.{updated};
+ghost use Rattle.oracles.specs.Ell.{ell-changed};
 ghost use mathlib.Core.List.{List};
 ghost use lib.Ieee.{Float};
 ghost use Rattle.numbers.specs.declared.refusal.Refusal.{Refusal};
@@ -187,11 +187,11 @@ pub(crate) fn feas_step(
             said: Said::Feasible,
         },
         Verdict::Cut(group, beta) => {
-            let moved = ell.cut(CutStrategy::BiasCut, grad, beta, mq, xc, grad_t);
-            let outcome = moved.outcome;
+            let change = ell.change(CutStrategy::BiasCut, grad, beta, mq, xc, grad_t);
+            let outcome = change.outcome;
             FeasStep {
                 oracle: after,
-                ell: ell.after(moved),
+                ell: ell.changed(change),
                 said: said_of(group, beta, outcome.answer()),
             }
         }
@@ -336,16 +336,16 @@ pub fn cutting_plane_feas(
 fn optim_stepped(
     oracle: LowpassOracle,
     ell: Ell,
-    moved: Moved,
+    change: EllChange,
     gamma: f64,
     found: bool,
 ) -> OptimStep
-    ensures { λ r. ⌜ r ≡ record { oracle = oracle; ell = updated ell moved .ell; gamma = gamma; found = «found»; answer = updated ell moved .answer } ⌝ }
+    ensures { λ r. ⌜ r ≡ record { oracle = oracle; ell = ell-changed ell change .ell; gamma = gamma; found = «found»; answer = ell-changed ell change .answer } ⌝ }
 {
-    let outcome = moved.outcome;
+    let outcome = change.outcome;
     OptimStep {
         oracle: oracle,
-        ell: ell.after(moved),
+        ell: ell.changed(change),
         gamma: gamma,
         found: found,
         answer: outcome.answer(),
@@ -376,12 +376,12 @@ fn optim_step(
     match verdict {
         OptimVerdict::Improved(beta) => {
             keep(true, xc, x_best);
-            let moved = ell.cut(CutStrategy::CentralCut, grad, beta, mq, xc, grad_t);
-            optim_stepped(after, ell, moved, offer, true)
+            let change = ell.change(CutStrategy::CentralCut, grad, beta, mq, xc, grad_t);
+            optim_stepped(after, ell, change, offer, true)
         }
         OptimVerdict::Cut(_, beta) => {
-            let moved = ell.cut(CutStrategy::BiasCut, grad, beta, mq, xc, grad_t);
-            optim_stepped(after, ell, moved, offer, found)
+            let change = ell.change(CutStrategy::BiasCut, grad, beta, mq, xc, grad_t);
+            optim_stepped(after, ell, change, offer, found)
         }
         OptimVerdict::Refused(why) => OptimStep {
             oracle: after,

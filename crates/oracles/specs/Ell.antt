@@ -88,3 +88,7 @@ ell-update-answer e strategy grad beta b =
 
 abbrev pub change-of : EllChange → EllBuffers → Change EllBuffers
 change-of c b = change (outcome-answer (c .outcome)) (c .kappa) (c .tsq) b
+
+-- the ellipsoid after it, and the answer
+abbrev pub ell-changed : Ell → EllChange → EllUpdate
+ell-changed e c = record { ell = with-tsq e (c .kappa) (c .tsq); answer = outcome-answer (c .outcome) }

@@ -7,6 +7,7 @@ use crate::ell_common::is_tiny;
 use crate::ell_common::lengths_fit;
 use crate::ell_common::move_centre;
 use crate::ell_common::outcome_of;
+use crate::matrix::at;
 use numbers::arr::dot_mv_into;
 use numbers::arr::dot_zip;
 use numbers::arr::is_dimension;
@@ -20,7 +21,7 @@ ghost use mathlib.Core.Bool.{true};
 ghost use Prim.Native.Nat.{_*_, _≤_, _<_};
 ghost use lib.ListN.{length};
 ghost use Rattle.numbers.specs.Arr.{is-dimension};
-ghost use Rattle.oracles.specs.Ell.{EllBuffers, ell-buffers, new-ell-answer, rank-one, with-tsq, ell-after, ell-work, change-of, ell-update-answer};
+ghost use Rattle.oracles.specs.Ell.{EllBuffers, ell-buffers, new-ell-answer, rank-one, with-tsq, ell-work, change-of, ell-changed, ell-update-answer};
 ghost use Rattle.oracles.specs.EllCommon.{change, update-of};
 ghost use Rattle.oracles.specs.declared.ell_common.Update.the-variants.{Status};
 ghost use Rattle.oracles.specs.laws.Ell.{row-lowered, all-lowered, row-mirrored, mirrored};
@@ -83,7 +84,7 @@ fn mirror_row(n: usize, mq: &mut [f64], i: usize)
 {
     let mut j = 0;
     while j < i {
-        mq[j * n + i] = mq[i * n + j];
+        mq[j * n + i] = at(n, mq, i, j);
         j += 1;
     }
 }
@@ -204,7 +205,7 @@ impl Ell {
         grad_t: &mut [f64],
     ) -> EllChange
         ensures { λ r. ⌜
-            ell-after self (change-of r (ell-buffers (now (mq .exit)) (now (xc .exit)) (now («grad_t» .exit))))
+            (ell-changed self r, ell-buffers (now (mq .exit)) (now (xc .exit)) (now («grad_t» .exit)))
             ≡ ell-update-answer self strategy (now (grad .entry)) beta (ell-buffers (now (mq .entry)) (now (xc .entry)) (now («grad_t» .entry))) ⌝ }
     {
         let n = self.ndim;

@@ -67,8 +67,12 @@ fn factor_row(
     storage: &mut [f64],
     i: usize,
 ) -> f64
-    requires { ⌜ LmiReads m (now «mat_b») (now «mat_f») (now xc) × (i < m) × (length (now storage) ≡ m * m) × FactoredTo (get-elem m (now «mat_b») (now «mat_f») (now xc)) m (now storage) i ⌝ }
-    ensures { λ r. ⌜ (r ≡ reduced (get-elem m (now («mat_b» .entry)) (now («mat_f» .entry)) (now (xc .entry))) i i) × (now (storage .exit) ≡ filled (get-elem m (now («mat_b» .entry)) (now («mat_f» .entry)) (now (xc .entry))) m (now (storage .entry)) (suc i)) ⌝ }
+    requires { ⌜
+        LmiReads m (now «mat_b») (now «mat_f») (now xc) × (i < m) × (length (now storage) ≡ m * m)
+        × FactoredTo (get-elem m (now «mat_b») (now «mat_f») (now xc)) m (now storage) i ⌝ }
+    ensures { λ r. ⌜
+        (r ≡ reduced (get-elem m (now («mat_b» .entry)) (now («mat_f» .entry)) (now (xc .entry))) i i)
+        × (now (storage .exit) ≡ filled (get-elem m (now («mat_b» .entry)) (now («mat_f» .entry)) (now (xc .entry))) m (now (storage .entry)) (suc i)) ⌝ }
 {
     let mut diag = get_elem(m, mat_b, mat_f, xc, i, 0);
     let mut j = 0;

@@ -14,6 +14,7 @@ use Rattle.numbers.specs.laws.Refusal.{failed, at-first, refuses}
 use Rattle.oracles.specs.RoundRobin.{advanced, new-range-answer}
 use Rattle.oracles.specs.Scan.{value-of, scan-from, scan-of, band-gradient}
 use Rattle.oracles.specs.LowpassOracle.{start-oracle, assess-of, assess-feas-answer}
+use Rattle.oracles.specs.EllCommon.{update-of}
 use Rattle.oracles.specs.Ell.{ell-update-of}
 use Rattle.drivers.specs.Record.{after, number-at, fields-from, fields-of, field-fault, walk-of, missing-fault, record-fault, lengths-fault, row-count, rows-of}
 use Rattle.drivers.specs.CuttingPlane.{feas-step}
@@ -43,7 +44,7 @@ worked-text =
     ∷ 110 ∷ 111 ∷ 110 ∷ 101 ∷ 32 ∷ 48 ∷ 10 ∷ []  -- none 0
 
 pub worked : program-text worked-job ≡ worked-text
-unfolding add lt sub mul le ofBits toBits pick le-number word-at tab dot-from dot-of mv-of made calc-bias-cut calc-parallel-impl calc-parallel-bias-cut calc-single-or-parallel-bias-cut advanced value-of scan-from scan-of band-gradient assess-of assess-feas-answer some ell-update-of rules rule-at index-in index-of rule-length after number-at fields-from fields-of field-fault walk-of missing-fault record-fault lengths-fault row-count rows-of feas-step joined digit-char digits-of digit-count-to digit-count decimal hex new-range-answer start-oracle signed options-of job-at full-job-at size-fault job-fault step-text run-text first-space job-text program-text
+unfolding add lt sub mul le ofBits toBits pick le-number word-at tab dot-from dot-of mv-of made calc-bias-cut calc-parallel-impl calc-parallel-bias-cut calc-single-or-parallel-bias-cut advanced value-of scan-from scan-of band-gradient assess-of assess-feas-answer some update-of ell-update-of rules rule-at index-in index-of rule-length after number-at fields-from fields-of field-fault walk-of missing-fault record-fault lengths-fault row-count rows-of feas-step joined digit-char digits-of digit-count-to digit-count decimal hex new-range-answer start-oracle signed options-of job-at full-job-at size-fault job-fault step-text run-text first-space job-text program-text
 worked = refl
 
 -- the empty record: refused 10 0

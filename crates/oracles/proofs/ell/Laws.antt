@@ -38,11 +38,11 @@ mirror-start n i mq l = record {
   each = λ r c _ _. both-ways (eqb c i) (λ _. sym (is-skip (ltb r 0) (at n mq c r) (at n mq r c) (le-ltb r 0 (omega arith)))) (λ _. refl);
 }
 
-pub mirror-turn : (n i j : ℕ) (mq₀ mq : List Float) → MatrixOf n (mirrored-to n mq₀ i j) mq → j < i → i < n
-    → MatrixOf n (mirrored-to n mq₀ i (j + 1)) (set mq (j * n + i) (at n mq i j))
-mirror-turn n i j mq₀ mq h a b =
-    matrix-set n (mirrored-to n mq₀ i j) (mirrored-to n mq₀ i (j + 1)) mq j i (at n mq i j) h (omega arith) b
-    (h .each i j b (omega arith) ∙ is-skip (eqb j i) _ _ (ne-eqb j i (λ q. absurd (omega (arith, q))))
+pub mirror-turn : (n i j : ℕ) (mq₀ mq : List Float) (v : Float) → MatrixOf n (mirrored-to n mq₀ i j) mq → v ≡ at n mq i j → j < i → i < n
+    → MatrixOf n (mirrored-to n mq₀ i (j + 1)) (set mq (j * n + i) v)
+mirror-turn n i j mq₀ mq v h e a b =
+    matrix-set n (mirrored-to n mq₀ i j) (mirrored-to n mq₀ i (j + 1)) mq j i v h (omega arith) b
+    (e ∙ h .each i j b (omega arith) ∙ is-skip (eqb j i) _ _ (ne-eqb j i (λ q. absurd (omega (arith, q))))
     ∙ sym (is-hit (eqb i i) _ _ (eq-eqb i i refl) ∙ is-hit (ltb j (j + 1)) (at n mq₀ i j) (at n mq₀ j i) (lt-ltb j (j + 1) (omega arith))))
     (λ r c _ _ q. pick-cong (eqb c i) (λ e. pick-grow r j (at n mq₀ c r) (at n mq₀ r c) (λ z. q z (eqb-true c i e))) (λ _. refl))
 

@@ -1,7 +1,7 @@
 -- `drivers::cutting_plane::feas_step` meets its contract. Assumes nothing.
 use mathlib.Core.Path.{ap, _∙_}
 use borrow.Author.Needs.{needs}
-use Rattle.oracles.specs.Ell.{updated}
+use Rattle.oracles.specs.Ell.{ell-changed}
 use Rattle.drivers.specs.CuttingPlane.{said-of}
 use Rattle.drivers.proofs.cutting_plane.Steps.{step-feasible, step-refused, step-cut}
 use Rattle.drivers.proofs.cutting_plane.feas_step.Statement.{statement}
@@ -16,11 +16,11 @@ enum-told c = search needs
 enum-known-verdict : tie.Need-enum-known-verdict
 enum-known-verdict c = search needs
 
-cut-requires : tie.Need-cut-requires
-cut-requires c κs = tt
+change-requires : tie.Need-change-requires
+change-requires c κs = tt
 
-after-requires : tie.Need-after-requires
-after-requires c κs = tt
+changed-requires : tie.Need-changed-requires
+changed-requires c κs = tt
 
 answer-requires : tie.Need-answer-requires
 answer-requires c κs = tt
@@ -58,13 +58,13 @@ same-length-6 c = search needs
 
 returns-2 : tie.Need-returns-2
 returns-2 c =
-    let u = c .before .before .before .before .before .before .before .before .before .cut in
+    let u = c .before .before .before .before .before .before .before .before .before .change in
     let k = c .before .before .before .before .before .before .before .before .before .before .before .before .before .before .before .verdict .given in
     let d = c .before .before .before .before .before .before .before .before .before .before .before .before .before .before .before .before .before .before .before .before in
     let a = d .before .before .before .before .before .before .before .before .args in
-    rw (c .before .before .after2 .ensures)
+    rw (c .before .before .changed .ensures)
     (step-cut (a .rows) (a .table .now) (record { oracle = a .oracle; ell = a .ell; buffers = record { mq = a .mq .now; xc = a .xc .now; grad-t = a .grad-t .now }; grad = a .grad .now })
-    (d .assess-feas .result) _ (d .assess-feas .ensures .0) (k .0 .0) (k .0 .1 .0) (k .1) (updated (a .ell) (u .result)) _ (u .ensures)
+    (d .assess-feas .result) _ (d .assess-feas .ensures .0) (k .0 .0) (k .0 .1 .0) (k .1) (ell-changed (a .ell) (u .result)) _ (u .ensures)
     (c .said-of .result) (c .said-of .ensures ∙ ap (said-of (k .0 .0) (k .0 .1 .0)) (c .before .answer .ensures)))
 
 same-length-7 : tie.Need-same-length-7
@@ -84,5 +84,5 @@ returns-3 c =
 pub feas-step-spec : {M : Type 1} → statement M
 feas-step-spec =
     tie.close
-    (tie.spec assess-feas-requires enum-told enum-known-verdict cut-requires after-requires answer-requires said-of-requires enum-known-verdict-2 same-length same-length-2 returns same-length-3 same-length-4
+    (tie.spec assess-feas-requires enum-told enum-known-verdict change-requires changed-requires answer-requires said-of-requires enum-known-verdict-2 same-length same-length-2 returns same-length-3 same-length-4
     same-length-5 same-length-6 returns-2 same-length-7 same-length-8 returns-3)

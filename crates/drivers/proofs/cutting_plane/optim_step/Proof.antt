@@ -1,6 +1,6 @@
 -- `drivers::cutting_plane::optim_step` meets its contract. Assumes nothing.
 use borrow.Author.Needs.{needs}
-use Rattle.oracles.specs.Ell.{updated}
+use Rattle.oracles.specs.Ell.{ell-changed}
 use Rattle.drivers.proofs.cutting_plane.Steps.{step-improved, step-cut-off, step-halted}
 use Rattle.drivers.proofs.cutting_plane.optim_step.Statement.{statement}
 use Rattle.drivers.proofs.cutting_plane.optim_step.Tie as tie
@@ -14,8 +14,8 @@ enum-known-verdict c = search needs
 keep-requires : tie.Need-keep-requires
 keep-requires c κs = tt
 
-cut-requires : tie.Need-cut-requires
-cut-requires c κs = tt
+change-requires : tie.Need-change-requires
+change-requires c κs = tt
 
 optim-stepped-requires : tie.Need-optim-stepped-requires
 optim-stepped-requires c κs = tt
@@ -23,8 +23,8 @@ optim-stepped-requires c κs = tt
 enum-known-verdict-2 : tie.Need-enum-known-verdict-2
 enum-known-verdict-2 c = search needs
 
-cut-requires-2 : tie.Need-cut-requires-2
-cut-requires-2 c κs = search needs
+change-requires-2 : tie.Need-change-requires-2
+change-requires-2 c κs = search needs
 
 optim-stepped-requires-2 : tie.Need-optim-stepped-requires-2
 optim-stepped-requires-2 c κs = search needs
@@ -49,12 +49,12 @@ same-length-5 c = search needs
 
 returns : tie.Need-returns
 returns c =
-    let u = c .before .before .before .before .before .before .before .cut in
+    let u = c .before .before .before .before .before .before .before .change in
     let d = c .before .before .before .before .before .before .before .before .before .before .before .before .before .before .before .before .before .before .before .before .before .before .before in
     let k = c .before .before .before .before .before .before .before .before .before .before .before .before .before .before .before .before .before .before .verdict .given in
     let a = d .before .before .before .before .before .before .before .before .before .args in
     step-improved (a .rows) (a .table .now) (record { oracle = a .oracle; ell = a .ell; buffers = record { mq = a .mq .now; xc = a .xc .now; grad-t = a .grad-t .now }; grad = a .grad .now; gamma = a .gamma; found = a .found; best = a .x-best .now })
-    (d .assess-optim .result) _ (d .assess-optim .ensures .0) (updated (a .ell) (u .result)) _ (c .optim-stepped .result) (k .0 .0) (k .1) (u .ensures) (c .optim-stepped .ensures) _ (c .before .before .before .before .before .before .before .before .before .before .before .before .before .before .keep .ensures)
+    (d .assess-optim .result) _ (d .assess-optim .ensures .0) (ell-changed (a .ell) (u .result)) _ (c .optim-stepped .result) (k .0 .0) (k .1) (u .ensures) (c .optim-stepped .ensures) _ (c .before .before .before .before .before .before .before .before .before .before .before .before .before .before .keep .ensures)
 
 same-length-6 : tie.Need-same-length-6
 same-length-6 c = search needs
@@ -70,12 +70,12 @@ same-length-9 c = search needs
 
 returns-2 : tie.Need-returns-2
 returns-2 c =
-    let u = c .before .before .before .before .before .before .before .cut2 in
+    let u = c .before .before .before .before .before .before .before .change2 in
     let d = c .before .before .before .before .before .before .before .before .before .before .before .before .before .before .before .before .before .before in
     let k = c .before .before .before .before .before .before .before .before .before .before .before .before .before .verdict2 .given in
     let a = d .before .before .before .before .before .before .before .before .before .args in
     step-cut-off (a .rows) (a .table .now) (record { oracle = a .oracle; ell = a .ell; buffers = record { mq = a .mq .now; xc = a .xc .now; grad-t = a .grad-t .now }; grad = a .grad .now; gamma = a .gamma; found = a .found; best = a .x-best .now })
-    (d .assess-optim .result) _ (d .assess-optim .ensures .0) (updated (a .ell) (u .result)) _ (c .optim-stepped2 .result) (k .0 .0) (k .0 .1 .0) (k .1) (u .ensures) (c .optim-stepped2 .ensures)
+    (d .assess-optim .result) _ (d .assess-optim .ensures .0) (ell-changed (a .ell) (u .result)) _ (c .optim-stepped2 .result) (k .0 .0) (k .0 .1 .0) (k .1) (u .ensures) (c .optim-stepped2 .ensures)
 
 same-length-10 : tie.Need-same-length-10
 same-length-10 c = search needs
@@ -98,10 +98,10 @@ optim-step-spec =
     assess-optim-requires
     enum-known-verdict
     keep-requires
-    cut-requires
+    change-requires
     optim-stepped-requires
     enum-known-verdict-2
-    cut-requires-2
+    change-requires-2
     optim-stepped-requires-2
     enum-known-verdict-3
     same-length

@@ -3,11 +3,10 @@ use mathlib.Core.Path.{refl}
 use Rattle.oracles.proofs.ell.said.Statement.{statement}
 use Rattle.oracles.proofs.ell.said.Tie as tie
 
-outcome-of-requires : tie.Need-outcome-of-requires
-outcome-of-requires c κs = tt
-
 returns : tie.Need-returns
 returns c = λ b. rw (c .outcome-of .ensures) refl
 
 pub said-spec : {M : Type 1} → statement M
-said-spec = tie.close (tie.spec outcome-of-requires returns)
+said-spec =
+    tie.close
+    (tie.spec (λ c κs. tt) returns)

@@ -39,6 +39,6 @@ returns-2 c =
 pub column-into-spec : {M : Type 1} → statement M
 column-into-spec =
     tie.close
-    (tie.spec Inv-loop μ-loop loop-holds (λ c. search needs) (λ c κs. search needs) (λ c. search needs) (λ c. search needs) (λ c. search needs)
-    (λ c κs. search needs) (λ c. search needs) (λ c. search needs) slice-write-column-2 (λ c. search needs) (λ c. search needs) loop-again (λ c κs. search needs)
-    (λ c. search needs) (λ c. search needs) (λ c. search needs) returns (λ c. search needs) returns-2)
+    (tie.spec Inv-loop μ-loop loop-holds (λ c. search needs) (λ c κs. search needs) (λ c. search needs) (λ c. search needs) (λ c. search needs) (λ c κs. search
+    needs) (λ c. search needs) (λ c. search needs) slice-write-column-2 (λ c. search needs) (λ c. search needs) loop-again (λ c κs. search needs) (λ c. search needs)
+    (λ c. search needs) (λ c. search needs) returns (λ c. search needs) returns-2)

@@ -34,5 +34,5 @@ returns c =
 pub omega-into-spec : {M : Type 1} → statement M
 omega-into-spec =
     tie.close
-    (tie.spec Inv-loop μ-loop loop-holds (λ c. search needs) (λ c. search needs) (λ c. search needs) (λ c. search needs) (λ c. search needs) (λ c. search needs)
-    (λ c. search needs) (λ c. search needs) loop-again (λ c. search needs) returns)
+    (tie.spec Inv-loop μ-loop loop-holds (λ c. search needs) (λ c. search needs) (λ c. search needs) (λ c. search needs) (λ c. search needs) (λ c. search needs) (λ
+    c. search needs) (λ c. search needs) loop-again (λ c. search needs) returns)

@@ -8,24 +8,6 @@ use Rattle.oracles.proofs.ell.Laws.{ell-no-effect, ell-fails, ell-succe
 use Rattle.oracles.proofs.ell.Ell.update.Statement.{statement}
 use Rattle.oracles.proofs.ell.Ell.update.Tie as tie
 
-dot-mv-into-requires : tie.Need-dot-mv-into-requires
-dot-mv-into-requires c κs = search needs
-
-dot-zip-requires : tie.Need-dot-zip-requires
-dot-zip-requires c κs = search needs
-
-is-tiny-requires : tie.Need-is-tiny-requires
-is-tiny-requires c κs = search needs
-
-said-requires : tie.Need-said-requires
-said-requires c κs = search needs
-
-same-length : tie.Need-same-length
-same-length c = search needs
-
-same-length-2 : tie.Need-same-length-2
-same-length-2 c = search needs
-
 returns : tie.Need-returns
 returns c =
     let z = c .before .before .before in
@@ -36,21 +18,6 @@ returns c =
     ell-no-effect (a .self) (a .strategy) (a .grad .now) (a .beta) (ell-buffers (a .mq .now) (a .xc .now) (a .grad-t .now)) (c .said .result) _ (z .dot-zip .result) _
     g (z .dot-zip .ensures) (c .before .before .is-tiny .ensures)
     (c .before .if1 .taken) (c .said .ensures)
-
-calc-requires : tie.Need-calc-requires
-calc-requires c κs = search needs
-
-is-success-requires : tie.Need-is-success-requires
-is-success-requires c κs = search needs
-
-said-requires-2 : tie.Need-said-requires-2
-said-requires-2 c κs = search needs
-
-same-length-3 : tie.Need-same-length-3
-same-length-3 c = search needs
-
-same-length-4 : tie.Need-same-length-4
-same-length-4 c = search needs
 
 returns-2 : tie.Need-returns-2
 returns-2 c =
@@ -73,15 +40,6 @@ shrink-requires c κs =
     let i = c .before .before .before .before .before .before .before .before .before .before .before .before .before .before .before .before .before .before .before .before .before .before .before .before .before .before .before .before in
     (dimension-most (i .args .self .ndim) (i .pre .0), i .pre .2 .mq-long, c .before .before .before .before .before .before .before .before .before .before .before .before .before .before .before .before .before .before .before .before .before .dot-mv-into .kept .1 .1 .1 .0 ∙ i .pre .2 .grad-t-long)
 
-said-requires-3 : tie.Need-said-requires-3
-said-requires-3 c κs = search needs
-
-same-length-5 : tie.Need-same-length-5
-same-length-5 c = search needs
-
-same-length-6 : tie.Need-same-length-6
-same-length-6 c = search needs
-
 same-length-7 : tie.Need-same-length-7
 same-length-7 c = c .before .before .before .before .before .before .before .before .before .before .before .before .before .before .before .before .before .before .before .before .before .before .before .before .before .before .before .dot-mv-into .kept .1 .1 .1 .0
 
@@ -101,24 +59,6 @@ returns-3 c =
 pub update-spec : {M : Type 1} → statement M
 update-spec =
     tie.close
-    (tie.spec
-    dot-mv-into-requires
-    dot-zip-requires
-    is-tiny-requires
-    said-requires
-    same-length
-    same-length-2
-    returns
-    calc-requires
-    is-success-requires
-    said-requires-2
-    same-length-3
-    same-length-4
-    returns-2
-    move-centre-requires
-    shrink-requires
-    said-requires-3
-    same-length-5
-    same-length-6
-    same-length-7
-    returns-3)
+    (tie.spec (λ c κs. search needs) (λ c κs. search needs) (λ c κs. search needs) (λ c κs. search needs) (λ c. search needs) (λ c. search needs) returns
+    (λ c κs. search needs) (λ c κs. search needs) (λ c κs. search needs) (λ c. search needs) (λ c. search needs) returns-2 move-centre-requires shrink-requires
+    (λ c κs. search needs) (λ c. search needs) (λ c. search needs) same-length-7 returns-3)

@@ -7,15 +7,6 @@ use Rattle.oracles.proofs.ell_common.Laws.{made-from}
 use Rattle.oracles.proofs.ell_stable.EllStable.new_with_matrix.Statement.{statement}
 use Rattle.oracles.proofs.ell_stable.EllStable.new_with_matrix.Tie as tie
 
-new-requires : tie.Need-new-requires
-new-requires c κs = tt
-
-enum-known-helper : tie.Need-enum-known-helper
-enum-known-helper c = c .match .keys1
-
-enum-known-why : tie.Need-enum-known-why
-enum-known-why c = c .match .keys2
-
 returns : tie.Need-returns
 unfolding new-ell-stable-answer
 returns c =
@@ -30,4 +21,5 @@ returns-2 c =
 
 pub new-with-matrix-spec : {M : Type 1} → statement M
 new-with-matrix-spec =
-    tie.close (tie.spec new-requires enum-known-helper enum-known-why returns returns-2)
+    tie.close
+    (tie.spec (λ c κs. tt) (λ c. c .match .keys1) (λ c. c .match .keys2) returns returns-2)

@@ -6,27 +6,6 @@ use Rattle.oracles.proofs.ell_stable.Laws.{stable-no-effect, stable-fai
 use Rattle.oracles.proofs.ell_stable.EllStable.update.Statement.{statement}
 use Rattle.oracles.proofs.ell_stable.EllStable.update.Tie as tie
 
-prepare-requires : tie.Need-prepare-requires
-prepare-requires c κs = search needs
-
-is-tiny-requires : tie.Need-is-tiny-requires
-is-tiny-requires c κs = search needs
-
-said-requires : tie.Need-said-requires
-said-requires c κs = search needs
-
-same-length : tie.Need-same-length
-same-length c = search needs
-
-same-length-2 : tie.Need-same-length-2
-same-length-2 c = search needs
-
-same-length-3 : tie.Need-same-length-3
-same-length-3 c = search needs
-
-same-length-4 : tie.Need-same-length-4
-same-length-4 c = search needs
-
 returns : tie.Need-returns
 returns c =
     let i = c .before .before .before .before .before .before .before .before .before .before .before .before .before .before .before .before .before .before .before .before .before .before .before in
@@ -36,27 +15,6 @@ returns c =
     (stable-buffers (a .mq .now) (a .xc .now) (a .inv-ml-g .now) (a .inv-md-inv-ml-g .now) (a .gg-t .now) (a .g-t .now))
     (c .said .result) (p .result) _ _ _ _ _ (p .ensures) (c .before .before .is-tiny .ensures)
     (c .before .if1 .taken) (c .said .ensures)
-
-calc-requires : tie.Need-calc-requires
-calc-requires c κs = search needs
-
-is-success-requires : tie.Need-is-success-requires
-is-success-requires c κs = search needs
-
-said-requires-2 : tie.Need-said-requires-2
-said-requires-2 c κs = search needs
-
-same-length-5 : tie.Need-same-length-5
-same-length-5 c = search needs
-
-same-length-6 : tie.Need-same-length-6
-same-length-6 c = search needs
-
-same-length-7 : tie.Need-same-length-7
-same-length-7 c = search needs
-
-same-length-8 : tie.Need-same-length-8
-same-length-8 c = search needs
 
 returns-2 : tie.Need-returns-2
 returns-2 c =
@@ -75,16 +33,10 @@ succeed-requires c κs =
     let p = c .before .before .before .before .before .before .before .before .before .before .before .before .before .before .before .before .before .before .before .before .prepare in
     (i .pre .0, i .pre .1, p .kept .1 .1 .0 ∙ i .pre .2 .mq-long, i .pre .2 .xc-long, p .kept .1 .1 .1 .1 .0 ∙ i .pre .2 .inv-md-inv-ml-g-long, i .pre .2 .g-t-long)
 
-said-requires-3 : tie.Need-said-requires-3
-said-requires-3 c κs = search needs
-
 same-length-9 : tie.Need-same-length-9
 same-length-9 c =
     c .before .before .before .before .before .before .before .before .before .succeed .kept .1 .1 .0
     ∙ c .before .before .before .before .before .before .before .before .before .before .before .before .before .before .before .before .before .before .before .before .before .before .before .before .before .before .before .before .before .before .prepare .kept .1 .1 .0
-
-same-length-10 : tie.Need-same-length-10
-same-length-10 c = search needs
 
 same-length-11 : tie.Need-same-length-11
 same-length-11 c = c .before .before .before .before .before .before .before .before .before .before .before .before .before .before .before .before .before .before .before .before .before .before .before .before .before .before .before .before .before .before .prepare .kept .1 .1 .1 .0
@@ -94,9 +46,6 @@ same-length-12 c = c .before .before .before .before .before .before .before .be
 
 same-length-13 : tie.Need-same-length-13
 same-length-13 c = c .before .before .before .before .before .before .before .before .before .before .before .before .before .before .before .before .before .before .before .before .before .before .before .before .before .before .before .before .before .before .prepare .kept .1 .1 .1 .1 .1 .0
-
-same-length-14 : tie.Need-same-length-14
-same-length-14 c = search needs
 
 returns-3 : tie.Need-returns-3
 returns-3 c =
@@ -113,29 +62,6 @@ returns-3 c =
 pub update-spec : {M : Type 1} → statement M
 update-spec =
     tie.close
-    (tie.spec
-    prepare-requires
-    is-tiny-requires
-    said-requires
-    same-length
-    same-length-2
-    same-length-3
-    same-length-4
-    returns
-    calc-requires
-    is-success-requires
-    said-requires-2
-    same-length-5
-    same-length-6
-    same-length-7
-    same-length-8
-    returns-2
-    succeed-requires
-    said-requires-3
-    same-length-9
-    same-length-10
-    same-length-11
-    same-length-12
-    same-length-13
-    same-length-14
-    returns-3)
+    (tie.spec (λ c κs. search needs) (λ c κs. search needs) (λ c κs. search needs) (λ c. search needs) (λ c. search needs) (λ c. search needs) (λ c. search needs)
+    returns (λ c κs. search needs) (λ c κs. search needs) (λ c κs. search needs) (λ c. search needs) (λ c. search needs) (λ c. search needs) (λ c. search needs)
+    returns-2 succeed-requires (λ c κs. search needs) same-length-9 (λ c. search needs) same-length-11 same-length-12 same-length-13 (λ c. search needs) returns-3)
