@@ -34,8 +34,6 @@ use Rattle.oracles.specs.laws.CursorRule.{feas-rule, optim-rule}
 use Rattle.oracles.specs.declared.lowpass_oracle.Verdict.{Verdict}
 use Rattle.oracles.specs.declared.lowpass_oracle.Verdict.the-variants.{Feasible, Cut, Refused as NotAssessed}
 use Rattle.oracles.specs.declared.lmi_oracle.LmiVerdict.{LmiVerdict}
-use Rattle.oracles.specs.declared.ell.EllUpdate.{EllUpdate}
-use Rattle.oracles.specs.declared.ell_stable.EllStableUpdate.{EllStableUpdate}
 use Rattle.oracles.specs.declared.round_robin.RoundRobin.{RoundRobin}
 use Rattle.oracles.specs.declared.scan.Upper.{Upper}
 use Rattle.oracles.specs.declared.lowpass_oracle.LowpassOracle.{LowpassOracle}

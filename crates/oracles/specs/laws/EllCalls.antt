@@ -1,5 +1,5 @@
 -- Laws of the calls of Ell, for a caller that goes on from what they answer. Assumes nothing.
-use mathlib.Core.Path.{_≡_, refl, sym, ap, subst, _∙_}
+use mathlib.Core.Path.{_≡_, refl, sym, subst, _∙_}
 use mathlib.Core.Bool.{true}
 use mathlib.Core.List.{List}
 use Prim.Native.Nat.{ℕ, _≤_, _<_, _*_}
@@ -19,7 +19,7 @@ use Rattle.numbers.specs.declared.cut.CutAnswer.{CutAnswer}
 use Rattle.numbers.specs.declared.cut.CutChoice.{CutChoice}
 use Rattle.numbers.specs.declared.cut.CutStatus.the-variants.{Success}
 use Rattle.oracles.specs.Matrix.{nth, at}
-use Rattle.oracles.specs.EllCommon.{is-tiny, tsq-of, answer-of, success-of, status-of, update-of}
+use Rattle.oracles.specs.EllCommon.{is-tiny, answer-of, status-of}
 use Rattle.oracles.specs.laws.EllCommon.{length-centre, centre-at, new-made, new-is, call-of, call-is, update-says, update-leaves, call-accepted, call-leaves, call-failed, call-succeeded}
 use Rattle.oracles.specs.Ell.{EllBuffers, fresh-ell, new-ell-answer, ell-after, ell-work, ell-update-of, ell-fits, ell-tests, ell-update-answer}
 use Rattle.oracles.specs.laws.Ell.{length-rank-one, rank-one-at, rank-one-symmetric}

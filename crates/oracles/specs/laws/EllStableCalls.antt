@@ -1,5 +1,5 @@
 -- Laws of the calls of EllStable, for a caller that goes on from what they answer. Assumes nothing.
-use mathlib.Core.Path.{_≡_, refl, sym, ap, subst, _∙_}
+use mathlib.Core.Path.{_≡_, refl, sym, subst, _∙_}
 use mathlib.Core.Bool.{true}
 use mathlib.Core.List.{List}
 use Prim.Native.Nat.{ℕ, suc, _≤_, _<_, _*_}
@@ -17,12 +17,11 @@ use Rattle.numbers.specs.laws.Refusal.{held, at-next}
 use Rattle.numbers.specs.EllCalc.{made}
 use Rattle.numbers.specs.declared.cut.CutAnswer.{CutAnswer}
 use Rattle.numbers.specs.declared.cut.CutChoice.{CutChoice}
-use Rattle.numbers.specs.declared.cut.Params.{Params}
 use Rattle.numbers.specs.declared.cut.CutStatus.the-variants.{Success}
 use Rattle.oracles.specs.Matrix.{nth, at}
-use Rattle.oracles.specs.EllCommon.{is-tiny, tsq-of, answer-of, success-of, status-of, update-of}
+use Rattle.oracles.specs.EllCommon.{is-tiny, answer-of, status-of}
 use Rattle.oracles.specs.laws.EllCommon.{length-centre, centre-at, new-made, new-is, call-of, call-is, update-says, call-accepted, call-leaves, call-failed, call-succeeded}
-use Rattle.oracles.specs.EllStable.{StableBuffers, fresh-stable, new-ell-stable-answer, forward, inv-ml-g-of, inv-md-inv-ml-g-of, omega-of, backward, t-start, t-of, prepared, succeeded, stable-after, stable-work, stable-update-of, stable-fits, stable-tests, stable-update-answer}
+use Rattle.oracles.specs.EllStable.{StableBuffers, fresh-stable, new-ell-stable-answer, forward, inv-ml-g-of, inv-md-inv-ml-g-of, omega-of, backward, t-start, t-of, succeeded, stable-after, stable-work, stable-update-of, stable-fits, stable-tests, stable-update-answer}
 use Rattle.oracles.specs.laws.EllStable.{length-lowered, lowered-high, length-factors, factors-low, factors-diagonal, factors-high}
 use Rattle.oracles.specs.declared.ell_common.CutStrategy.{CutStrategy}
 use Rattle.oracles.specs.declared.ell_common.Update.the-variants.{Status}

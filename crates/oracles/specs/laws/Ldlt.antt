@@ -1,6 +1,6 @@
 -- Laws of the definitions of LdltMgr. Assumes nothing.
 use mathlib.Core.Path.{_≡_, refl, sym, ap, _∙_}
-use mathlib.Core.Bool.{Bool, true, false, not, _&&_}
+use mathlib.Core.Bool.{Bool, true, false, _&&_}
 use mathlib.Core.Logic.{_⊎_, inl, inr, ⊎-elim}
 use mathlib.Core.List.{List, []}
 use Prim.Native.Nat.{ℕ, zero, suc, _≤_, _<_, _+_, _-_, _*_}
@@ -95,8 +95,7 @@ module _ (A : ℕ → ℕ → Float) (m : ℕ) (storage : List Float) (k : ℕ) 
   pub filled-ext : (mat : List Float) → length mat ≡ m * m → ((r c : ℕ) → r < m → c < m → r < k → c < k → at m mat r c ≡ stored A r c)
       → ((r c : ℕ) → r < m → c < m → (r < k → c < k → ⊥) → at m mat r c ≡ at m storage r c) → mat ≡ filled A m storage k
   unfolding filled
-  filled-ext mat l f g =
-      grid-ext _ m m mat l
+  filled-ext mat l f g = grid-ext _ m m mat l
       (λ r c a b.
       ⊎-elim
       (λ (x : (r < k) × (c < k)). hit _ _ _ _ (rw (lt-ltb r k (x .0), lt-ltb c k (x .1))) (f r c a b (x .0) (x .1)))
