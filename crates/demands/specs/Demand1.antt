@@ -34,12 +34,11 @@ use Rattle.oracles.specs.laws.CursorRule.{feas-rule, optim-rule}
 use Rattle.oracles.specs.declared.lowpass_oracle.Verdict.{Verdict}
 use Rattle.oracles.specs.declared.lowpass_oracle.Verdict.the-variants.{Feasible, Cut, Refused as NotAssessed}
 use Rattle.oracles.specs.declared.lmi_oracle.LmiVerdict.{LmiVerdict}
-use Rattle.oracles.specs.declared.ell.EllUpdate.{EllUpdate}
-use Rattle.oracles.specs.declared.ell_stable.EllStableUpdate.{EllStableUpdate}
 use Rattle.oracles.specs.declared.round_robin.RoundRobin.{RoundRobin}
 use Rattle.oracles.specs.declared.scan.Upper.{Upper}
 use Rattle.oracles.specs.declared.lowpass_oracle.LowpassOracle.{LowpassOracle}
 use Rattle.oracles.specs.declared.ldlt_mgr.Pos.{Pos}
+use Rattle.oracles.specs.laws.EllCommon.{update-says}
 use Rattle.oracles.specs.declared.ell_common.CutStrategy.{CutStrategy}
 use Rattle.oracles.specs.declared.ell.Ell.{Ell}
 use Rattle.oracles.specs.declared.ell_stable.EllStable.{EllStable}
@@ -183,11 +182,7 @@ new-ell n kappa = refuses _ _ _ _ _ _ (λ why place. refl) (λ why place. refl) 
 
 ell-updated : (e : Ell) (s : CutStrategy) (grad : List Float) (beta : CutChoice) (b : ell.EllBuffers) → update-number (ell.ell-update-of e s grad beta b .0 .answer) ≡ 0
 unfolding ell.ell-update-of
-ell-updated e s grad beta b =
-    by-test P _ _ _ (λ h. refl) (λ h. by-test P _ _ _ (λ h. refl) (λ h. refl))
-  where
-    P : EllUpdate × ell.EllBuffers → Type 0
-    P r = update-number (r .0 .answer) ≡ 0
+ell-updated e s grad beta b = ap update-number (update-says (ell.ell-work e s grad beta b) .0)
 
 pub ell-update : (e : Ell) (s : CutStrategy) (grad : List Float) (beta : CutChoice) (b : ell.EllBuffers) → Refuses {L = Ell × ell.EllBuffers} (ell.ell-tests (e .ndim) grad b) (λ r. update-number (r .0 .answer)) (λ r. (r .0 .ell, r .1)) (e, b) (ell.ell-update-answer e s grad beta b)
 ell-update e s grad beta b = refuses _ _ _ _ _ _ (λ why place. refl) (λ why place. refl) (λ h. ell-updated e s grad beta b)
@@ -198,11 +193,7 @@ new-ell-stable n kappa = refuses _ _ _ _ _ _ (λ why place. refl) (λ why place.
 
 stable-updated : (e : EllStable) (s : CutStrategy) (grad : List Float) (beta : CutChoice) (b : stable.StableBuffers) → update-number (stable.stable-update-of e s grad beta b .0 .answer) ≡ 0
 unfolding stable.stable-update-of
-stable-updated e s grad beta b =
-    by-test P _ _ _ (λ h. refl) (λ h. by-test P _ _ _ (λ h. refl) (λ h. refl))
-  where
-    P : EllStableUpdate × stable.StableBuffers → Type 0
-    P r = update-number (r .0 .answer) ≡ 0
+stable-updated e s grad beta b = ap update-number (update-says (stable.stable-work e s grad beta b) .0)
 
 pub ell-stable-update : (e : EllStable) (s : CutStrategy) (grad : List Float) (beta : CutChoice) (b : stable.StableBuffers) → Refuses {L = EllStable × stable.StableBuffers} (stable.stable-tests (e .ndim) grad b) (λ r. update-number (r .0 .answer)) (λ r. (r .0 .ell, r .1)) (e, b) (stable.stable-update-answer e s grad beta b)
 ell-stable-update e s grad beta b = refuses _ _ _ _ _ _ (λ why place. refl) (λ why place. refl) (λ h. stable-updated e s grad beta b)

@@ -3,7 +3,7 @@ use Prim.Native.Nat.{ℕ}
 use mathlib.Core.List.{List}
 use lib.ListN.{replicate}
 use Rattle.numbers.specs.F64.{0ᶠ}
-use Rattle.numbers.specs.EllCalc.{made}
+use Rattle.oracles.specs.Ell.{ell-buffers, fresh-ell}
 use Rattle.numbers.specs.declared.refusal.Refusal.{Refusal}
 use Rattle.numbers.specs.Refusal.{_⨾_, unless}
 use Rattle.drivers.specs.Text.{joined}
@@ -22,8 +22,8 @@ first-state f =
     let n = f .job .n in
     record {
       oracle = job-oracle (f .job);
-      ell = record { ndim = n; kappa = f .job .kappa; helper = made n; tsq = 0ᶠ };
-      buffers = record { mq = f .matrix; xc = f .point; grad-t = replicate n 0ᶠ };
+      ell = fresh-ell n (f .job .kappa);
+      buffers = ell-buffers (f .matrix) (f .point) (replicate n 0ᶠ);
       grad = replicate n 0ᶠ;
     }
 

@@ -81,11 +81,11 @@ pub(crate) fn feas_step(
             answer: StepAnswer::Feasible,
         },
         Verdict::Cut(group, beta) => {
-            let moved = ell.cut(CutStrategy::BiasCut, grad, beta, mq, xc, grad_t);
-            let outcome = moved.outcome;
+            let change = ell.change(CutStrategy::BiasCut, grad, beta, mq, xc, grad_t);
+            let outcome = change.outcome;
             FeasStep {
                 oracle: after,
-                ell: ell.after(moved),
+                ell: ell.changed(change),
                 answer: cut_answer(group, beta, outcome.answer()),
             }
         }

@@ -7,14 +7,14 @@ use crate::cutting_plane::proceeds;
 use numbers::refusal::Fault;
 use numbers::refusal::Refusal;
 use oracles::ell::Ell;
-use oracles::ell::Moved;
+use oracles::ell::EllChange;
 use oracles::ell_common::CutStrategy;
 use oracles::ell_common::Update;
 use oracles::lowpass_oracle::LowpassOracle;
 use oracles::lowpass_oracle::OptimVerdict;
 ghost use mathlib.Core.Path.{_≡_};
 ghost use mathlib.Core.Bool.{false};
-ghost use Rattle.oracles.specs.Ell.{updated};
+ghost use Rattle.oracles.specs.Ell.{ell-changed};
 ghost use Rattle.numbers.specs.declared.refusal.Refusal.{Refusal};
 ghost use Rattle.drivers.specs.declared.cutting_plane_optim.OptimAnswer.the-variants.{Refused as NotRunOptim};
 ghost use Rattle.drivers.specs.CuttingPlaneOptim.{optim-state-of, optim-step, optim-goes-on, optim-ended, optim-end, optim-run, optim-answer};
@@ -46,16 +46,16 @@ pub struct OptimRun {
 fn optim_stepped(
     oracle: LowpassOracle,
     ell: Ell,
-    moved: Moved,
+    change: EllChange,
     gamma: f64,
     found: bool,
 ) -> OptimStep
-    ensures { λ r. ⌜ r ≡ record { oracle = oracle; ell = updated ell moved .ell; gamma = gamma; found = «found»; answer = updated ell moved .answer } ⌝ }
+    ensures { λ r. ⌜ r ≡ record { oracle = oracle; ell = ell-changed ell change .ell; gamma = gamma; found = «found»; answer = ell-changed ell change .answer } ⌝ }
 {
-    let outcome = moved.outcome;
+    let outcome = change.outcome;
     OptimStep {
         oracle,
-        ell: ell.after(moved),
+        ell: ell.changed(change),
         gamma,
         found,
         answer: outcome.answer(),
@@ -87,12 +87,12 @@ fn optim_step(
     match verdict {
         OptimVerdict::Improved(beta) => {
             keep(true, xc, x_best);
-            let moved = ell.cut(CutStrategy::CentralCut, grad, beta, mq, xc, grad_t);
-            optim_stepped(after, ell, moved, offer, true)
+            let change = ell.change(CutStrategy::CentralCut, grad, beta, mq, xc, grad_t);
+            optim_stepped(after, ell, change, offer, true)
         }
         OptimVerdict::Cut(_, beta) => {
-            let moved = ell.cut(CutStrategy::BiasCut, grad, beta, mq, xc, grad_t);
-            optim_stepped(after, ell, moved, offer, found)
+            let change = ell.change(CutStrategy::BiasCut, grad, beta, mq, xc, grad_t);
+            optim_stepped(after, ell, change, offer, found)
         }
         OptimVerdict::Refused(why) => OptimStep {
             oracle: after,

@@ -1,32 +1,33 @@
 -- The ellipsoid by factors (ell_stable.rs): the inverse of its matrix is L D Lᵀ; the diagonal holds D's inverse, L[i, j] stands above it at (j, i), scratch below.
 -- Definitions only.
 use Prim.Native.Nat.{ℕ, zero, suc, _+_, _-_, _*_}
-use mathlib.Core.Bool.{Bool, not, _&&_}
+use mathlib.Core.Bool.{Bool, _&&_}
 use mathlib.Core.List.{List, [], _∷_}
 use lib.Dec.{ltb, eqb}
 use lib.ListN.{length}
 use lib.Ieee.{Float}
 use Rattle.numbers.specs.F64.{_⊕_, _⊖_, _⊗_, _⊘_, 0ᶠ, 1ᶠ}
 use Rattle.numbers.specs.Pick.{pick}
-use Rattle.numbers.specs.Refusal.{unless}
 use Rattle.numbers.specs.Arr.{tab, sized}
-use Rattle.numbers.specs.EllCalc.{made, new-tests}
+use Rattle.numbers.specs.EllCalc.{made}
 use Rattle.numbers.specs.declared.refusal.Fault.{Fault}
 use Rattle.numbers.specs.declared.cut.CutChoice.{CutChoice}
-use Rattle.numbers.specs.declared.cut.CutStatus.{CutStatus}
-use Rattle.numbers.specs.declared.cut.CutStatus.the-variants.{NoEffect}
+use Rattle.numbers.specs.declared.cut.Params.{Params}
 use Rattle.oracles.specs.Matrix.{nth, at, grid, total}
-use Rattle.oracles.specs.EllCommon.{calc-of, is-tiny, is-success, centre-of}
+use Rattle.oracles.specs.EllCommon.{calc-of, centre-of, new-of, Work, Change, update-of, update-answer}
 use Rattle.oracles.specs.declared.ell_common.CutStrategy.{CutStrategy}
-use Rattle.oracles.specs.declared.ell_common.Update.the-variants.{Status, Refused}
 use Rattle.oracles.specs.declared.ell_stable.EllStable.{EllStable}
 use Rattle.oracles.specs.declared.ell_stable.NewEllStable.{NewEllStable}
 use Rattle.oracles.specs.declared.ell_stable.NewEllStable.the-variants.{Made, Refused as NotMade}
 use Rattle.oracles.specs.declared.ell_stable.EllStableUpdate.{EllStableUpdate}
 
--- `new_with_matrix`: the state beside the matrix and the centre; refusal 1
+-- the state of a new ellipsoid beside its factors and its centre
+abbrev pub fresh-stable : ℕ → Float → EllStable
+fresh-stable n kappa = record { ndim = n; kappa = kappa; helper = made n; tsq = 0ᶠ }
+
+-- `new_with_matrix`; refusal 1
 unfoldable pub new-ell-stable-answer : ℕ → Float → NewEllStable
-new-ell-stable-answer n kappa = unless (new-tests n) (λ why place. NotMade why) (Made (record { ndim = n; kappa = kappa; helper = made n; tsq = 0ᶠ }))
+new-ell-stable-answer n kappa = new-of NotMade (Made (fresh-stable n kappa)) n
 
 -- the slices that an update is lent to write
 pub record StableBuffers : Type 0 where
@@ -84,8 +85,8 @@ unfoldable pub t-of : ℕ → List Float → List Float → Float → ℕ → Fl
 t-of n mq g t0 j = total _⊕_ t0 (λ i. inv-ml-g-of n mq g i ⊗ inv-md-inv-ml-g-of n mq g i) j
 
 -- the factors after the rank-one update
-unfoldable pub updated : ℕ → List Float → List Float → Float → List Float
-updated n mq g t0 = grid (λ r c. pick (ltb c r) (at n mq c r ⊗ inv-ml-g-of n mq g c) (pick (eqb r c) (diagonal r) (upper r c))) n n
+unfoldable pub rank-one-factors : ℕ → List Float → List Float → Float → List Float
+rank-one-factors n mq g t0 = grid (λ r c. pick (ltb c r) (at n mq c r ⊗ inv-ml-g-of n mq g c) (pick (eqb r c) (diagonal r) (upper r c))) n n
   where
     t : ℕ → Float
     t j = t-of n mq g t0 j
@@ -102,46 +103,42 @@ updated n mq g t0 = grid (λ r c. pick (ltb c r) (at n mq c r ⊗ inv-ml-g-of n 
 abbrev pub with-tsq : EllStable → Float → Float → EllStable
 with-tsq e kappa tsq = record { ndim = e .ndim; kappa = kappa; helper = e .helper; tsq = tsq }
 
--- an answer that is a status
-abbrev pub stable-said : EllStable → CutStatus → EllStableUpdate
-stable-said e status = record { ell = e; answer = Status status }
+-- the ellipsoid after an update, and the slices
+abbrev pub stable-after : EllStable → Change StableBuffers → EllStableUpdate × StableBuffers
+stable-after e c = (record { ell = with-tsq e (c .kappa) (c .tsq); answer = c .answer }, c .buffers)
 
 -- what is written before the update is known to fail
 abbrev pub prepared : ℕ → List Float → StableBuffers → StableBuffers
 prepared n grad b =
-    record {
-      mq = lowered n (b .mq) grad;
-      xc = b .xc;
-      inv-ml-g = tab (inv-ml-g-of n (b .mq) grad) n;
-      inv-md-inv-ml-g = tab (inv-md-inv-ml-g-of n (b .mq) grad) n;
-      gg-t = tab (gg-t-of n (b .mq) grad) n;
-      g-t = b .g-t;
-    }
+    let w = inv-ml-g-of n (b .mq) grad in
+    let z = inv-md-inv-ml-g-of n (b .mq) grad in
+    stable-buffers (lowered n (b .mq) grad) (b .xc) (tab w n) (tab z n) (tab (gg-t-of n (b .mq) grad) n) (b .g-t)
 
 -- a success; the working vector g_t ends as inv(L) g
-unfoldable pub succeeded : ℕ → List Float → StableBuffers → Float → Float → Float → StableBuffers
-succeeded n grad b omega rho sigma =
+unfoldable pub succeeded : ℕ → List Float → StableBuffers → Float → Params → StableBuffers
+succeeded n grad b omega p =
     let c = prepared n grad b in
+    let z = c .inv-md-inv-ml-g in
+    stable-buffers (rank-one-factors n (b .mq) grad (t-start omega (p .sigma))) (centre-of (b .xc) (p .rho ⊘ omega) (backward n (b .mq) z n)) (c .inv-ml-g) z (c .gg-t) (c .inv-ml-g)
+
+-- what an update works out
+abbrev pub stable-work : EllStable → CutStrategy → List Float → CutChoice → StableBuffers → Work StableBuffers
+stable-work e strategy grad beta b =
+    let n = e .ndim in
+    let omega = omega-of n (b .mq) grad in
     record {
-      mq = updated n (b .mq) grad (t-start omega sigma);
-      xc = centre-of (b .xc) (rho ⊘ omega) (backward n (b .mq) (c .inv-md-inv-ml-g) n);
-      inv-ml-g = c .inv-ml-g;
-      inv-md-inv-ml-g = c .inv-md-inv-ml-g;
-      gg-t = c .gg-t;
-      g-t = c .inv-ml-g;
+      kappa = e .kappa;
+      tsq = e .tsq;
+      calculator = calc-of strategy (e .helper) beta;
+      omega = omega;
+      before = b;
+      prepared = prepared n grad b;
+      success = λ kappa p. (kappa, succeeded n grad b omega p);
     }
 
 -- the update itself
 unfoldable pub stable-update-of : EllStable → CutStrategy → List Float → CutChoice → StableBuffers → EllStableUpdate × StableBuffers
-stable-update-of e strategy grad beta b =
-    let n = e .ndim in
-    let omega = omega-of n (b .mq) grad in
-    let tsq = e .kappa ⊗ omega in
-    let a = calc-of strategy (e .helper) beta tsq in
-    let p = a .params in
-    pick (is-tiny omega) (stable-said e NoEffect, prepared n grad b)
-    (pick (not (is-success (a .status))) (stable-said (with-tsq e (e .kappa) tsq) (a .status), prepared n grad b)
-    (stable-said (with-tsq e (e .kappa ⊗ p .delta) tsq) (a .status), succeeded n grad b omega (p .rho) (p .sigma)))
+stable-update-of e strategy grad beta b = stable-after e (update-of (stable-work e strategy grad beta b))
 
 -- the lengths that n says
 abbrev pub stable-fits : ℕ → List Float → StableBuffers → Bool
@@ -155,4 +152,4 @@ stable-tests n grad b = sized n (stable-fits n grad b)
 
 abbrev pub stable-update-answer : EllStable → CutStrategy → List Float → CutChoice → StableBuffers → EllStableUpdate × StableBuffers
 stable-update-answer e strategy grad beta b =
-    unless (stable-tests (e .ndim) grad b) (λ why place. (record { ell = e; answer = Refused why }, b)) (stable-update-of e strategy grad beta b)
+    update-answer (stable-after e) (stable-tests (e .ndim) grad b) (e .kappa) (e .tsq) b (stable-update-of e strategy grad beta b)

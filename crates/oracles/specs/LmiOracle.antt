@@ -24,6 +24,9 @@ pub record LmiBuffers : Type 0 where
   pub wit : List Float
   pub grad : List Float
 
+abbrev pub lmi-buffers : List Float → List Float → List Float → LmiBuffers
+lmi-buffers storage wit grad = record { storage = storage; wit = wit; grad = grad }
+
 -- mat_f[k], the part that begins at k × m²
 abbrev pub mat-of : ℕ → List Float → ℕ → List Float
 mat-of m mat-f k = take (m * m) (drop (k * (m * m)) mat-f)
@@ -39,8 +42,8 @@ lmi-assess-of m n mat-b mat-f xc b =
     let e = w .0 in
     let storage = w .1 in
     let wit = witness-of m (position-of e) storage (b .wit) in
-    pick (eqb e 0) (Feasible, record { storage = storage; wit = b .wit; grad = b .grad })
-    (Cut (position-of e) (Single (neg (at m storage (e - 1) (e - 1)))), record { storage = storage; wit = wit; grad = lmi-gradient m n (position-of e) wit mat-f })
+    pick (eqb e 0) (Feasible, lmi-buffers storage (b .wit) (b .grad))
+    (Cut (position-of e) (Single (neg (at m storage (e - 1) (e - 1)))), lmi-buffers storage wit (lmi-gradient m n (position-of e) wit mat-f))
 
 -- the lengths that m and n say
 abbrev pub lmi-fits : ℕ → ℕ → List Float → List Float → List Float → LmiBuffers → Bool

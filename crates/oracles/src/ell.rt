@@ -7,6 +7,7 @@ use crate::ell_common::is_tiny;
 use crate::ell_common::lengths_fit;
 use crate::ell_common::move_centre;
 use crate::ell_common::outcome_of;
+use crate::matrix::at;
 use numbers::arr::dot_mv_into;
 use numbers::arr::dot_zip;
 use numbers::arr::is_dimension;
@@ -20,9 +21,11 @@ ghost use mathlib.Core.Bool.{true};
 ghost use Prim.Native.Nat.{_*_, _≤_, _<_};
 ghost use lib.ListN.{length};
 ghost use Rattle.numbers.specs.Arr.{is-dimension};
-ghost use Rattle.oracles.specs.Ell.{new-ell-answer, rank-one, with-tsq, updated, ell-said, ell-update-of, ell-update-answer};
-ghost use Rattle.oracles.specs.EllCommon.{outcome-answer};
+ghost use Rattle.oracles.specs.Ell.{EllBuffers, ell-buffers, new-ell-answer, rank-one, with-tsq, ell-work, change-of, ell-changed, ell-update-answer};
+ghost use Rattle.oracles.specs.EllCommon.{change, update-of};
+ghost use Rattle.oracles.specs.declared.ell_common.Update.the-variants.{Status};
 ghost use Rattle.oracles.specs.laws.Ell.{row-lowered, all-lowered, row-mirrored, mirrored};
+ghost use Rattle.oracles.specs.laws.EllCalls.{EllLong};
 
 // What is kept beside the matrix mq and the centre xc.
 pub struct Ell {
@@ -37,8 +40,8 @@ pub enum NewEll {
     Refused(Refusal),
 }
 
-// What an update changes, and what it came to. The outcome lies between the numbers: read as a pair by one load of 16 bytes they would wait for both stores of 8.
-pub struct Moved {
+// What an update changes beside the slices, and what it came to. The outcome lies between the numbers: read as a pair by one load of 16 bytes they would wait for both stores of 8.
+pub struct EllChange {
     pub kappa: f64,
     pub outcome: Outcome,
     pub tsq: f64,
@@ -81,7 +84,7 @@ fn mirror_row(n: usize, mq: &mut [f64], i: usize)
 {
     let mut j = 0;
     while j < i {
-        mq[j * n + i] = mq[i * n + j];
+        mq[j * n + i] = at(n, mq, i, j);
         j += 1;
     }
 }
@@ -106,6 +109,17 @@ fn shrink(n: usize, mq: &mut [f64], ratio: f64, gt: &[f64])
     mirror(n, mq);
 }
 
+// Another kappa and tsq, and a status.
+fn said(kappa: f64, tsq: f64, status: CutStatus) -> EllChange
+    ensures { λ r. ⌜ ((b : EllBuffers) → change-of r b ≡ change (Status status) kappa tsq b) ⌝ }
+{
+    EllChange {
+        kappa: kappa,
+        outcome: outcome_of(status),
+        tsq: tsq,
+    }
+}
+
 impl Ell {
     // The state beside a matrix and a centre of dimension n.
     pub fn new_with_matrix(n: usize, kappa: f64) -> NewEll
@@ -122,35 +136,24 @@ impl Ell {
         }
     }
 
-    // The same ellipsoid with the kappa and tsq of an update.
-    pub fn after(self, moved: Moved) -> Ell
-        ensures { λ r. ⌜ r ≡ with-tsq self (moved .kappa) (moved .tsq) ⌝ }
+    // The ellipsoid after a change, to be used with the matrix that the change left.
+    pub fn changed(self, change: EllChange) -> Ell
+        ensures { λ r. ⌜ r ≡ with-tsq self (change .kappa) (change .tsq) ⌝ }
     {
         let helper = self.helper;
         Ell {
             ndim: self.ndim,
-            kappa: moved.kappa,
+            kappa: change.kappa,
             helper: helper,
-            tsq: moved.tsq,
-        }
-    }
-
-    // Another kappa and tsq, and a status.
-    fn said(self, kappa: f64, tsq: f64, status: CutStatus) -> Moved
-        ensures { λ r. ⌜ updated self r ≡ ell-said (with-tsq self kappa tsq) status ⌝ }
-    {
-        Moved {
-            kappa: kappa,
-            outcome: outcome_of(status),
-            tsq: tsq,
+            tsq: change.tsq,
         }
     }
 
     // Nothing changed, and why a call is refused.
-    fn refused(self, outcome: Outcome) -> Moved
-        ensures { λ r. ⌜ updated self r ≡ record { ell = self; answer = outcome-answer outcome } ⌝ }
+    fn refused(self, outcome: Outcome) -> EllChange
+        ensures { λ r. ⌜ r ≡ record { kappa = self .kappa; outcome = outcome; tsq = self .tsq } ⌝ }
     {
-        Moved {
+        EllChange {
             kappa: self.kappa,
             outcome: outcome,
             tsq: self.tsq,
@@ -166,31 +169,33 @@ impl Ell {
         mq: &mut [f64],
         xc: &mut [f64],
         grad_t: &mut [f64],
-    ) -> Moved
-        requires { ⌜ (is-dimension (self .ndim) ≡ true) × (length (now grad) ≡ self .ndim) × (length (now mq) ≡ self .ndim * self .ndim) × (length (now xc) ≡ self .ndim) × (length (now «grad_t») ≡ self .ndim) ⌝ }
-        ensures { λ r. ⌜ (updated self r, record { mq = now (mq .exit); xc = now (xc .exit); grad-t = now («grad_t» .exit) }) ≡ ell-update-of self strategy (now (grad .entry)) beta (record { mq = now (mq .entry); xc = now (xc .entry); grad-t = now («grad_t» .entry) }) ⌝ }
+    ) -> EllChange
+        requires { ⌜ (is-dimension (self .ndim) ≡ true) × (length (now grad) ≡ self .ndim) × EllLong (self .ndim) (ell-buffers (now mq) (now xc) (now «grad_t»)) ⌝ }
+        ensures { λ r. ⌜
+            change-of r (ell-buffers (now (mq .exit)) (now (xc .exit)) (now («grad_t» .exit)))
+            ≡ update-of (ell-work self strategy (now (grad .entry)) beta (ell-buffers (now (mq .entry)) (now (xc .entry)) (now («grad_t» .entry)))) ⌝ }
     {
         let n = self.ndim;
         dot_mv_into(n, mq, grad, grad_t);
         let omega = dot_zip(grad, grad_t);
         if is_tiny(omega) {
-            return self.said(self.kappa, self.tsq, CutStatus::NoEffect);
+            return said(self.kappa, self.tsq, CutStatus::NoEffect);
         }
         let tsq = self.kappa * omega;
         let helper = self.helper;
         let answer = strategy.calc(helper, beta, tsq);
         let status = answer.status;
         if !is_success(status) {
-            return self.said(self.kappa, tsq, status);
+            return said(self.kappa, tsq, status);
         }
         let params = answer.params;
         move_centre(xc, params.rho / omega, grad_t);
         shrink(n, mq, params.sigma / omega, grad_t);
-        self.said(self.kappa * params.delta, tsq, status)
+        said(self.kappa * params.delta, tsq, status)
     }
 
-    // What `update_core` changes. It is called by itself where a run keeps the rest: the ellipsoid is not copied there.
-    pub fn cut(
+    // What `update_core` changes beside the slices, in a small form: a run keeps the rest, and copies no ellipsoid. The matrix that it leaves belongs to `changed` of this.
+    pub fn change(
         self,
         strategy: CutStrategy,
         grad: &[f64],
@@ -198,8 +203,10 @@ impl Ell {
         mq: &mut [f64],
         xc: &mut [f64],
         grad_t: &mut [f64],
-    ) -> Moved
-        ensures { λ r. ⌜ (updated self r, record { mq = now (mq .exit); xc = now (xc .exit); grad-t = now («grad_t» .exit) }) ≡ ell-update-answer self strategy (now (grad .entry)) beta (record { mq = now (mq .entry); xc = now (xc .entry); grad-t = now («grad_t» .entry) }) ⌝ }
+    ) -> EllChange
+        ensures { λ r. ⌜
+            (ell-changed self r, ell-buffers (now (mq .exit)) (now (xc .exit)) (now («grad_t» .exit)))
+            ≡ ell-update-answer self strategy (now (grad .entry)) beta (ell-buffers (now (mq .entry)) (now (xc .entry)) (now («grad_t» .entry))) ⌝ }
     {
         let n = self.ndim;
         if !is_dimension(n) {
@@ -224,12 +231,14 @@ impl Ell {
         xc: &mut [f64],
         grad_t: &mut [f64],
     ) -> EllUpdate
-        ensures { λ r. ⌜ (r, record { mq = now (mq .exit); xc = now (xc .exit); grad-t = now («grad_t» .exit) }) ≡ ell-update-answer self strategy (now (grad .entry)) beta (record { mq = now (mq .entry); xc = now (xc .entry); grad-t = now («grad_t» .entry) }) ⌝ }
+        ensures { λ r. ⌜
+            (r, ell-buffers (now (mq .exit)) (now (xc .exit)) (now («grad_t» .exit)))
+            ≡ ell-update-answer self strategy (now (grad .entry)) beta (ell-buffers (now (mq .entry)) (now (xc .entry)) (now («grad_t» .entry))) ⌝ }
     {
-        let moved = self.cut(strategy, grad, beta, mq, xc, grad_t);
-        let outcome = moved.outcome;
+        let change = self.change(strategy, grad, beta, mq, xc, grad_t);
+        let outcome = change.outcome;
         EllUpdate {
-            ell: self.after(moved),
+            ell: self.changed(change),
             answer: outcome.answer(),
         }
     }

@@ -1,4 +1,5 @@
 // The factorization A = L D Lᵀ of a matrix of order m, and what proves that it is not positive definite (ldlt_mgr.rs).
+use crate::matrix::at;
 use numbers::arr::Number;
 use numbers::refusal::Refusal;
 ghost use mathlib.Core.Path.{_≡_};
@@ -27,14 +28,6 @@ pub fn is_order(m: usize) -> bool
     ensures { λ r. ⌜ r ≡ is-order m ⌝ }
 {
     1 <= m && m <= 32
-}
-
-// Entry (i, j) of a matrix (`at` of arr.rs).
-pub(crate) fn at(m: usize, mat: &[f64], i: usize, j: usize) -> f64
-    requires { ⌜ (m ≤ 32) × (i < m) × (j < m) × (length (now mat) ≡ m * m) ⌝ }
-    ensures { λ r. ⌜ r ≡ at m (now (mat .entry)) i j ⌝ }
-{
-    mat[i * m + j]
 }
 
 // The LMI's entry (i, j); with an empty xc it is mat_b's own.
@@ -74,8 +67,12 @@ fn factor_row(
     storage: &mut [f64],
     i: usize,
 ) -> f64
-    requires { ⌜ LmiReads m (now «mat_b») (now «mat_f») (now xc) × (i < m) × (length (now storage) ≡ m * m) × FactoredTo (get-elem m (now «mat_b») (now «mat_f») (now xc)) m (now storage) i ⌝ }
-    ensures { λ r. ⌜ (r ≡ reduced (get-elem m (now («mat_b» .entry)) (now («mat_f» .entry)) (now (xc .entry))) i i) × (now (storage .exit) ≡ filled (get-elem m (now («mat_b» .entry)) (now («mat_f» .entry)) (now (xc .entry))) m (now (storage .entry)) (suc i)) ⌝ }
+    requires { ⌜
+        LmiReads m (now «mat_b») (now «mat_f») (now xc) × (i < m) × (length (now storage) ≡ m * m)
+        × FactoredTo (get-elem m (now «mat_b») (now «mat_f») (now xc)) m (now storage) i ⌝ }
+    ensures { λ r. ⌜
+        (r ≡ reduced (get-elem m (now («mat_b» .entry)) (now («mat_f» .entry)) (now (xc .entry))) i i)
+        × (now (storage .exit) ≡ filled (get-elem m (now («mat_b» .entry)) (now («mat_f» .entry)) (now (xc .entry))) m (now (storage .entry)) (suc i)) ⌝ }
 {
     let mut diag = get_elem(m, mat_b, mat_f, xc, i, 0);
     let mut j = 0;

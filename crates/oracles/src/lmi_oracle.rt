@@ -1,10 +1,10 @@
 // The LMI assessment: is mat_b − Σ xc[k] mat_f[k] positive definite (lmi_oracle.rs, lmi_oracle_base.rs)?
 use crate::ldlt_mgr::Pos;
-use crate::ldlt_mgr::at;
 use crate::ldlt_mgr::factor_rows;
 use crate::ldlt_mgr::is_order;
 use crate::ldlt_mgr::quad;
 use crate::ldlt_mgr::witness_into;
+use crate::matrix::at;
 use numbers::arr::is_dimension;
 use numbers::cut::CutChoice;
 use numbers::refusal::Refusal;
@@ -13,7 +13,7 @@ ghost use Prim.Native.Nat.{_*_, _≤_, _<_};
 ghost use mathlib.Core.Bool.{_&&_};
 ghost use lib.Dec.{eqb};
 ghost use lib.ListN.{length};
-ghost use Rattle.oracles.specs.LmiOracle.{lmi-gradient, lmi-assess-of, lmi-answer};
+ghost use Rattle.oracles.specs.LmiOracle.{lmi-buffers, lmi-gradient, lmi-assess-of, lmi-answer};
 
 // A cut has the place where the factorization stopped, and one beta: the negated last pivot.
 pub enum LmiVerdict {
@@ -48,8 +48,12 @@ fn assess(
     wit: &mut [f64],
     grad: &mut [f64],
 ) -> LmiVerdict
-    requires { ⌜ (m ≤ 32) × (n ≤ 32) × (length (now «mat_b») ≡ m * m) × (length (now «mat_f») ≡ n * (m * m)) × (length (now xc) ≡ n) × (length (now storage) ≡ m * m) × (length (now wit) ≡ m) × (length (now grad) ≡ n) ⌝ }
-    ensures { λ r. ⌜ (r, record { storage = now (storage .exit); wit = now (wit .exit); grad = now (grad .exit) }) ≡ lmi-assess-of m n (now («mat_b» .entry)) (now («mat_f» .entry)) (now (xc .entry)) (record { storage = now (storage .entry); wit = now (wit .entry); grad = now (grad .entry) }) ⌝ }
+    requires { ⌜
+        (m ≤ 32) × (n ≤ 32) × (length (now «mat_b») ≡ m * m) × (length (now «mat_f») ≡ n * (m * m)) × (length (now xc) ≡ n)
+        × (length (now storage) ≡ m * m) × (length (now wit) ≡ m) × (length (now grad) ≡ n) ⌝ }
+    ensures { λ r. ⌜
+        (r, lmi-buffers (now (storage .exit)) (now (wit .exit)) (now (grad .exit)))
+        ≡ lmi-assess-of m n (now («mat_b» .entry)) (now («mat_f» .entry)) (now (xc .entry)) (lmi-buffers (now (storage .entry)) (now (wit .entry)) (now (grad .entry))) ⌝ }
 {
     let end = factor_rows(m, mat_b, mat_f, xc, storage);
     if end == 0 {
@@ -91,7 +95,9 @@ pub fn assess_feas(
     wit: &mut [f64],
     grad: &mut [f64],
 ) -> LmiVerdict
-    ensures { λ r. ⌜ (r, record { storage = now (storage .exit); wit = now (wit .exit); grad = now (grad .exit) }) ≡ lmi-answer m n (now («mat_b» .entry)) (now («mat_f» .entry)) (now (xc .entry)) (record { storage = now (storage .entry); wit = now (wit .entry); grad = now (grad .entry) }) ⌝ }
+    ensures { λ r. ⌜
+        (r, lmi-buffers (now (storage .exit)) (now (wit .exit)) (now (grad .exit)))
+        ≡ lmi-answer m n (now («mat_b» .entry)) (now («mat_f» .entry)) (now (xc .entry)) (lmi-buffers (now (storage .entry)) (now (wit .entry)) (now (grad .entry))) ⌝ }
 {
     if !is_order(m) {
         return LmiVerdict::Refused(Refusal::Dimension);

@@ -10,14 +10,12 @@ use lib.Dec.{leb}
 use lib.ListN.{length, take, length-append}
 use lib.Seq.{length-take-le}
 use lib.Ieee.{Float}
-use Rattle.numbers.specs.F64.{0ᶠ}
 use Rattle.numbers.specs.Pick.{pick}
 use Rattle.numbers.specs.laws.Arr.{length-tab}
-use Rattle.numbers.specs.EllCalc.{made}
 use Rattle.numbers.specs.laws.Pick.{and-parts}
 use Rattle.numbers.specs.Refusal.{_⨾_, unless}
 use Rattle.numbers.specs.laws.Refusal.{both-sound, ask-sound}
-use Rattle.oracles.specs.Ell.{EllBuffers}
+use Rattle.oracles.specs.Ell.{EllBuffers, fresh-ell}
 use Rattle.oracles.specs.laws.EllCalls.{EllLong, ell-makes}
 use Rattle.drivers.specs.Record.{number-at, numbers-at, fields-of, row-count, rows-of, is-row, rows-in, content-of, fronted, place}
 use Rattle.drivers.specs.CuttingPlane.{State, check-state}
@@ -120,7 +118,7 @@ module _ (bytes : List ℕ) (table xc mq : List Float) where
 -- the run that is made of a job, and all that it moves, with the slices that it is lent
 abbrev pub job-run : Job → Run
 job-run j =
-    record { oracle = job-oracle j; ell = record { ndim = j .n; kappa = j .kappa; helper = made (j .n); tsq = 0ᶠ }; options = j .options; rows = j .rows; niter = 0 }
+    record { oracle = job-oracle j; ell = fresh-ell (j .n) (j .kappa); options = j .options; rows = j .rows; niter = 0 }
 
 abbrev pub job-state : Job → EllBuffers → List Float → State
 job-state j b grad = run-state (job-run j) b grad

@@ -10,28 +10,24 @@ use borrow.Rule.Slice.PartMut.{putMid}
 use lib.Dec.{leb, ltb, eqb}
 use lib.ListN.{length, set, take, drop}
 use lib.Ieee.{Float}
-use Rattle.numbers.specs.F64.{_⊖_, _⊗_, _⊘_, 0ᶠ}
+use Rattle.numbers.specs.F64.{_⊖_, _⊗_, _⊘_}
 use Rattle.numbers.specs.Pick.{pick}
 use Rattle.numbers.specs.Arr.{tab, mv-of, dot-of}
 use Rattle.numbers.specs.declared.cut.CutAnswer.{CutAnswer}
 use Rattle.numbers.specs.declared.cut.CutChoice.{CutChoice}
 use Rattle.numbers.specs.declared.cut.CutStatus.the-variants.{NoEffect}
-use Rattle.numbers.specs.EllCalc.{made, new-answer, new-tests}
-use Rattle.numbers.specs.declared.ell_calc.NewEllCalc.{NewEllCalc}
-use Rattle.numbers.specs.declared.ell_calc.NewEllCalc.the-variants.{Made as MadeCalc, Refused as NoCalc}
 use Rattle.numbers.specs.laws.Arr.{length-tab, tab-entry}
-use Rattle.numbers.specs.laws.Pick.{hit, skip, is-hit, is-skip, both-ways, pick-cong, pick-grow}
-use Rattle.numbers.specs.laws.Refusal.{unless-map}
+use Rattle.numbers.specs.laws.Pick.{is-hit, is-skip, both-ways, pick-cong, pick-grow}
 use Rattle.oracles.specs.Matrix.{nth, at, grid}
 use Rattle.oracles.specs.laws.Matrix.{length-grid, grid-at, grid-cong}
 use Rattle.oracles.specs.laws.Loop.{MatrixOf, matrix-set, matrix-grid, swept-by, by-zero, by-left, by-past, by-turn, by-done, part-long, part-entry, part-turn}
-use Rattle.oracles.specs.EllCommon.{calc-of, is-tiny, is-success, centre-of}
+use Rattle.oracles.specs.EllCommon.{calc-of, is-tiny, is-success, centre-of, change, update-of}
 use Rattle.oracles.specs.declared.ell_common.CutStrategy.{CutStrategy}
 use Rattle.oracles.specs.declared.ell.Ell.{Ell}
-use Rattle.oracles.specs.declared.ell.EllUpdate.{EllUpdate}
-use Rattle.oracles.specs.declared.ell.NewEll.{NewEll}
-use Rattle.oracles.specs.declared.ell.NewEll.the-variants.{Made, Refused as NotMade}
-use Rattle.oracles.specs.Ell.{EllBuffers, rank-one, new-ell-answer, with-tsq, ell-said, ell-update-of}
+use Rattle.oracles.specs.declared.ell.EllChange.{EllChange}
+use Rattle.oracles.specs.declared.ell_common.Update.the-variants.{Status}
+use Rattle.oracles.specs.Ell.{EllBuffers, ell-buffers, rank-one, ell-work, change-of}
+use Rattle.oracles.proofs.ell_common.Laws.{no-effect, fails, succeeds}
 use Rattle.oracles.specs.laws.Ell.{row-lowered, all-lowered, mirrored-to, row-mirrored, mirrored}
 
 -- ---- column i from row i
@@ -42,11 +38,11 @@ mirror-start n i mq l = record {
   each = λ r c _ _. both-ways (eqb c i) (λ _. sym (is-skip (ltb r 0) (at n mq c r) (at n mq r c) (le-ltb r 0 (omega arith)))) (λ _. refl);
 }
 
-pub mirror-turn : (n i j : ℕ) (mq₀ mq : List Float) → MatrixOf n (mirrored-to n mq₀ i j) mq → j < i → i < n
-    → MatrixOf n (mirrored-to n mq₀ i (j + 1)) (set mq (j * n + i) (at n mq i j))
-mirror-turn n i j mq₀ mq h a b =
-    matrix-set n (mirrored-to n mq₀ i j) (mirrored-to n mq₀ i (j + 1)) mq j i (at n mq i j) h (omega arith) b
-    (h .each i j b (omega arith) ∙ is-skip (eqb j i) _ _ (ne-eqb j i (λ q. absurd (omega (arith, q))))
+pub mirror-turn : (n i j : ℕ) (mq₀ mq : List Float) (v : Float) → MatrixOf n (mirrored-to n mq₀ i j) mq → v ≡ at n mq i j → j < i → i < n
+    → MatrixOf n (mirrored-to n mq₀ i (j + 1)) (set mq (j * n + i) v)
+mirror-turn n i j mq₀ mq v h e a b =
+    matrix-set n (mirrored-to n mq₀ i j) (mirrored-to n mq₀ i (j + 1)) mq j i v h (omega arith) b
+    (e ∙ h .each i j b (omega arith) ∙ is-skip (eqb j i) _ _ (ne-eqb j i (λ q. absurd (omega (arith, q))))
     ∙ sym (is-hit (eqb i i) _ _ (eq-eqb i i refl) ∙ is-hit (ltb j (j + 1)) (at n mq₀ i j) (at n mq₀ j i) (lt-ltb j (j + 1) (omega arith))))
     (λ r c _ _ q. pick-cong (eqb c i) (λ e. pick-grow r j (at n mq₀ c r) (at n mq₀ r c) (λ z. q z (eqb-true c i e))) (λ _. refl))
 
@@ -130,35 +126,24 @@ shrunk n ratio gt mq =
     low : ℕ → ℕ → Float
     low r c = pick (leb c r) (at n mq r c ⊖ ratio ⊗ nth gt r ⊗ nth gt c) (at n mq r c)
 
--- ---- what is made of the calculator's answer
-
-abbrev pub from-calc : ℕ → Float → NewEllCalc → NewEll
-from-calc n kappa (MadeCalc helper) = Made (record { ndim = n; kappa = kappa; helper = helper; tsq = 0ᶠ })
-from-calc n kappa (NoCalc why) = NotMade why
-
-pub made-from : (n : ℕ) (kappa : Float) → from-calc n kappa (new-answer n) ≡ new-ell-answer n kappa
-unfolding new-answer new-ell-answer
-made-from n kappa = unless-map (from-calc n kappa) (new-tests n) (λ why place. NoCalc why) (MadeCalc (made n))
-
 -- ---- the ways through an update, from what its calls answered
 
-module _ (e : Ell) (s : CutStrategy) (grad : List Float) (beta : CutChoice) (b : EllBuffers) (gt : List Float) (omega : Float) (tiny : Bool)
+-- r is what `said` answered
+module _ (e : Ell) (s : CutStrategy) (grad : List Float) (beta : CutChoice) (b : EllBuffers) (r : EllChange) (gt : List Float) (omega : Float) (tiny : Bool)
     (g : gt ≡ mv-of (e .ndim) (b .mq) grad) (o : omega ≡ dot-of grad gt) (t : tiny ≡ is-tiny omega) where
-  tiny-is : is-tiny (dot-of grad (mv-of (e .ndim) (b .mq) grad)) ≡ tiny
-  tiny-is = sym (t ∙ ap is-tiny (o ∙ ap (dot-of grad) g))
+  omega-is : omega ≡ dot-of grad (mv-of (e .ndim) (b .mq) grad)
+  omega-is = o ∙ ap (dot-of grad) g
 
-  pub no-effect : (r : EllUpdate) → tiny ≡ true → r ≡ ell-said e NoEffect → (r, record { mq = b .mq; xc = b .xc; grad-t = gt }) ≡ ell-update-of e s grad beta b
-  unfolding ell-update-of
-  no-effect r h q = hit _ _ _ _ (tiny-is ∙ h) (rw (q, g))
+  pub ell-no-effect : tiny ≡ true → ((c : EllBuffers) → change-of r c ≡ change (Status NoEffect) (e .kappa) (e .tsq) c)
+      → change-of r (ell-buffers (b .mq) (b .xc) gt) ≡ update-of (ell-work e s grad beta b)
+  ell-no-effect h q = no-effect (ell-work e s grad beta b) _ omega tiny omega-is t h (q _ ∙ rw g)
 
   module _ (a : CutAnswer) (ok : Bool) (k : a ≡ calc-of s (e .helper) beta (e .kappa ⊗ omega)) (u : ok ≡ is-success (a .status)) (h : tiny ≡ false) where
-    pub fails : (r : EllUpdate) → not ok ≡ true → r ≡ ell-said (with-tsq e (e .kappa) (e .kappa ⊗ omega)) (a .status)
-        → (r, record { mq = b .mq; xc = b .xc; grad-t = gt }) ≡ ell-update-of e s grad beta b
-    unfolding ell-update-of
-    fails r f q = skip _ _ _ _ (tiny-is ∙ h) (hit _ _ _ _ (rw (← g, ← o, ← k, ← u) f) (rw (q, k, o, g)))
+    pub ell-fails : not ok ≡ true → ((c : EllBuffers) → change-of r c ≡ change (Status (a .status)) (e .kappa) (e .kappa ⊗ omega) c)
+        → change-of r (ell-buffers (b .mq) (b .xc) gt) ≡ update-of (ell-work e s grad beta b)
+    ell-fails f q = fails (ell-work e s grad beta b) _ omega tiny omega-is t a ok k u h f (q _ ∙ rw g)
 
-    pub succeeds : (r : EllUpdate) (mq xc : List Float) → not ok ≡ false → mq ≡ rank-one (e .ndim) (a .params .sigma ⊘ omega) gt (b .mq)
-        → xc ≡ centre-of (b .xc) (a .params .rho ⊘ omega) gt → r ≡ ell-said (with-tsq e (e .kappa ⊗ a .params .delta) (e .kappa ⊗ omega)) (a .status)
-        → (r, record { mq = mq; xc = xc; grad-t = gt }) ≡ ell-update-of e s grad beta b
-    unfolding ell-update-of
-    succeeds r mq xc f x y q = skip _ _ _ _ (tiny-is ∙ h) (skip _ _ _ _ (rw (← g, ← o, ← k, ← u) f) (rw (q, x, y, k, o, g)))
+    pub ell-succeeds : (mq xc : List Float) → not ok ≡ false → mq ≡ rank-one (e .ndim) (a .params .sigma ⊘ omega) gt (b .mq)
+        → xc ≡ centre-of (b .xc) (a .params .rho ⊘ omega) gt → ((c : EllBuffers) → change-of r c ≡ change (Status (a .status)) (e .kappa ⊗ a .params .delta) (e .kappa ⊗ omega) c)
+        → change-of r (ell-buffers mq xc gt) ≡ update-of (ell-work e s grad beta b)
+    ell-succeeds mq xc f x y q = succeeds (ell-work e s grad beta b) _ omega tiny omega-is t a ok k u h f (q _ ∙ rw (x, y, ← omega-is, ← g))

@@ -1,305 +1,30 @@
--- The turns of the loops of ell_stable, and the ways through its update. Assumes nothing.
-use mathlib.Core.Path.{_≡_, refl, sym, ap, _∙_}
-use mathlib.Core.Bool.{Bool, true, false, not, _&&_, and-eq-true-iff}
-use mathlib.Core.List.{List, _∷_, _++_}
-use mathlib.Core.Logic.{⊎-elim}
-use Prim.Native.Nat.{ℕ, zero, suc, _≤_, _<_, _+_, _-_, _*_}
-use native.Mathlib.Nat.{zero-add, sub-zero, le-refl, eq-or-lt-of-le}
-use native.Mathlib.Numerals.{add-one}
-use native.Mathlib.Omega.{arith}
-use borrow.Author.Tests.{ltb-true, ltb-false, eqb-true, eqb-false, eq-eqb, ne-eqb, lt-ltb, le-ltb}
-use borrow.Rule.Slice.PartMut.{putMid}
-use lib.Dec.{ltb, eqb}
-use lib.Ieee.{Float, nan}
-use lib.ListN.{length, take, drop, set, length-drop, length-append, List·getD-append}
-use lib.Seq.{getD-at, getD-append-add, getD-take, getD-drop, getD-set-same, getD-set-other, set-at, set-getD, set-set, append-snoc, take-all, take-suc, length-take-le}
+-- What `prepare` and `succeed` leave, and the ways through an update of ell_stable. Assumes nothing.
+use mathlib.Core.Path.{_≡_, ap, _∙_}
+use mathlib.Core.Bool.{Bool, true, false, not, _&&_}
+use mathlib.Core.List.{List}
+use Prim.Native.Nat.{ℕ, _*_}
+use native.Mathlib.Nat.{le-refl}
+use lib.Dec.{eqb}
+use lib.Ieee.{Float}
+use lib.ListN.{length}
 use Rattle.numbers.specs.F64.{_⊕_, _⊖_, _⊗_, _⊘_, 0ᶠ, 1ᶠ}
-use Rattle.numbers.specs.Pick.{pick}
-use Rattle.numbers.specs.Arr.{tab, is-dimension}
-use Rattle.numbers.specs.EllCalc.{made, new-answer, new-tests}
+use Rattle.numbers.specs.Arr.{tab}
 use Rattle.numbers.specs.declared.cut.CutAnswer.{CutAnswer}
 use Rattle.numbers.specs.declared.cut.CutChoice.{CutChoice}
 use Rattle.numbers.specs.declared.cut.CutStatus.the-variants.{NoEffect}
-use Rattle.numbers.specs.declared.ell_calc.NewEllCalc.{NewEllCalc}
-use Rattle.numbers.specs.declared.ell_calc.NewEllCalc.the-variants.{Made as MadeCalc, Refused as NoCalc}
-use Rattle.numbers.specs.laws.Arr.{length-tab, FilledTo, filled-turn, tab-entry, tab-ext, tab-cong}
-use Rattle.numbers.specs.laws.Pick.{hit, skip, is-hit, is-skip, both-ways, pick-cong}
-use Rattle.numbers.specs.laws.Refusal.{unless-map}
 use Rattle.oracles.specs.Matrix.{nth, at, total}
-use Rattle.oracles.specs.laws.Matrix.{total-turn, total-cong}
-use Rattle.oracles.specs.laws.Loop.{VectorOf, MatrixOf, swept, sweep-start, sweep-left, sweep-past, sweep-turn, swept-by, by-start, by-left, by-past, by-done, part-long, part-entry, part-turn}
 use Rattle.oracles.specs.EllCommon.{calc-of, is-tiny, is-success, centre-of}
 use Rattle.oracles.specs.declared.ell_common.CutStrategy.{CutStrategy}
 use Rattle.oracles.specs.declared.ell_stable.EllStable.{EllStable}
 use Rattle.oracles.specs.declared.ell_stable.EllStableUpdate.{EllStableUpdate}
-use Rattle.oracles.specs.declared.ell_stable.NewEllStable.{NewEllStable}
-use Rattle.oracles.specs.declared.ell_stable.NewEllStable.the-variants.{Made, Refused as NotMade}
-use Rattle.oracles.specs.EllStable.{StableBuffers, new-ell-stable-answer, forward, inv-ml-g-of, inv-md-inv-ml-g-of, gg-t-of, omega-of, lowered, backward, t-start, updated, with-tsq, stable-said, succeeded, stable-update-of}
+use Rattle.oracles.specs.EllStable.{StableBuffers, inv-ml-g-of, inv-md-inv-ml-g-of, gg-t-of, omega-of, lowered, backward, t-start, rank-one-factors, succeeded}
 use Rattle.oracles.proofs.ell_common.Laws.{lengths}
-use Rattle.oracles.specs.laws.EllStable.{solved-back, column-taken, row-updated, less-columns, t-after, factor-at, factors-after, forward-total, scaled, products, summed, columns-lowered, factors-lowered, backward-lowered}
-
--- ---- an entry from which a sum of products is taken, in place
-
-module _ (w : List Float) (i : ℕ) (f : ℕ → Float) where
-  pub taken-start : w ≡ set w i (total _⊖_ (nth w i) f 0)
-  unfolding total
-  taken-start = sym (set-getD w i nan)
-
-  pub taken-turn : (w′ : List Float) (j : ℕ) (v : Float) → i < length w → w′ ≡ set w i (total _⊖_ (nth w i) f j) → v ≡ f j
-      → set w′ i (nth w′ i ⊖ v) ≡ set w i (total _⊖_ (nth w i) f (j + 1))
-  taken-turn w′ j v l e h =
-      let s = total _⊖_ (nth w i) f j in
-      let same : nth w′ i ≡ s = ap (λ (z : List Float). nth z i) e ∙ getD-set-same w i s nan l in
-      ap (λ (z : List Float). set z i (nth w′ i ⊖ v)) e ∙ set-set w i s (nth w′ i ⊖ v)
-      ∙ ap (set w i) (total-turn _⊖_ (nth w i) f j (nth w′ i) v same h)
-
-  pub taken-other : (w′ : List Float) (j k : ℕ) → w′ ≡ set w i (total _⊖_ (nth w i) f j) → (k ≡ i → ⊥) → nth w′ k ≡ nth w k
-  taken-other w′ j k e o = ap (λ (z : List Float). nth z k) e ∙ getD-set-other w i k _ nan o
-
--- ---- row i of `backward`
-
-pub back-start : (n : ℕ) (mq q : List Float) (i : ℕ) → q ≡ solved-back n mq q i (i + 1 - (i + 1))
-back-start n mq q i =
-    let z : 0 ≡ i + 1 - (i + 1) = omega arith in
-    taken-start q i _ ∙ ap (solved-back n mq q i) z
-
-pub back-turn : (n : ℕ) (mq q₀ q : List Float) (i j : ℕ) → q ≡ solved-back n mq q₀ i (j - (i + 1)) → i < j → i < length q₀
-    → set q i (nth q i ⊖ at n mq i j ⊗ nth q j) ≡ solved-back n mq q₀ i (j + 1 - (i + 1))
-back-turn n mq q₀ q i j e l b =
-    taken-turn q₀ i f q (j - (i + 1)) (at n mq i j ⊗ nth q j) b e
-    (rw (taken-other q₀ i f q (j - (i + 1)) j e (λ z. absurd (omega (arith, z))), place))
-    ∙ ap (solved-back n mq q₀ i) next
-  where
-    f : ℕ → Float
-    f k = at n mq i (i + 1 + k) ⊗ nth q₀ (i + 1 + k)
-
-    place : i + 1 + (j - (i + 1)) ≡ j
-    place = omega arith
-
-    next : j - (i + 1) + 1 ≡ j + 1 - (i + 1)
-    next = omega arith
-
-pub back-done : (n : ℕ) (mq q₀ q : List Float) (i j : ℕ) → q ≡ solved-back n mq q₀ i (j - (i + 1)) → j ≡ n → q ≡ solved-back n mq q₀ i (n - (i + 1))
-back-done n mq q₀ q i j h e = h ∙ ap (λ (k : ℕ). solved-back n mq q₀ i (k - (i + 1))) e
-
--- ---- a row from its diagonal on, whose first entry is written before the others
-
-abbrev pub updated-from : Float → List Float → List Float → ℕ → Float
-updated-from beta2 v first l = pick (eqb l 0) (nth first l) (nth first l ⊕ beta2 ⊗ nth v l)
-
-pub row-done : (row : List Float) (ratio beta2 : Float) (v : List Float) → length row ≡ length v → 0 < length row
-    → tab (updated-from beta2 v (set row 0 (nth row 0 ⊗ ratio))) (length v) ≡ row-updated row ratio beta2 v
-unfolding row-updated
-row-done row ratio beta2 v h p =
-    ap (tab _) (sym h)
-    ∙ tab-cong _ _ (length row)
-    (λ k b. pick-cong (eqb k 0)
-    (λ q. let z : k ≡ 0 = eqb-true k 0 q in rw z (getD-set-same row 0 (nth row 0 ⊗ ratio) nan p))
-    (λ q. rw (getD-set-other row 0 k (nth row 0 ⊗ ratio) nan (eqb-false k 0 q))))
-
--- ---- every row of `forward`
-
-pub column-two : (f : ℕ → Float) (xs₀ xs : List Float) (j : ℕ) (a b : Float) → FilledTo f xs₀ xs j → j + 1 < length xs₀ → a ≡ f j → b ≡ f (j + 1)
-    → FilledTo f xs₀ (set (set xs j a) (j + 1) b) (j + 2)
-column-two f xs₀ xs j a b h l p q =
-    let e : j + 1 + 1 ≡ j + 2 = omega arith in
-    rw e at (filled-turn f xs₀ _ (j + 1) b (filled-turn f xs₀ xs j a h (omega arith) p) l q)
-
-pub column-done : (f : ℕ → Float) (xs₀ xs : List Float) (i j : ℕ) → FilledTo f xs₀ xs j → j ≡ i → xs ≡ tab f i ++ drop i xs₀
-column-done f xs₀ xs i j h e = rw e at (h .is)
-
-abbrev pub lowered-to : ℕ → List Float → List Float → ℕ → ℕ → ℕ → Float
-lowered-to n mq g = swept-by (λ r c. r) (λ r c. pick (ltb c r) (at n mq c r ⊗ inv-ml-g-of n mq g c) (at n mq r c)) (λ r c. at n mq r c)
-
-abbrev pub solved : ℕ → List Float → List Float → ℕ → ℕ → Float
-solved n mq g = swept (inv-ml-g-of n mq g) (λ k. nth g k)
-
-pub lowered-start : (n : ℕ) (mq g : List Float) → length mq ≡ n * n → MatrixOf n (lowered-to n mq g 1) mq
-lowered-start n mq g l =
-    by-start n (λ r c. r) _ _ 1 mq l (λ r c. refl) (λ r c _ _ m. sym (is-skip (ltb c r) (at n mq c r ⊗ inv-ml-g-of n mq g c) (at n mq r c) (le-ltb c r (omega (arith, m)))))
-
-pub solved-start : (n : ℕ) (mq g : List Float) → length g ≡ n → VectorOf n (solved n mq g 1) g
-unfolding inv-ml-g-of forward
-solved-start n mq g l = sweep-start n _ _ 1 g l (λ k b. refl) (λ k b. let z : k ≡ 0 = omega (arith, b) in rw z)
-
-module _ (n : ℕ) (mq₀ g : List Float) (i : ℕ) (mq w : List Float) (h : MatrixOf n (lowered-to n mq₀ g i) mq) (s : VectorOf n (solved n mq₀ g i) w) (l : i < n) where
-  product : (k : ℕ) → k < i → at n mq k i ⊗ nth w k ≡ at n mq₀ k i ⊗ inv-ml-g-of n mq₀ g k
-  product k b =
-      rw (by-past n _ _ _ i mq h k i (omega arith) l b ∙ is-skip (ltb i k) (at n mq₀ i k ⊗ inv-ml-g-of n mq₀ g i) (at n mq₀ k i) (le-ltb i k (omega arith)), sweep-past n _ _ i w s k b (omega arith))
-
-  -- with column i of the upper triangle in `column`
-  module _ (column₀ column : List Float) (e : column ≡ tab (λ j. at n mq j i) i ++ drop i column₀) where
-    abbrev row : List Float
-    row = take (i * n + i - i * n) (drop (i * n) mq)
-
-    lower-long : length row ≡ i
-    lower-long = part-long n _ _ i mq h 0 (i * n) (i * n + i - i * n) l (omega arith) (omega arith) ∙ omega arith
-
-    taken : (k : ℕ) → k < i → nth column k ⊗ nth w k ≡ at n mq₀ k i ⊗ inv-ml-g-of n mq₀ g k
-    taken k b =
-        let q : nth column k ≡ at n mq k i = ap (λ (z : List Float). nth z k) e ∙ List·getD-append (tab _ i) (drop i column₀) nan k (rw (length-tab _ i) b) ∙ tab-entry _ i k b in
-        rw q (product k b)
-
-    -- what `forward_row` requires
-    pub row-fits : length column₀ ≡ n → (length row ≤ length column) × (length row ≤ length w)
-    row-fits m =
-        let q : length column ≡ i + (n - i) = ap length e ∙ simp (length-append, length-tab, length-drop, m) in
-        (omega (arith, lower-long, q), omega (arith, lower-long, s .long))
-
-    pub lowered-turn : (row′ : List Float) → row′ ≡ tab (λ j. nth column j ⊗ nth w j) (length row) → MatrixOf n (lowered-to n mq₀ g (i + 1)) (putMid (i * n) (i * n + i - i * n) mq row′)
-    lowered-turn row′ y =
-        part-turn n _ _ i mq h 0 (i * n) (i * n + i - i * n) l (omega arith) (omega arith)
-        row′ (ap length y ∙ length-tab _ _ ∙ part-long n _ _ i mq h 0 (i * n) (i * n + i - i * n) l (omega arith) (omega arith))
-        (λ c m. let b : c < i = omega arith in
-        ap (λ (r : List Float). nth r c) y ∙ tab-entry _ _ c (omega (arith, lower-long)) ∙ taken c b
-        ∙ rw (zero-add c) (sym (is-hit (ltb c i) _ _ (lt-ltb c i b))))
-        (λ c m q. both-ways (ltb c i) (λ t. absurd (q (omega arith) (omega (arith, ltb-true c i t)))) (λ _. refl))
-
-    pub solved-turn : (v : Float) → v ≡ total _⊖_ (nth w i) (λ j. nth column j ⊗ nth w j) (length row) → VectorOf n (solved n mq₀ g (i + 1)) (set w i v)
-    unfolding inv-ml-g-of
-    solved-turn v y =
-        sweep-turn n _ _ i w s v l
-        (y ∙ rw (lower-long, sweep-left n _ _ i w s i (omega arith) l) (total-cong _⊖_ (nth g i) _ _ i taken) ∙ sym (forward-total n mq₀ g i i))
-
-pub lowered-done : (n : ℕ) (mq₀ g : List Float) (i : ℕ) (mq : List Float) → MatrixOf n (lowered-to n mq₀ g i) mq → n ≤ i → mq ≡ lowered n mq₀ g
-unfolding lowered
-lowered-done n mq₀ g i mq h l = by-done n _ _ _ i mq h (λ r c a b k. absurd (omega arith))
-
--- ---- every row of `backward`: below i the vector is as it was, from i on it is solved
-
-pub back-rows-start : (n : ℕ) (mq z : List Float) → 1 ≤ n → length z ≡ n → z ≡ take (n - 1) z ++ backward n mq z (n - (n - 1))
-unfolding backward total
-back-rows-start n mq z h l =
-    let one : n - (n - 1) ≡ 1 = omega arith in
-    let all : suc (n - 1) ≡ n = omega arith in
-    rw one (sym (take-all n z (omega arith)) ∙ ap (λ (k : ℕ). take k z) (sym all) ∙ take-suc z (n - 1) nan (omega arith))
-
--- row p, where `after` stands from p + 1 on
-module _ (z q after : List Float) (p : ℕ) (e : q ≡ take (p + 1) z ++ after) (h : p < length z) where
-  split : q ≡ take p z ++ nth z p ∷ after
-  split = e ∙ ap (λ (x : List Float). x ++ after) (ap (λ (k : ℕ). take k z) (add-one p) ∙ take-suc z p nan h) ∙ append-snoc (take p z) (nth z p) after
-
-  before-long : length (take p z) ≡ p
-  before-long = length-take-le p z (omega (arith, h))
-
-  own : nth q p ≡ nth z p
-  own = ap (λ (x : List Float). nth x p) split ∙ getD-at (take p z) (nth z p) after nan p before-long
-
-  later : (j : ℕ) → nth q (p + 1 + j) ≡ nth after j
-  later j =
-      let m : p + 1 + j ≡ length (take (p + 1) z) + j = rw (length-take-le (p + 1) z (omega (arith, h))) in
-      ap (λ (x : List Float). nth x (p + 1 + j)) e ∙ rw m (getD-append-add (take (p + 1) z) after j nan)
-
-  row-solved : (n : ℕ) (mq : List Float) (k : ℕ)
-      → solved-back n mq q p k ≡ take p z ++ total _⊖_ (nth z p) (λ j. at n mq p (p + 1 + j) ⊗ nth after j) k ∷ after
-  row-solved n mq k =
-      ap (λ (x : List Float). set x p (total _⊖_ (nth q p) (λ j. at n mq p (p + 1 + j) ⊗ nth q (p + 1 + j)) k)) split
-      ∙ set-at (take p z) (nth z p) after _ p before-long
-      ∙ rw own (ap (λ (x : Float). take p z ++ x ∷ after) (total-cong _⊖_ (nth z p) _ (λ j. at n mq p (p + 1 + j) ⊗ nth after j) k (λ j b. rw (later j))))
-
-pub back-rows-turn : (n : ℕ) (mq z q : List Float) (i p : ℕ) → i ≡ p + 1 → i < n → length z ≡ n → q ≡ take i z ++ backward n mq z (n - i)
-    → solved-back n mq q p (n - (p + 1)) ≡ take p z ++ backward n mq z (n - p)
-unfolding backward
-back-rows-turn n mq z q i p e h l g =
-    let k : n - p ≡ suc (n - (p + 1)) = omega arith in
-    let m : n - suc (n - (p + 1)) ≡ p = omega arith in
-    row-solved z q (backward n mq z (n - (p + 1))) p (g ∙ rw e) (omega arith) n mq (n - (p + 1)) ∙ rw (k, m)
-
-pub back-rows-done : (n : ℕ) (mq z q : List Float) (i : ℕ) → i ≤ 0 → q ≡ take i z ++ backward n mq z (n - i) → q ≡ backward n mq z n
-back-rows-done n mq z q i h g =
-    let e : i ≡ 0 = omega arith in
-    g ∙ rw (e, sub-zero)
-
--- ---- the rank-one update: the rows below j are done, and their columns taken from v
-
-abbrev pub factored-to : ℕ → List Float → List Float → List Float → Float → ℕ → ℕ → ℕ → Float
-factored-to n mq z v t0 = swept-by (λ r c. r) (factor-at n mq z v t0) (λ r c. at n mq r c)
-
-abbrev pub columns-to : ℕ → List Float → List Float → ℕ → ℕ → Float
-columns-to n mq v j l = pick (ltb l j) (less-columns n mq v l l) (less-columns n mq v l j)
-
-pub columns-start : (n : ℕ) (mq v : List Float) → length v ≡ n → VectorOf n (columns-to n mq v 0) v
-unfolding less-columns total
-columns-start n mq v l = record { long = l; each = λ k b. skip (ltb k 0) _ _ _ (le-ltb k 0 (omega arith)) refl }
-
-module _ (n : ℕ) (mq₀ z v₀ : List Float) (t0 : Float) (j : ℕ) (mq v : List Float) (h : MatrixOf n (factored-to n mq₀ z v₀ t0 j) mq) (s : VectorOf n (columns-to n mq₀ v₀ j) v) (l : j < n) where
-  -- entry k of v, with the column taken
-  column-entry : (k : ℕ) → k < n → pick (ltb j k) (nth v k ⊖ at n mq k j) (nth v k) ≡ columns-to n mq₀ v₀ (j + 1) k
-  unfolding less-columns
-  column-entry k b =
-      both-ways (ltb k (j + 1))
-      (λ t. let m : k ≤ j = omega (arith, ltb-true k (j + 1) t) in
-      is-skip (ltb j k) _ _ (le-ltb j k m) ∙ s .each k b ∙ ⊎-elim
-      (λ (q : k ≡ j). is-skip (ltb k j) _ _ (le-ltb k j (omega arith)) ∙ rw q)
-      (λ (q : k < j). is-hit (ltb k j) _ _ (lt-ltb k j q))
-      (eq-or-lt-of-le m))
-      (λ t. let m : j < k = omega (arith, ltb-false k (j + 1) t) in
-      is-hit (ltb j k) _ _ (lt-ltb j k m)
-      ∙ total-turn _⊖_ (nth v₀ k) _ j _ _ (s .each k b ∙ is-skip (ltb k j) _ _ (le-ltb k j (omega arith))) (by-left n _ _ _ j mq h k j b l (omega arith)))
-
-  columns-next : VectorOf n (columns-to n mq₀ v₀ (j + 1)) (column-taken n mq v j)
-  unfolding column-taken
-  columns-next = record { long = length-tab _ n; each = λ k b. tab-entry _ n k b ∙ column-entry k b }
-
-  -- entry j of v as it is read before
-  pub column-now : nth v j ≡ less-columns n mq₀ v₀ j j
-  column-now = s .each j l ∙ is-skip (ltb j j) _ _ (le-ltb j j (omega arith))
-
-  -- v′ is v with the column taken
-  module _ (v′ : List Float) (taken : v′ ≡ column-taken n mq v j) where
-    pub columns-turn : VectorOf n (columns-to n mq₀ v₀ (j + 1)) v′
-    columns-turn = rw taken columns-next
-
-    row-long : length (take (j * n + n - (j * n + j)) (drop (j * n + j) mq)) ≡ n - j
-    row-long = part-long n _ _ j mq h j (j * n + j) (j * n + n - (j * n + j)) l (omega arith) refl ∙ omega arith
-
-    -- the row from its diagonal on, and the part of v′ beside it
-    pub parts-fit : (0 < length (take (j * n + n - (j * n + j)) (drop (j * n + j) mq)))
-        × (length (take (j * n + n - (j * n + j)) (drop (j * n + j) mq)) ≡ length (take (n - j) (drop j v′)))
-    parts-fit =
-        (omega (arith, row-long), row-long ∙ sym (length-take-le (n - j) (drop j v′) (rw (length-drop j v′) (omega (arith, columns-turn .long)))))
-
-    beside : (c : ℕ) → 0 < c → c < n - j → nth (take (n - j) (drop j v′)) c ≡ less-columns n mq₀ v₀ (j + c) (suc j)
-    beside c p m =
-        getD-take (n - j) (drop j v′) c nan m ∙ getD-drop j v′ c nan ∙ columns-turn .each (j + c) (omega arith)
-        ∙ is-skip (ltb (j + c) (j + 1)) _ _ (le-ltb (j + c) (j + 1) (omega arith)) ∙ ap (less-columns n mq₀ v₀ (j + c)) (add-one j)
-
-    module _ (oldt : Float) (o : oldt ≡ t-after n mq₀ z v₀ t0 j) where
-      pub t-turn : oldt ⊕ nth v j ⊗ nth z j ≡ t-after n mq₀ z v₀ t0 (j + 1)
-      unfolding t-after
-      t-turn = total-turn _⊕_ t0 _ j oldt (nth v j ⊗ nth z j) o (rw column-now)
-
-      pub factored-turn : (row′ : List Float) (newt : Float) → newt ≡ oldt ⊕ nth v j ⊗ nth z j
-          → row′ ≡ row-updated (take (j * n + n - (j * n + j)) (drop (j * n + j) mq)) (oldt ⊘ newt) (nth z j ⊘ newt) (take (n - j) (drop j v′))
-          → MatrixOf n (factored-to n mq₀ z v₀ t0 (j + 1)) (putMid (j * n + j) (j * n + n - (j * n + j)) mq row′)
-      unfolding row-updated
-      factored-turn row′ newt w y =
-          part-turn n _ _ j mq h j (j * n + j) (j * n + n - (j * n + j)) l (omega arith) refl
-          row′ (ap length y ∙ length-tab _ _ ∙ part-long n _ _ j mq h j (j * n + j) (j * n + n - (j * n + j)) l (omega arith) refl)
-          (λ c m.
-          let e : nth (take (j * n + n - (j * n + j)) (drop (j * n + j) mq)) c ≡ at n mq₀ j (j + c) =
-          part-entry n _ _ j mq h j (j * n + j) (j * n + n - (j * n + j)) l (omega arith) refl c m
-          in
-          let w′ : newt ≡ t-after n mq₀ z v₀ t0 (suc j) = w ∙ t-turn ∙ ap (t-after n mq₀ z v₀ t0) (add-one j) in
-          ap (λ (r : List Float). nth r c) y ∙ tab-entry _ _ c (omega (arith, row-long))
-          ∙ skip (ltb (j + c) j) _ _ _ (le-ltb (j + c) j (omega arith))
-          (both-ways (eqb j (j + c))
-          (λ t. let q : j ≡ j + c = eqb-true j (j + c) t in
-          is-hit (eqb c 0) _ _ (eq-eqb c 0 (omega arith)) ∙ rw (e, o, w′))
-          (λ t. let q : c ≡ 0 → ⊥ = λ x. eqb-false j (j + c) t (omega (arith, x)) in
-          is-skip (eqb c 0) _ _ (ne-eqb c 0 q) ∙ rw (e, w′, beside c (positive c q) (omega arith)))))
-          (λ c m q. both-ways (ltb c j) (λ _. refl) (λ t. absurd (q (ltb-false c j t) (omega arith))))
-        where
-          positive : (c : ℕ) → (c ≡ 0 → ⊥) → 0 < c
-          positive zero q = absurd (q refl)
-          positive (suc c) q = omega arith
-
-pub factored-done : (n : ℕ) (mq₀ z v₀ : List Float) (t0 : Float) (j : ℕ) (mq : List Float) → MatrixOf n (factored-to n mq₀ z v₀ t0 j) mq → n ≤ j → mq ≡ factors-after n mq₀ z v₀ t0
-unfolding factors-after
-factored-done n mq₀ z v₀ t0 j mq h l = by-done n _ _ _ j mq h (λ r c a b k. absurd (omega arith))
-
-pub columns-done : (n : ℕ) (mq v₀ : List Float) (j : ℕ) (v : List Float) → VectorOf n (columns-to n mq v₀ j) v → n ≤ j → v ≡ tab (λ l. less-columns n mq v₀ l l) n
-columns-done n mq v₀ j v h l = tab-ext _ n v (h .long) (λ k b. h .each k b ∙ is-hit (ltb k j) _ _ (lt-ltb k j (omega arith)))
+use Rattle.oracles.specs.laws.EllStable.{less-columns, factors-after, scaled, products, summed, columns-lowered, factors-lowered, backward-lowered}
+use Rattle.oracles.specs.declared.ell_common.Update.the-variants.{Status}
+use Rattle.oracles.specs.EllCommon.{Change, change, update-of}
+use Rattle.oracles.specs.EllStable.{stable-buffers, stable-after, stable-work}
+use Rattle.oracles.specs.laws.EllStableCalls.{StableLong, stable-long}
+use Rattle.oracles.proofs.ell_common.Laws.{no-effect, fails, succeeds}
 
 -- ---- what `prepare` and `succeed` leave, from what their calls left
 
@@ -318,50 +43,39 @@ pub succeed-done : (n : ℕ) (mq z grad xc : List Float) (omega rho sigma : Floa
 unfolding t-start
 succeed-done n mq z grad xc omega rho sigma q q′ v v′ mq′ xc′ a b c d e f = (c ∙ rw (b, a), e ∙ rw d, f ∙ rw d)
 
--- ---- what is made of the calculator's answer
-
-abbrev pub from-calc : ℕ → Float → NewEllCalc → NewEllStable
-from-calc n kappa (MadeCalc helper) = Made (record { ndim = n; kappa = kappa; helper = helper; tsq = 0ᶠ })
-from-calc n kappa (NoCalc why) = NotMade why
-
-pub made-from : (n : ℕ) (kappa : Float) → from-calc n kappa (new-answer n) ≡ new-ell-stable-answer n kappa
-unfolding new-answer new-ell-stable-answer
-made-from n kappa = unless-map (from-calc n kappa) (new-tests n) (λ why place. NoCalc why) (MadeCalc (made n))
-
 -- ---- the ways through an update, from what its calls answered
 
-module _ (e : EllStable) (s : CutStrategy) (grad : List Float) (beta : CutChoice) (b : StableBuffers) (omega : Float) (mq w z gg : List Float) (tiny : Bool)
+module _ (e : EllStable) (s : CutStrategy) (grad : List Float) (beta : CutChoice) (b : StableBuffers) (r : EllStableUpdate) (omega : Float) (mq w z gg : List Float) (tiny : Bool)
     (o : (omega ≡ omega-of (e .ndim) (b .mq) grad) × (mq ≡ lowered (e .ndim) (b .mq) grad) × (w ≡ tab (inv-ml-g-of (e .ndim) (b .mq) grad) (e .ndim))
     × (z ≡ tab (inv-md-inv-ml-g-of (e .ndim) (b .mq) grad) (e .ndim)) × (gg ≡ tab (gg-t-of (e .ndim) (b .mq) grad) (e .ndim)))
     (t : tiny ≡ is-tiny omega) where
-  tiny-is : is-tiny (omega-of (e .ndim) (b .mq) grad) ≡ tiny
-  tiny-is = sym (t ∙ ap is-tiny (o .0))
+  -- what `said` answered, with the slices
+  left : (c : Change StableBuffers) → r ≡ stable-after e c .0 → c ≡ update-of (stable-work e s grad beta b) → (r, c .buffers) ≡ stable-after e (update-of (stable-work e s grad beta b))
+  left c q h = ap (λ (x : EllStableUpdate). (x, c .buffers)) q ∙ ap (stable-after e) h
 
-  pub no-effect : (r : EllStableUpdate) → tiny ≡ true → r ≡ stable-said e NoEffect
-      → (r, record { mq = mq; xc = b .xc; inv-ml-g = w; inv-md-inv-ml-g = z; gg-t = gg; g-t = b .g-t }) ≡ stable-update-of e s grad beta b
-  unfolding stable-update-of
-  no-effect r h q = hit _ _ _ _ (tiny-is ∙ h) (rw (q, o .1, o .2, o .3, o .4))
+  pub stable-no-effect : tiny ≡ true → r ≡ stable-after e (change (Status NoEffect) (e .kappa) (e .tsq) b) .0
+      → (r, stable-buffers mq (b .xc) w z gg (b .g-t)) ≡ stable-after e (update-of (stable-work e s grad beta b))
+  stable-no-effect h q = left _ q (no-effect (stable-work e s grad beta b) _ omega tiny (o .0) t h (rw (o .1, o .2, o .3, o .4)))
 
   module _ (a : CutAnswer) (ok : Bool) (k : a ≡ calc-of s (e .helper) beta (e .kappa ⊗ omega)) (u : ok ≡ is-success (a .status)) (h : tiny ≡ false) where
-    pub fails : (r : EllStableUpdate) → not ok ≡ true → r ≡ stable-said (with-tsq e (e .kappa) (e .kappa ⊗ omega)) (a .status)
-        → (r, record { mq = mq; xc = b .xc; inv-ml-g = w; inv-md-inv-ml-g = z; gg-t = gg; g-t = b .g-t }) ≡ stable-update-of e s grad beta b
-    unfolding stable-update-of
-    fails r f q = skip _ _ _ _ (tiny-is ∙ h) (hit _ _ _ _ (rw (← o .0, ← k, ← u) f) (rw (q, k, o .0, o .1, o .2, o .3, o .4)))
+    pub stable-fails : not ok ≡ true → r ≡ stable-after e (change (Status (a .status)) (e .kappa) (e .kappa ⊗ omega) b) .0
+        → (r, stable-buffers mq (b .xc) w z gg (b .g-t)) ≡ stable-after e (update-of (stable-work e s grad beta b))
+    stable-fails f q = left _ q (fails (stable-work e s grad beta b) _ omega tiny (o .0) t a ok k u h f (rw (o .1, o .2, o .3, o .4)))
 
-    pub succeeds : (r : EllStableUpdate) (mq′ xc′ v′ : List Float) → not ok ≡ false
+    pub stable-succeeds : (mq′ xc′ v′ : List Float) → not ok ≡ false
         → (xc′ ≡ centre-of (b .xc) (a .params .rho ⊘ omega) (backward (e .ndim) mq z (e .ndim)))
         × (mq′ ≡ factors-after (e .ndim) mq z grad (t-start omega (a .params .sigma))) × (v′ ≡ tab (λ l. less-columns (e .ndim) mq grad l l) (e .ndim))
-        → r ≡ stable-said (with-tsq e (e .kappa ⊗ a .params .delta) (e .kappa ⊗ omega)) (a .status)
-        → (r, record { mq = mq′; xc = xc′; inv-ml-g = w; inv-md-inv-ml-g = z; gg-t = gg; g-t = v′ }) ≡ stable-update-of e s grad beta b
-    unfolding stable-update-of succeeded
-    succeeds r mq′ xc′ v′ f x q =
+        → r ≡ stable-after e (change (Status (a .status)) (e .kappa ⊗ a .params .delta) (e .kappa ⊗ omega) b) .0
+        → (r, stable-buffers mq′ xc′ w z gg v′) ≡ stable-after e (update-of (stable-work e s grad beta b))
+    unfolding succeeded
+    stable-succeeds mq′ xc′ v′ f x q =
         let n = e .ndim in
         let xc-is : xc′ ≡ centre-of (b .xc) (a .params .rho ⊘ omega) (backward n (b .mq) (tab (inv-md-inv-ml-g-of n (b .mq) grad) n) n) =
         x .0 ∙ rw (o .1, o .3, backward-lowered n (b .mq) grad (tab (inv-md-inv-ml-g-of n (b .mq) grad) n) n (le-refl n))
         in
-        let mq-is : mq′ ≡ updated n (b .mq) grad (t-start omega (a .params .sigma)) = x .1 ∙ rw (o .1, o .3) (factors-lowered n (b .mq) grad (t-start omega (a .params .sigma))) in
+        let mq-is : mq′ ≡ rank-one-factors n (b .mq) grad (t-start omega (a .params .sigma)) = x .1 ∙ rw (o .1, o .3) (factors-lowered n (b .mq) grad (t-start omega (a .params .sigma))) in
         let v-is : v′ ≡ tab (inv-ml-g-of n (b .mq) grad) n = x .2 ∙ rw (o .1) (columns-lowered n (b .mq) grad) in
-        skip _ _ _ _ (tiny-is ∙ h) (skip _ _ _ _ (rw (← o .0, ← k, ← u) f) (rw (q, xc-is, mq-is, v-is, k, o .0, o .2, o .3, o .4)))
+        left _ q (succeeds (stable-work e s grad beta b) _ omega tiny (o .0) t a ok k u h f (rw (xc-is, mq-is, v-is, o .2, o .3, o .4, ← o .0)))
 
 -- ---- the lengths: `a` is what `lengths_fit` tests, and the others what `scratch_fits` does
 
@@ -372,11 +86,6 @@ pub fit-by : (a b c d e t : Bool) → a ≡ true → (b && c && d && e) ≡ t �
 fit-by a b c d e t h k = rw h k
 
 -- what `update` requires
-pub lengths-known : (n grad mq xc a b c d : ℕ) → is-dimension n ≡ true → (eqb grad n && eqb mq (n * n) && eqb xc n) ≡ true → (eqb a n && eqb b n && eqb c n && eqb d n) ≡ true
-    → (is-dimension n ≡ true) × (grad ≡ n) × (mq ≡ n * n) × (xc ≡ n) × (a ≡ n) × (b ≡ n) × (c ≡ n) × (d ≡ n)
-lengths-known n grad mq xc a b c d h k m =
-    let l = lengths n grad mq xc k in
-    let p = and-eq-true-iff (eqb a n && eqb b n && eqb c n) (eqb d n) .0 m in
-    let q = and-eq-true-iff (eqb a n && eqb b n) (eqb c n) .0 (p .0) in
-    let r = and-eq-true-iff (eqb a n) (eqb b n) .0 (q .0) in
-    (h, l .0, l .1, l .2, eqb-true a n (r .0), eqb-true b n (r .1), eqb-true c n (q .1), eqb-true d n (p .1))
+pub lengths-known : (n : ℕ) (grad : List Float) (s : StableBuffers) → (eqb (length grad) n && eqb (length (s .mq)) (n * n) && eqb (length (s .xc)) n) ≡ true
+    → (eqb (length (s .inv-ml-g)) n && eqb (length (s .inv-md-inv-ml-g)) n && eqb (length (s .gg-t)) n && eqb (length (s .g-t)) n) ≡ true → (length grad ≡ n) × StableLong n s
+lengths-known n grad s k m = let f = fit-by _ _ _ _ _ true k m in (lengths n _ _ _ k .0, stable-long n grad s f)

@@ -1,25 +1,30 @@
 -- Laws of the loops that factor, for the proofs of ldlt_mgr alone. Assumes nothing.
 use mathlib.Core.Path.{_≡_, refl, sym, ap, _∙_}
-use mathlib.Core.Bool.{true, false}
+use mathlib.Core.Bool.{Bool, true, false, not}
 use mathlib.Core.Logic.{⊎-elim}
 use mathlib.Core.List.{List}
 use Prim.Native.Nat.{ℕ, suc, _≤_, _<_, _+_, _-_, _*_, suc-le-suc}
 use native.Mathlib.Nat.{mul-le-mul, sub-zero, le-of-suc-le-suc, eq-or-lt-of-le}
 use native.Mathlib.Numerals.{add-one}
 use native.Mathlib.Omega.{arith}
-use borrow.Author.Tests.{eq-eqb, ne-eqb}
-use lib.Dec.{eqb}
+use borrow.Author.Tests.{leb-true, eq-eqb, ne-eqb}
+use lib.Dec.{leb, eqb}
 use lib.ListN.{length, set, length-set}
 use lib.Ieee.{Float}
 use Rattle.numbers.specs.F64.{_⊕_, _⊖_, _⊗_, _⊘_, 0ᶠ}
 use Rattle.numbers.specs.Pick.{pick}
-use Rattle.numbers.specs.laws.Pick.{hit, skip}
+use Rattle.numbers.specs.laws.Pick.{hit, skip, and-parts, says-yes}
 use Rattle.oracles.specs.Matrix.{at, total}
-use Rattle.oracles.specs.LdltMgr.{taken, reduced, stored, stops, stop-from, stop-of, filled, position-of, factor-rows, factor-of}
+use Rattle.oracles.specs.LdltMgr.{is-order, taken, reduced, stored, stops, stop-from, stop-of, filled, position-of, factor-rows, factor-of}
 use Rattle.oracles.specs.declared.ldlt_mgr.Factored.{Factored}
 use Rattle.oracles.specs.declared.ldlt_mgr.Factored.the-variants.{Definite, Stopped}
 use Rattle.oracles.specs.laws.Matrix.{place-in, at-set-same, at-set-other, total-cong}
 use Rattle.oracles.specs.laws.Ldlt.{LmiReads, FactoredTo, stored-low, stored-high, taken-total, length-filled, filled-in, filled-ext, filled-zero, filled-suc, stop-here, stop-later}
+
+-- ---- the tests of a call: `r` is what is_order answered
+
+pub order-most : (m : ℕ) (r : Bool) → r ≡ is-order m → not r ≡ false → m ≤ 32
+order-most m r e t = leb-true m 32 (and-parts (leb 1 m) (leb m 32) (says-yes r (is-order m) e t) .1)
 
 -- ---- the entry
 

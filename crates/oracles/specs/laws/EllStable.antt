@@ -16,7 +16,7 @@ use Rattle.numbers.specs.laws.Arr.{tab-entry, tab-cong}
 use Rattle.numbers.specs.laws.Pick.{is-hit, is-skip, pick-cong}
 use Rattle.oracles.specs.Matrix.{nth, at, grid, total}
 use Rattle.oracles.specs.laws.Matrix.{length-grid, grid-at, grid-cong, total-cong}
-use Rattle.oracles.specs.EllStable.{forward, inv-ml-g-of, inv-md-inv-ml-g-of, gg-t-of, omega-of, lowered, backward, t-of, updated}
+use Rattle.oracles.specs.EllStable.{forward, inv-ml-g-of, inv-md-inv-ml-g-of, gg-t-of, omega-of, lowered, backward, t-of, rank-one-factors}
 
 -- ---- row i of `backward`
 
@@ -62,21 +62,21 @@ forward-total n mq g l (suc j) = rw (forward-total n mq g l j)
 
 -- the factors after the rank-one update, by place: below the diagonal, on it, and above it
 module _ (n : ℕ) (mq g : List Float) (t0 : Float) where
-  pub length-updated : length (updated n mq g t0) ≡ n * n
-  unfolding updated
-  length-updated = length-grid _ n n
+  pub length-factors : length (rank-one-factors n mq g t0) ≡ n * n
+  unfolding rank-one-factors
+  length-factors = length-grid _ n n
 
-  pub updated-low : (r c : ℕ) → r < n → c < r → at n (updated n mq g t0) r c ≡ at n mq c r ⊗ inv-ml-g-of n mq g c
-  unfolding updated
-  updated-low r c a l = grid-at _ n n r c a (omega arith) ∙ is-hit (ltb c r) _ _ (lt-ltb c r l)
+  pub factors-low : (r c : ℕ) → r < n → c < r → at n (rank-one-factors n mq g t0) r c ≡ at n mq c r ⊗ inv-ml-g-of n mq g c
+  unfolding rank-one-factors
+  factors-low r c a l = grid-at _ n n r c a (omega arith) ∙ is-hit (ltb c r) _ _ (lt-ltb c r l)
 
-  pub updated-diagonal : (j : ℕ) → j < n → at n (updated n mq g t0) j j ≡ at n mq j j ⊗ (t-of n mq g t0 j ⊘ t-of n mq g t0 (suc j))
-  unfolding updated
-  updated-diagonal j a = grid-at _ n n j j a a ∙ is-skip (ltb j j) _ _ (le-ltb j j (omega arith)) ∙ is-hit (eqb j j) _ _ (eq-eqb j j refl)
+  pub factors-diagonal : (j : ℕ) → j < n → at n (rank-one-factors n mq g t0) j j ≡ at n mq j j ⊗ (t-of n mq g t0 j ⊘ t-of n mq g t0 (suc j))
+  unfolding rank-one-factors
+  factors-diagonal j a = grid-at _ n n j j a a ∙ is-skip (ltb j j) _ _ (le-ltb j j (omega arith)) ∙ is-hit (eqb j j) _ _ (eq-eqb j j refl)
 
-  pub updated-high : (j l : ℕ) → j < l → l < n → at n (updated n mq g t0) j l ≡ at n mq j l ⊕ inv-md-inv-ml-g-of n mq g j ⊘ t-of n mq g t0 (suc j) ⊗ forward n mq g l (suc j)
-  unfolding updated
-  updated-high j l h b = grid-at _ n n j l (omega arith) b ∙ is-skip (ltb l j) _ _ (le-ltb l j (omega arith)) ∙ is-skip (eqb j l) _ _ (ne-eqb j l (λ e. omega arith))
+  pub factors-high : (j l : ℕ) → j < l → l < n → at n (rank-one-factors n mq g t0) j l ≡ at n mq j l ⊕ inv-md-inv-ml-g-of n mq g j ⊘ t-of n mq g t0 (suc j) ⊗ forward n mq g l (suc j)
+  unfolding rank-one-factors
+  factors-high j l h b = grid-at _ n n j l (omega arith) b ∙ is-skip (ltb l j) _ _ (le-ltb l j (omega arith)) ∙ is-skip (eqb j l) _ _ (ne-eqb j l (λ e. omega arith))
 
 -- the lowered matrix: the products below the diagonal, the rest as it was
 module _ (n : ℕ) (mq g : List Float) where
@@ -122,8 +122,8 @@ module _ (n : ℕ) (mq g : List Float) where
   t-lowered t0 j h =
       total-cong _⊕_ t0 _ _ j (λ i m. rw (less-lowered i i (omega arith) (omega arith), tab-entry (inv-md-inv-ml-g-of n mq g) n i (omega arith)))
 
-  pub factors-lowered : (t0 : Float) → factors-after n (lowered n mq g) (tab (inv-md-inv-ml-g-of n mq g) n) g t0 ≡ updated n mq g t0
-  unfolding factors-after updated
+  pub factors-lowered : (t0 : Float) → factors-after n (lowered n mq g) (tab (inv-md-inv-ml-g-of n mq g) n) g t0 ≡ rank-one-factors n mq g t0
+  unfolding factors-after rank-one-factors
   factors-lowered t0 =
       grid-cong _ _ n n
       (λ r c a b. pick-cong (ltb c r)

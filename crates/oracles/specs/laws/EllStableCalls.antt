@@ -1,35 +1,32 @@
 -- Laws of the calls of EllStable, for a caller that goes on from what they answer. Assumes nothing.
-use mathlib.Core.Path.{_≡_, refl, sym, ap, subst, _∙_}
-use mathlib.Core.Bool.{true, false, not, and-eq-true-iff, true≢false}
+use mathlib.Core.Path.{_≡_, refl, sym, subst, _∙_}
+use mathlib.Core.Bool.{true}
 use mathlib.Core.List.{List}
 use Prim.Native.Nat.{ℕ, suc, _≤_, _<_, _*_}
 use native.Mathlib.Omega.{arith}
-use borrow.Author.Tests.{eqb-true, eq-eqb, not-true, not-false}
+use borrow.Author.Tests.{eqb-true, eq-eqb}
 use lib.Dec.{eqb}
 use lib.ListN.{length}
 use lib.Ieee.{Float}
-use Rattle.numbers.specs.F64.{_⊕_, _⊖_, _⊗_, _⊘_, 0ᶠ}
+use Rattle.numbers.specs.F64.{_⊕_, _⊖_, _⊗_, _⊘_}
 use Rattle.numbers.specs.Pick.{pick}
 use Rattle.numbers.specs.Arr.{is-dimension, tab}
 use Rattle.numbers.specs.laws.Arr.{length-tab}
-use Rattle.numbers.specs.EllCalc.{made, new-tests}
-use Rattle.numbers.specs.declared.refusal.Refusal.{Refusal}
+use Rattle.numbers.specs.laws.Pick.{and-parts}
+use Rattle.numbers.specs.laws.Refusal.{held, at-next}
+use Rattle.numbers.specs.EllCalc.{made}
 use Rattle.numbers.specs.declared.cut.CutAnswer.{CutAnswer}
 use Rattle.numbers.specs.declared.cut.CutChoice.{CutChoice}
-use Rattle.numbers.specs.declared.cut.CutStatus.{CutStatus}
-use Rattle.numbers.specs.declared.cut.CutStatus.the-variants.{Success, NoEffect}
-use Rattle.numbers.specs.laws.Pick.{hit, skip, by-test}
-use Rattle.numbers.specs.laws.Refusal.{held, at-next, accepts, by-tests, ask-sound}
-use Rattle.oracles.specs.declared.ell_stable.NewEllStable.{NewEllStable}
+use Rattle.numbers.specs.declared.cut.CutStatus.the-variants.{Success}
 use Rattle.oracles.specs.Matrix.{nth, at}
-use Rattle.oracles.specs.EllCommon.{calc-of, is-tiny, is-success}
-use Rattle.oracles.specs.laws.EllCommon.{success-is, length-centre, centre-at}
-use Rattle.oracles.specs.EllStable.{StableBuffers, new-ell-stable-answer, forward, inv-ml-g-of, inv-md-inv-ml-g-of, omega-of, backward, t-start, t-of, with-tsq, stable-said, prepared, succeeded, stable-update-of, stable-fits, stable-update-answer, stable-tests}
-use Rattle.oracles.specs.laws.EllStable.{length-lowered, lowered-high, length-updated, updated-low, updated-diagonal, updated-high}
+use Rattle.oracles.specs.EllCommon.{is-tiny, answer-of, status-of}
+use Rattle.oracles.specs.laws.EllCommon.{length-centre, centre-at, new-made, new-is, call-of, call-is, update-says, call-accepted, call-leaves, call-failed, call-succeeded}
+use Rattle.oracles.specs.EllStable.{StableBuffers, fresh-stable, new-ell-stable-answer, forward, inv-ml-g-of, inv-md-inv-ml-g-of, omega-of, backward, t-start, t-of, succeeded, stable-after, stable-work, stable-update-of, stable-fits, stable-tests, stable-update-answer}
+use Rattle.oracles.specs.laws.EllStable.{length-lowered, lowered-high, length-factors, factors-low, factors-diagonal, factors-high}
 use Rattle.oracles.specs.declared.ell_common.CutStrategy.{CutStrategy}
-use Rattle.oracles.specs.declared.ell_common.Update.the-variants.{Status, Refused}
+use Rattle.oracles.specs.declared.ell_common.Update.the-variants.{Status}
 use Rattle.oracles.specs.declared.ell_stable.EllStable.{EllStable}
-use Rattle.oracles.specs.declared.ell_stable.NewEllStable.the-variants.{Made}
+use Rattle.oracles.specs.declared.ell_stable.NewEllStable.the-variants.{Made, Refused as NotMade}
 use Rattle.oracles.specs.declared.ell_stable.EllStableUpdate.{EllStableUpdate}
 
 -- ---- a new one
@@ -37,24 +34,20 @@ use Rattle.oracles.specs.declared.ell_stable.EllStableUpdate.{EllStableU
 -- what `new_with_matrix` makes, and of which n
 pub record NewStableIs (n : ℕ) (kappa : Float) (e : EllStable) : Type 0 where
   pub dimension : is-dimension n ≡ true
-  pub ndim-is : e .ndim ≡ n
-  pub kappa-is : e .kappa ≡ kappa
-  pub tsq-is : e .tsq ≡ 0ᶠ
-  pub helper-is : e .helper ≡ made n
+  pub is : e ≡ fresh-stable n kappa
   pub parallel : e .helper .«use_parallel_cut» ≡ true
 
 pub stable-new : (n : ℕ) (kappa : Float) (e : EllStable) → new-ell-stable-answer n kappa ≡ Made e → NewStableIs n kappa e
 unfolding new-ell-stable-answer made
-stable-new n kappa e =
-    by-tests (λ (r : NewEllStable). r ≡ Made e → NewStableIs n kappa e) (new-tests n) _ _ (λ why place t h. absurd (let z : _≡_ {A = ℕ} 0 1 = cc in omega arith))
-    (λ t h.
-    let q : e ≡ record { ndim = n; kappa = kappa; helper = made n; tsq = 0ᶠ } = cc in
-    record { dimension = ask-sound (is-dimension n) _ _ t; ndim-is = rw q; kappa-is = rw q; tsq-is = rw q; helper-is = rw q; parallel = rw q })
+stable-new n kappa e h =
+    let p = new-is NotMade (Made (fresh-stable n kappa)) n (Made e) (λ why k. let z : _≡_ {A = ℕ} 0 1 = cc in omega arith) h in
+    let q : e ≡ fresh-stable n kappa = cc in
+    record { dimension = p .0; is = q; parallel = rw q }
 
 -- every n in its range has one
-pub stable-makes : (n : ℕ) (kappa : Float) → is-dimension n ≡ true → new-ell-stable-answer n kappa ≡ Made (record { ndim = n; kappa = kappa; helper = made n; tsq = 0ᶠ })
+pub stable-makes : (n : ℕ) (kappa : Float) → is-dimension n ≡ true → new-ell-stable-answer n kappa ≡ Made (fresh-stable n kappa)
 unfolding new-ell-stable-answer
-stable-makes n kappa d = sym (accepts _ _ (new-tests n) (held _ _ d) refl)
+stable-makes n kappa = new-made NotMade (Made (fresh-stable n kappa)) n
 
 -- ---- the lengths that n says
 
@@ -69,12 +62,12 @@ pub record StableLong (n : ℕ) (b : StableBuffers) : Type 0 where
 -- from the test of them, and back
 pub stable-long : (n : ℕ) (grad : List Float) (b : StableBuffers) → stable-fits n grad b ≡ true → StableLong n b
 stable-long n grad b h =
-    let p₆ = and-eq-true-iff _ (eqb (length (b .g-t)) n) .0 h in
-    let p₅ = and-eq-true-iff _ (eqb (length (b .gg-t)) n) .0 (p₆ .0) in
-    let p₄ = and-eq-true-iff _ (eqb (length (b .inv-md-inv-ml-g)) n) .0 (p₅ .0) in
-    let p₃ = and-eq-true-iff _ (eqb (length (b .inv-ml-g)) n) .0 (p₄ .0) in
-    let p₂ = and-eq-true-iff _ (eqb (length (b .xc)) n) .0 (p₃ .0) in
-    let p₁ = and-eq-true-iff (eqb (length grad) n) (eqb (length (b .mq)) (n * n)) .0 (p₂ .0) in
+    let p₆ = and-parts _ (eqb (length (b .g-t)) n) h in
+    let p₅ = and-parts _ (eqb (length (b .gg-t)) n) (p₆ .0) in
+    let p₄ = and-parts _ (eqb (length (b .inv-md-inv-ml-g)) n) (p₅ .0) in
+    let p₃ = and-parts _ (eqb (length (b .inv-ml-g)) n) (p₄ .0) in
+    let p₂ = and-parts _ (eqb (length (b .xc)) n) (p₃ .0) in
+    let p₁ = and-parts (eqb (length grad) n) (eqb (length (b .mq)) (n * n)) (p₂ .0) in
     record {
       mq-long = eqb-true _ (n * n) (p₁ .1);
       xc-long = eqb-true _ n (p₂ .1);
@@ -98,27 +91,19 @@ long-fits n grad b h l =
 
 -- ---- what an update works out
 
--- omega, and the calculator's answer
 abbrev pub stable-omega : EllStable → List Float → StableBuffers → Float
 stable-omega e grad b = omega-of (e .ndim) (b .mq) grad
-
-abbrev pub stable-calc : EllStable → CutStrategy → List Float → CutChoice → StableBuffers → CutAnswer
-stable-calc e s grad beta b = calc-of s (e .helper) beta (e .kappa ⊗ stable-omega e grad b)
 
 -- the running number of a success's rank-one update, with the calculator's answer a
 abbrev pub stable-t : EllStable → List Float → StableBuffers → CutAnswer → ℕ → Float
 stable-t e grad b a j = t-of (e .ndim) (b .mq) grad (t-start (stable-omega e grad b) (a .params .sigma)) j
-
--- the status: NoEffect where omega is tiny, else the calculator's
-unfoldable pub stable-status : EllStable → CutStrategy → List Float → CutChoice → StableBuffers → CutStatus
-stable-status e s grad beta b = pick (is-tiny (stable-omega e grad b)) NoEffect (stable-calc e s grad beta b .status)
 
 -- ---- what an update says and leaves, in r
 
 -- no refusal: the definition's status, and tsq as it was where omega is tiny
 pub record StableAnswered (e : EllStable) (s : CutStrategy) (grad : List Float) (beta : CutChoice) (b : StableBuffers) (r : EllStableUpdate × StableBuffers) : Type 0 where
   pub is : r ≡ stable-update-of e s grad beta b
-  pub answer-is : r .0 .answer ≡ Status (stable-status e s grad beta b)
+  pub answer-is : r .0 .answer ≡ Status (status-of (stable-work e s grad beta b))
   pub tsq-is : r .0 .ell .tsq ≡ pick (is-tiny (stable-omega e grad b)) (e .tsq) (e .kappa ⊗ stable-omega e grad b)
 
 -- no success: centre and kappa as they came, and of the matrix the diagonal and what lies above it
@@ -128,119 +113,76 @@ pub record StableKept (e : EllStable) (b : StableBuffers) (r : EllStableUpdate �
   pub mq-at : (i j : ℕ) → i ≤ j → j < e .ndim → at (e .ndim) (r .1 .mq) i j ≡ at (e .ndim) (b .mq) i j
 
 -- a success, with the calculator's answer a: the factors' entries on the diagonal, above it and below it, and the centre's
-pub record StableMoved (e : EllStable) (grad : List Float) (b : StableBuffers) (a : CutAnswer) (r : EllStableUpdate × StableBuffers) : Type 0 where
-  pub kappa-is : r .0 .ell .kappa ≡ e .kappa ⊗ a .params .delta
+pub record StableSucceeded (e : EllStable) (grad : List Float) (b : StableBuffers) (a : CutAnswer) (kappa : Float) (c : StableBuffers) : Type 0 where
+  pub kappa-is : kappa ≡ e .kappa ⊗ a .params .delta
   pub diagonal-at : (j : ℕ) → j < e .ndim
-      → at (e .ndim) (r .1 .mq) j j ≡ at (e .ndim) (b .mq) j j ⊗ (stable-t e grad b a j ⊘ stable-t e grad b a (suc j))
+      → at (e .ndim) (c .mq) j j ≡ at (e .ndim) (b .mq) j j ⊗ (stable-t e grad b a j ⊘ stable-t e grad b a (suc j))
   pub above-at : (j l : ℕ) → j < l → l < e .ndim
-      → at (e .ndim) (r .1 .mq) j l ≡ at (e .ndim) (b .mq) j l ⊕ inv-md-inv-ml-g-of (e .ndim) (b .mq) grad j ⊘ stable-t e grad b a (suc j) ⊗ forward (e .ndim) (b .mq) grad l (suc j)
-  pub below-at : (l j : ℕ) → j < l → l < e .ndim → at (e .ndim) (r .1 .mq) l j ≡ at (e .ndim) (b .mq) j l ⊗ inv-ml-g-of (e .ndim) (b .mq) grad j
+      → at (e .ndim) (c .mq) j l ≡ at (e .ndim) (b .mq) j l ⊕ inv-md-inv-ml-g-of (e .ndim) (b .mq) grad j ⊘ stable-t e grad b a (suc j) ⊗ forward (e .ndim) (b .mq) grad l (suc j)
+  pub below-at : (l j : ℕ) → j < l → l < e .ndim → at (e .ndim) (c .mq) l j ≡ at (e .ndim) (b .mq) j l ⊗ inv-ml-g-of (e .ndim) (b .mq) grad j
   pub xc-at : (i : ℕ) → i < length (b .xc)
-      → nth (r .1 .xc) i ≡ nth (b .xc) i ⊖ a .params .rho ⊘ stable-omega e grad b ⊗ nth (backward (e .ndim) (b .mq) (tab (inv-md-inv-ml-g-of (e .ndim) (b .mq) grad) (e .ndim)) (e .ndim)) i
+      → nth (c .xc) i ≡ nth (b .xc) i ⊖ a .params .rho ⊘ stable-omega e grad b ⊗ nth (backward (e .ndim) (b .mq) (tab (inv-md-inv-ml-g-of (e .ndim) (b .mq) grad) (e .ndim)) (e .ndim)) i
 
 module _ (e : EllStable) (s : CutStrategy) (grad : List Float) (beta : CutChoice) (b : StableBuffers) where
-  -- what holds of each way through an update holds of it
-  pub by-ways : (P : EllStableUpdate × StableBuffers → Type 0)
-      → (is-tiny (stable-omega e grad b) ≡ true → P (stable-said e NoEffect, prepared (e .ndim) grad b))
-      → (is-tiny (stable-omega e grad b) ≡ false → is-success (stable-calc e s grad beta b .status) ≡ false
-      → P (stable-said (with-tsq e (e .kappa) (e .kappa ⊗ stable-omega e grad b)) (stable-calc e s grad beta b .status), prepared (e .ndim) grad b))
-      → (is-tiny (stable-omega e grad b) ≡ false → is-success (stable-calc e s grad beta b .status) ≡ true
-      → P (
-        stable-said (with-tsq e (e .kappa ⊗ stable-calc e s grad beta b .params .delta) (e .kappa ⊗ stable-omega e grad b)) (stable-calc e s grad beta b .status),
-        succeeded (e .ndim) grad b (stable-omega e grad b) (stable-calc e s grad beta b .params .rho) (stable-calc e s grad beta b .params .sigma),
-      ))
-      → P (stable-update-of e s grad beta b)
-  unfolding stable-update-of
-  by-ways P f g k =
-      by-test P (is-tiny (stable-omega e grad b)) _ _ f
-      (λ t. by-test P (not (is-success (stable-calc e s grad beta b .status))) _ _ (λ u. g t (not-true _ u)) (λ u. k t (not-false _ u)))
-
-  -- and what holds of a refusal too holds of the call
-  by-answers : (P : EllStableUpdate × StableBuffers → Type 0) → ((why : Refusal) → P (record { ell = e; answer = Refused why }, b)) → P (stable-update-of e s grad beta b)
+  -- what holds of the frame's call holds of this one
+  by-call : (P : EllStableUpdate × StableBuffers → Type 0) → P (stable-after e (call-of (stable-tests (e .ndim) grad b) (stable-work e s grad beta b)))
       → P (stable-update-answer e s grad beta b)
-  by-answers P f g = by-tests P (stable-tests (e .ndim) grad b) _ _ (λ why place h. f why) (λ h. g)
+  unfolding stable-update-of
+  by-call P = subst P (sym (call-is (stable-after e) (stable-tests (e .ndim) grad b) (stable-work e s grad beta b)))
 
   -- n and the calculators stay as they came, whatever the answer
   pub stable-same : (stable-update-answer e s grad beta b .0 .ell .ndim ≡ e .ndim) × (stable-update-answer e s grad beta b .0 .ell .helper ≡ e .helper)
-  stable-same = by-answers P (λ why. (refl, refl)) (by-ways P (λ t. (refl, refl)) (λ t u. (refl, refl)) (λ t u. (refl, refl)))
-    where
-      P : EllStableUpdate × StableBuffers → Type 0
-      P r = (r .0 .ell .ndim ≡ e .ndim) × (r .0 .ell .helper ≡ e .helper)
+  stable-same = by-call (λ r. (r .0 .ell .ndim ≡ e .ndim) × (r .0 .ell .helper ≡ e .helper)) (refl, refl)
 
   -- lengths that fit a call fit the next one, with any gradient of n numbers
   pub stable-again : stable-fits (e .ndim) grad b ≡ true → (grad′ : List Float) → length grad′ ≡ e .ndim → stable-fits (e .ndim) grad′ (stable-update-answer e s grad beta b .1) ≡ true
   unfolding succeeded
   stable-again h grad′ l =
-      long-fits (e .ndim) grad′ (stable-update-answer e s grad beta b .1) l
-      (by-answers (λ r. StableLong (e .ndim) (r .1)) (λ why. L) (by-ways (λ r. StableLong (e .ndim) (r .1)) (λ t. prepared-long) (λ t u. prepared-long) (λ t u. succeeded-long _ _ _)))
-    where
-      L : StableLong (e .ndim) b
-      L = stable-long (e .ndim) grad b h
-
-      prepared-long : StableLong (e .ndim) (prepared (e .ndim) grad b)
-      prepared-long = record {
-        mq-long = length-lowered (e .ndim) (b .mq) grad;
-        xc-long = L .xc-long;
-        inv-ml-g-long = length-tab _ (e .ndim);
-        inv-md-inv-ml-g-long = length-tab _ (e .ndim);
-        gg-t-long = length-tab _ (e .ndim);
-        g-t-long = L .g-t-long;
-      }
-
-      succeeded-long : (omega rho sigma : Float) → StableLong (e .ndim) (succeeded (e .ndim) grad b omega rho sigma)
-      succeeded-long omega rho sigma = record {
-        mq-long = length-updated (e .ndim) (b .mq) grad (t-start omega sigma);
+      let n = e .ndim in
+      let L = stable-long n grad b h in
+      long-fits n grad′ (stable-update-answer e s grad beta b .1) l
+      (by-call (λ r. StableLong n (r .1))
+      (call-leaves (stable-work e s grad beta b) (stable-tests n grad b) (StableLong n) L
+      (record { mq-long = length-lowered n (b .mq) grad; xc-long = L .xc-long; inv-ml-g-long = length-tab _ n; inv-md-inv-ml-g-long = length-tab _ n; gg-t-long = length-tab _ n; g-t-long = L .g-t-long })
+      (record {
+        mq-long = length-factors n (b .mq) grad _;
         xc-long = length-centre (b .xc) _ _ ∙ L .xc-long;
-        inv-ml-g-long = length-tab _ (e .ndim);
-        inv-md-inv-ml-g-long = length-tab _ (e .ndim);
-        gg-t-long = length-tab _ (e .ndim);
-        g-t-long = length-tab _ (e .ndim);
-      }
+        inv-ml-g-long = length-tab _ n;
+        inv-md-inv-ml-g-long = length-tab _ n;
+        gg-t-long = length-tab _ n;
+        g-t-long = length-tab _ n;
+      })))
 
   -- a call with n in its range and lengths that fit is never refused
   pub stable-answers : is-dimension (e .ndim) ≡ true → stable-fits (e .ndim) grad b ≡ true → StableAnswered e s grad beta b (stable-update-answer e s grad beta b)
-  unfolding stable-status
+  unfolding stable-update-of
   stable-answers d f =
-      subst (λ r. StableAnswered e s grad beta b r) (accepts _ _ (stable-tests (e .ndim) grad b) (at-next (held _ _ d) (held _ _ f)) refl) (record { is = refl; answer-is = says .0; tsq-is = says .1 })
-    where
-      P : EllStableUpdate × StableBuffers → Type 0
-      P r =
-          (r .0 .answer ≡ Status (stable-status e s grad beta b))
-          × (r .0 .ell .tsq ≡ pick (is-tiny (stable-omega e grad b)) (e .tsq) (e .kappa ⊗ stable-omega e grad b))
-
-      says : P (stable-update-of e s grad beta b)
-      says = by-ways P
-          (λ t. (ap Status (hit _ _ _ _ t refl), hit _ _ _ _ t refl))
-          (λ t u. (ap Status (skip _ _ _ _ t refl), skip _ _ _ _ t refl))
-          (λ t u. (ap Status (skip _ _ _ _ t refl), skip _ _ _ _ t refl))
+      let w = stable-work e s grad beta b in
+      by-call (StableAnswered e s grad beta b)
+      (rw (call-accepted w (stable-tests (e .ndim) grad b) (at-next (held _ _ d) (held _ _ f)))
+      (record { is = refl; answer-is = update-says w .0; tsq-is = update-says w .1 }))
 
   -- any answer but Success, a refusal too, keeps centre and kappa, and the matrix but for its strict lower triangle
   pub stable-failed : (stable-update-answer e s grad beta b .0 .answer ≡ Status Success → ⊥) → StableKept e b (stable-update-answer e s grad beta b)
   stable-failed =
-      by-answers P (λ why h. record { kappa-is = refl; xc-is = refl; mq-at = λ i j l m. refl })
-      (by-ways P
-      (λ t h. record { kappa-is = refl; xc-is = refl; mq-at = λ i j l m. lowered-high (e .ndim) (b .mq) grad i j (omega arith) m l })
-      (λ t u h. record { kappa-is = refl; xc-is = refl; mq-at = λ i j l m. lowered-high (e .ndim) (b .mq) grad i j (omega arith) m l })
-      (λ t u h. absurd (h (ap Status (success-is _ u)))))
-    where
-      P : EllStableUpdate × StableBuffers → Type 0
-      P r = (r .0 .answer ≡ Status Success → ⊥) → StableKept e b r
+      by-call (λ r. (r .0 .answer ≡ Status Success → ⊥) → StableKept e b r)
+      (λ h. let k = call-failed (stable-work e s grad beta b) (stable-tests (e .ndim) grad b)
+      (λ c. (c .xc ≡ b .xc) × ((i j : ℕ) → i ≤ j → j < e .ndim → at (e .ndim) (c .mq) i j ≡ at (e .ndim) (b .mq) i j))
+      (refl, λ i j l m. refl) (refl, λ i j l m. lowered-high (e .ndim) (b .mq) grad i j (omega arith) m l) h in
+      record { kappa-is = k .0; xc-is = k .1 .0; mq-at = k .1 .1 })
 
   -- Success gives the entries in closed form
-  pub stable-succeeded : stable-update-answer e s grad beta b .0 .answer ≡ Status Success → StableMoved e grad b (stable-calc e s grad beta b) (stable-update-answer e s grad beta b)
+  pub stable-succeeded : stable-update-answer e s grad beta b .0 .answer ≡ Status Success
+      → StableSucceeded e grad b (answer-of (stable-work e s grad beta b)) (stable-update-answer e s grad beta b .0 .ell .kappa) (stable-update-answer e s grad beta b .1)
   unfolding succeeded
   stable-succeeded =
-      by-answers P (λ why h. absurd (let z : _≡_ {A = ℕ} 0 1 = cc in omega arith))
-      (by-ways P
-      (λ t h. absurd (let z : _≡_ {A = ℕ} 0 1 = cc in omega arith))
-      (λ t u h. let q : stable-calc e s grad beta b .status ≡ Success = cc in absurd (true≢false (ap is-success (sym q) ∙ u)))
-      (λ t u h. record {
+      by-call (λ r. r .0 .answer ≡ Status Success → StableSucceeded e grad b (answer-of (stable-work e s grad beta b)) (r .0 .ell .kappa) (r .1))
+      (λ h. subst (λ (p : Float × StableBuffers). StableSucceeded e grad b (answer-of (stable-work e s grad beta b)) (p .0) (p .1))
+      (sym (call-succeeded (stable-work e s grad beta b) (stable-tests (e .ndim) grad b) h))
+      (record {
         kappa-is = refl;
-        diagonal-at = updated-diagonal (e .ndim) (b .mq) grad _;
-        above-at = updated-high (e .ndim) (b .mq) grad _;
-        below-at = λ l j m k. updated-low (e .ndim) (b .mq) grad _ l j k m;
+        diagonal-at = factors-diagonal (e .ndim) (b .mq) grad _;
+        above-at = factors-high (e .ndim) (b .mq) grad _;
+        below-at = λ l j m k. factors-low (e .ndim) (b .mq) grad _ l j k m;
         xc-at = centre-at (b .xc) _ _;
       }))
-    where
-      P : EllStableUpdate × StableBuffers → Type 0
-      P r = r .0 .answer ≡ Status Success → StableMoved e grad b (stable-calc e s grad beta b) r

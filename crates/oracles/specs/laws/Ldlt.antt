@@ -1,13 +1,13 @@
 -- Laws of the definitions of LdltMgr. Assumes nothing.
 use mathlib.Core.Path.{_≡_, refl, sym, ap, _∙_}
-use mathlib.Core.Bool.{Bool, true, false, not, _&&_, and-eq-true-iff}
+use mathlib.Core.Bool.{Bool, true, false, _&&_}
 use mathlib.Core.Logic.{_⊎_, inl, inr, ⊎-elim}
 use mathlib.Core.List.{List, []}
 use Prim.Native.Nat.{ℕ, zero, suc, _≤_, _<_, _+_, _-_, _*_}
 use native.Mathlib.Nat.{zero-mul, eq-or-lt-of-le}
 use native.Mathlib.Omega.{arith}
-use borrow.Author.Tests.{leb-true, ltb-true, ltb-false, lt-ltb, le-ltb, le-leb, eq-eqb, eqb-false}
-use lib.Dec.{leb, ltb, eqb}
+use borrow.Author.Tests.{ltb-true, ltb-false, lt-ltb, le-ltb, le-leb, eq-eqb, eqb-false}
+use lib.Dec.{ltb, eqb}
 use lib.ListN.{length}
 use lib.Ieee.{Float, neg}
 use Rattle.numbers.specs.F64.{_⊕_, _⊗_, _⊘_, 0ᶠ}
@@ -16,7 +16,7 @@ use Rattle.numbers.specs.Refusal.{ask}
 use Rattle.numbers.specs.declared.refusal.Refusal.{Refusal}
 use Rattle.numbers.specs.declared.refusal.Refusal.the-variants.{Dimension}
 use Rattle.numbers.specs.declared.arr.Number.the-variants.{Value}
-use Rattle.numbers.specs.laws.Pick.{hit, skip, says-yes}
+use Rattle.numbers.specs.laws.Pick.{hit, skip}
 use Rattle.numbers.specs.laws.Refusal.{ask-sound, both-sound, held, at-next, accepts, by-tests}
 use Rattle.oracles.specs.Matrix.{at, total}
 use Rattle.oracles.specs.laws.Matrix.{length-grid, grid-at, grid-ext}
@@ -24,12 +24,6 @@ use Rattle.oracles.specs.LdltMgr.{is-order, get-elem, less, taken, reduc
 use Rattle.oracles.specs.declared.ldlt_mgr.Pos.{Pos}
 use Rattle.oracles.specs.declared.ldlt_mgr.Factored.{Factored}
 use Rattle.oracles.specs.declared.ldlt_mgr.Factored.the-variants.{Definite, Stopped, Refused}
-
--- ---- the tests of a call
-
--- `r` is what is_order answered
-pub order-most : (m : ℕ) (r : Bool) → r ≡ is-order m → not r ≡ false → m ≤ 32
-order-most m r e t = leb-true m 32 (and-eq-true-iff (leb 1 m) (leb m 32) .0 (says-yes r (is-order m) e t) .1)
 
 -- ---- the entry
 
@@ -101,8 +95,7 @@ module _ (A : ℕ → ℕ → Float) (m : ℕ) (storage : List Float) (k : ℕ) 
   pub filled-ext : (mat : List Float) → length mat ≡ m * m → ((r c : ℕ) → r < m → c < m → r < k → c < k → at m mat r c ≡ stored A r c)
       → ((r c : ℕ) → r < m → c < m → (r < k → c < k → ⊥) → at m mat r c ≡ at m storage r c) → mat ≡ filled A m storage k
   unfolding filled
-  filled-ext mat l f g =
-      grid-ext _ m m mat l
+  filled-ext mat l f g = grid-ext _ m m mat l
       (λ r c a b.
       ⊎-elim
       (λ (x : (r < k) × (c < k)). hit _ _ _ _ (rw (lt-ltb r k (x .0), lt-ltb c k (x .1))) (f r c a b (x .0) (x .1)))

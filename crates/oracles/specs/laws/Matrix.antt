@@ -10,8 +10,14 @@ use lib.Ieee.{Float, nan}
 use lib.ListN.{length, take, drop, getD, set, length-append, length-drop, List·getD-append}
 use lib.Seq.{take-suc, append-snoc, set-at, getD-append-add, getD-set-same, getD-set-other, getD-take, getD-drop, take-add, take-all, length-take-le}
 use Rattle.numbers.specs.Arr.{tab}
+use Rattle.numbers.specs.F64.{_⊗_}
 use Rattle.numbers.specs.laws.Arr.{length-tab, row-in, row-unique, tab-entry, tab-ext}
 use Rattle.oracles.specs.Matrix.{nth, at, grid, total}
+
+-- ---- the product of two vectors' entries j
+
+abbrev pub product-at : List Float → List Float → ℕ → Float
+product-at v w j = nth v j ⊗ nth w j
 
 -- ---- matrices
 

@@ -1,7 +1,7 @@
 -- `drivers::cutting_plane_feas::feas_step` meets its contract. Assumes nothing.
 use mathlib.Core.Path.{ap, _∙_}
 use borrow.Author.Needs.{needs}
-use Rattle.oracles.specs.Ell.{updated}
+use Rattle.oracles.specs.Ell.{ell-changed}
 use Rattle.drivers.specs.CuttingPlaneFeas.{cut-answer}
 use Rattle.drivers.specs.CuttingPlane.{state-of}
 use Rattle.drivers.proofs.cutting_plane_feas.Steps.{step-feasible, step-refused, step-cut}
@@ -20,13 +20,13 @@ same-length-5 c = c .before .before .before .before .before .before .before .bef
 
 returns-2 : tie.Need-returns-2
 returns-2 c =
-    let u = c .before .before .before .before .before .before .before .before .before .cut in
+    let u = c .before .before .before .before .before .before .before .before .before .change in
     let k = c .before .before .before .before .before .before .before .before .before .before .before .before .before .before .before .verdict .given in
     let d = c .before .before .before .before .before .before .before .before .before .before .before .before .before .before .before .before .before .before .before .before in
     let a = d .before .before .before .before .before .before .before .before .args in
-    rw (c .before .before .after2 .ensures)
+    rw (c .before .before .changed .ensures)
     (step-cut (a .rows) (a .table .now) (state-of (a .oracle) (a .ell) (a .mq .now) (a .xc .now) (a .grad .now) (a .grad-t .now))
-    (d .assess-feas .result) _ (d .assess-feas .ensures .0) (k .0 .0) (k .0 .1 .0) (k .1) (updated (a .ell) (u .result)) _ (u .ensures)
+    (d .assess-feas .result) _ (d .assess-feas .ensures .0) (k .0 .0) (k .0 .1 .0) (k .1) (ell-changed (a .ell) (u .result)) _ (u .ensures)
     (c .cut-answer .result) (c .cut-answer .ensures ∙ ap (cut-answer (k .0 .0) (k .0 .1 .0)) (c .before .answer .ensures)))
 
 returns-3 : tie.Need-returns-3

@@ -1,6 +1,6 @@
 -- `drivers::cutting_plane_optim::optim_step` meets its contract. Assumes nothing.
 use borrow.Author.Needs.{needs}
-use Rattle.oracles.specs.Ell.{updated}
+use Rattle.oracles.specs.Ell.{ell-changed}
 use Rattle.drivers.specs.CuttingPlaneOptim.{optim-state-of}
 use Rattle.drivers.proofs.cutting_plane_optim.Steps.{step-improved, step-cut-off, step-halted}
 use Rattle.drivers.proofs.cutting_plane_optim.optim_step.Statement.{statement}
@@ -11,24 +11,24 @@ same-length-3 c = c .before .before .before .before .before .before .before .bef
 
 returns : tie.Need-returns
 returns c =
-    let u = c .before .before .before .before .before .before .before .cut in
+    let u = c .before .before .before .before .before .before .before .change in
     let d = c .before .before .before .before .before .before .before .before .before .before .before .before .before .before .before .before .before .before .before .before .before .before .before in
     let k = c .before .before .before .before .before .before .before .before .before .before .before .before .before .before .before .before .before .before .verdict .given in
     let a = d .before .before .before .before .before .before .before .before .before .args in
     step-improved (a .rows) (a .table .now) (optim-state-of (a .oracle) (a .ell) (a .gamma) (a .found) (a .mq .now) (a .xc .now) (a .grad .now) (a .grad-t .now) (a .x-best .now))
-    (d .assess-optim .result) _ (d .assess-optim .ensures .0) (updated (a .ell) (u .result)) _ (c .optim-stepped .result) (k .0 .0) (k .1) (u .ensures) (c .optim-stepped .ensures) _ (c .before .before .before .before .before .before .before .before .before .before .before .before .before .before .keep .ensures)
+    (d .assess-optim .result) _ (d .assess-optim .ensures .0) (ell-changed (a .ell) (u .result)) _ (c .optim-stepped .result) (k .0 .0) (k .1) (u .ensures) (c .optim-stepped .ensures) _ (c .before .before .before .before .before .before .before .before .before .before .before .before .before .before .keep .ensures)
 
 same-length-8 : tie.Need-same-length-8
 same-length-8 c = c .before .before .before .before .before .before .before .before .before .before .before .before .before .before .before .before .before .before .assess-optim .kept .1 .1 .1 .1 .1 .1 .0
 
 returns-2 : tie.Need-returns-2
 returns-2 c =
-    let u = c .before .before .before .before .before .before .before .cut2 in
+    let u = c .before .before .before .before .before .before .before .change2 in
     let d = c .before .before .before .before .before .before .before .before .before .before .before .before .before .before .before .before .before .before in
     let k = c .before .before .before .before .before .before .before .before .before .before .before .before .before .verdict2 .given in
     let a = d .before .before .before .before .before .before .before .before .before .args in
     step-cut-off (a .rows) (a .table .now) (optim-state-of (a .oracle) (a .ell) (a .gamma) (a .found) (a .mq .now) (a .xc .now) (a .grad .now) (a .grad-t .now) (a .x-best .now))
-    (d .assess-optim .result) _ (d .assess-optim .ensures .0) (updated (a .ell) (u .result)) _ (c .optim-stepped2 .result) (k .0 .0) (k .0 .1 .0) (k .1) (u .ensures) (c .optim-stepped2 .ensures)
+    (d .assess-optim .result) _ (d .assess-optim .ensures .0) (ell-changed (a .ell) (u .result)) _ (c .optim-stepped2 .result) (k .0 .0) (k .0 .1 .0) (k .1) (u .ensures) (c .optim-stepped2 .ensures)
 
 returns-3 : tie.Need-returns-3
 returns-3 c =

@@ -8,4 +8,4 @@ optim-stepped-spec =
     tie.close
     (tie.spec
     (λ c κs. tt) (λ c κs. tt)
-    (λ c. rw (c .answer .ensures, c .before .after .ensures) refl))
+    (λ c. rw (c .answer .ensures, c .before .changed .ensures) refl))

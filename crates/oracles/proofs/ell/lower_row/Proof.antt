@@ -24,30 +24,6 @@ abbrev μ-loop : tie.MeasureT-loop
 loop-holds : tie.Need-loop-holds Inv-loop μ-loop
 loop-holds c = (search needs, sweep-zero _ _ _ refl)
 
-mul-row : tie.Need-mul-row Inv-loop μ-loop
-mul-row c = search needs
-
-slice-read-row : tie.Need-slice-read-row Inv-loop μ-loop
-slice-read-row c = search needs
-
-mul-row-2 : tie.Need-mul-row-2 Inv-loop μ-loop
-mul-row-2 c = search needs
-
-shared-slice-read-row : tie.Need-shared-slice-read-row Inv-loop μ-loop
-shared-slice-read-row c = search needs
-
-mul-row-3 : tie.Need-mul-row-3 Inv-loop μ-loop
-mul-row-3 c = search needs
-
-slice-write-row : tie.Need-slice-write-row Inv-loop μ-loop
-slice-write-row c = search needs
-
-add-j : tie.Need-add-j Inv-loop μ-loop
-add-j c = search needs
-
-loop-less : tie.Need-loop-less Inv-loop μ-loop
-loop-less c = search needs
-
 loop-again : tie.Need-loop-again Inv-loop μ-loop
 loop-again c =
     let l = c .before .before .before .loop in (
@@ -55,9 +31,6 @@ loop-again c =
       sweep-turn _ _ _ (l .j) (l .row) (l .inv .1) _ (search needs)
           (hit (leb (l .j) _) _ _ _ (le-leb (l .j) _ (c .before .before .loop-test .taken)) (rw (sweep-left _ _ _ (l .j) (l .row) (l .inv .1) (l .j) (omega arith) (search needs)))),
     )
-
-same-length : tie.Need-same-length Inv-loop μ-loop
-same-length c = search needs
 
 returns : tie.Need-returns Inv-loop μ-loop
 unfolding row-lowered
@@ -68,18 +41,5 @@ returns c =
 pub lower-row-spec : {M : Type 1} → statement M
 lower-row-spec =
     tie.close
-    (tie.spec
-    Inv-loop
-    μ-loop
-    loop-holds
-    mul-row
-    slice-read-row
-    mul-row-2
-    shared-slice-read-row
-    mul-row-3
-    slice-write-row
-    add-j
-    loop-less
-    loop-again
-    same-length
-    returns)
+    (tie.spec Inv-loop μ-loop loop-holds (λ c. search needs) (λ c. search needs) (λ c. search needs) (λ c. search needs) (λ c. search needs) (λ c. search needs)
+    (λ c. search needs) (λ c. search needs) loop-again (λ c. search needs) returns)

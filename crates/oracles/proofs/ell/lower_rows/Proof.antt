@@ -40,23 +40,11 @@ mul-lower-row c =
     let i = c .before .loop .i in
     omega (arith, row-small (a .n) i (search needs) (search needs))
 
-sub-lower-row : tie.Need-sub-lower-row Inv-loop μ-loop
-sub-lower-row c = search needs
-
-part-lower-row-start : tie.Need-part-lower-row-start Inv-loop μ-loop
-part-lower-row-start c = search needs
-
 part-lower-row-end : tie.Need-part-lower-row-end Inv-loop μ-loop
 part-lower-row-end c =
     let a = c .before .before .before .before .args in
     let i = c .before .loop .i in
     omega (arith, row-in (a .n) i (a .n) (search needs))
-
-mul-lower-row-2 : tie.Need-mul-lower-row-2 Inv-loop μ-loop
-mul-lower-row-2 c = search needs
-
-shared-slice-read-lower-row : tie.Need-shared-slice-read-lower-row Inv-loop μ-loop
-shared-slice-read-lower-row c = search needs
 
 lower-row-requires : tie.Need-lower-row-requires Inv-loop μ-loop
 lower-row-requires c κs =
@@ -65,20 +53,11 @@ lower-row-requires c κs =
     let e : length (take (l .i * a .n + a .n - l .i * a .n) (drop (l .i * a .n) (l .mq))) ≡ a .n = row-long (a .n) (a .ratio) (a .gt .now) (a .mq .now) (l .mq) (l .i) (l .inv .1) (search needs) in
     (omega arith, omega arith, omega arith)
 
-add-i : tie.Need-add-i Inv-loop μ-loop
-add-i c = search needs
-
-loop-less : tie.Need-loop-less Inv-loop μ-loop
-loop-less c = search needs
-
 loop-again : tie.Need-loop-again Inv-loop μ-loop
 loop-again c =
     let l = c .before .before .before .before .before .before .loop in
     let a = c .before .before .before .before .before .before .before .before .before .args in
     (search needs, rw (c .before .before .lower-row .ensures) (rows-turn (a .n) (a .ratio) (a .gt .now) (a .mq .now) (l .mq) (l .i) (l .inv .1) (search needs)))
-
-same-length : tie.Need-same-length Inv-loop μ-loop
-same-length c = search needs
 
 returns : tie.Need-returns Inv-loop μ-loop
 returns c =
@@ -89,21 +68,5 @@ returns c =
 pub lower-rows-spec : {M : Type 1} → statement M
 lower-rows-spec =
     tie.close
-    (tie.spec
-    Inv-loop
-    μ-loop
-    loop-holds
-    mul-at
-    add-end
-    mul-lower-row
-    sub-lower-row
-    part-lower-row-start
-    part-lower-row-end
-    mul-lower-row-2
-    shared-slice-read-lower-row
-    lower-row-requires
-    add-i
-    loop-less
-    loop-again
-    same-length
-    returns)
+    (tie.spec Inv-loop μ-loop loop-holds mul-at add-end mul-lower-row (λ c. search needs) (λ c. search needs) part-lower-row-end (λ c. search needs)
+    (λ c. search needs) lower-row-requires (λ c. search needs) (λ c. search needs) loop-again (λ c. search needs) returns)

@@ -15,23 +15,11 @@ abbrev μ-loop : tie.MeasureT-loop
 loop-holds : tie.Need-loop-holds Inv-loop μ-loop
 loop-holds c = (search needs, columns-start _ _ (search needs))
 
-mirror-row-requires : tie.Need-mirror-row-requires Inv-loop μ-loop
-mirror-row-requires c κs = search needs
-
-add-i : tie.Need-add-i Inv-loop μ-loop
-add-i c = search needs
-
-loop-less : tie.Need-loop-less Inv-loop μ-loop
-loop-less c = search needs
-
 loop-again : tie.Need-loop-again Inv-loop μ-loop
 loop-again c =
     let l = c .before .before .before .before .before .loop in
     let a = c .before .before .before .before .before .before .before .args in
     (search needs, rw (c .before .before .mirror-row .ensures) (columns-turn (a .n) (l .i) (a .mq .now) (l .mq) (l .inv .1) (search needs)))
-
-same-length : tie.Need-same-length Inv-loop μ-loop
-same-length c = search needs
 
 returns : tie.Need-returns Inv-loop μ-loop
 returns c =
@@ -42,13 +30,4 @@ returns c =
 pub mirror-spec : {M : Type 1} → statement M
 mirror-spec =
     tie.close
-    (tie.spec
-    Inv-loop
-    μ-loop
-    loop-holds
-    mirror-row-requires
-    add-i
-    loop-less
-    loop-again
-    same-length
-    returns)
+    (tie.spec Inv-loop μ-loop loop-holds (λ c κs. search needs) (λ c. search needs) (λ c. search needs) loop-again (λ c. search needs) returns)

@@ -19,91 +19,33 @@ loop-holds : tie.Need-loop-holds Inv-loop μ-loop
 loop-holds c = (search needs, mirror-start _ _ _ (search needs))
 
 mul-mq : tie.Need-mul-mq Inv-loop μ-loop
-mul-mq c =
-    let l = c .before .loop in
-    let a = c .before .before .args in
-    omega (arith, row-small (a .n) (a .i) (search needs) (search needs))
+mul-mq c = omega (arith, row-small (c .before .before .before .before .before .args .n) (c .before .before .before .loop .j) (search needs) (search needs))
 
 add-mq : tie.Need-add-mq Inv-loop μ-loop
-add-mq c =
-    let l = c .before .loop in
-    let a = c .before .before .args in
-    omega (arith, row-small (a .n) (a .i) (search needs) (search needs))
+add-mq c = omega (arith, row-small (c .before .before .before .before .before .args .n) (c .before .before .before .loop .j) (search needs) (search needs))
 
 mul-mq-2 : tie.Need-mul-mq-2 Inv-loop μ-loop
-mul-mq-2 c =
-    let l = c .before .loop in
-    let a = c .before .before .args in
-    omega (arith, row-small (a .n) (a .i) (search needs) (search needs))
-
-slice-read-mq : tie.Need-slice-read-mq Inv-loop μ-loop
-slice-read-mq c =
-    let l = c .before .before .loop in
-    let a = c .before .before .before .args in
-    omega (arith, place-in (a .n) (a .n) (a .i) (l .j) (search needs) (search needs))
-
-mul-mq-3 : tie.Need-mul-mq-3 Inv-loop μ-loop
-mul-mq-3 c =
-    let l = c .before .before .loop in
-    let a = c .before .before .before .args in
-    omega (arith, row-small (a .n) (l .j) (search needs) (search needs))
-
-add-mq-2 : tie.Need-add-mq-2 Inv-loop μ-loop
-add-mq-2 c =
-    let l = c .before .before .loop in
-    let a = c .before .before .before .args in
-    omega (arith, row-small (a .n) (l .j) (search needs) (search needs))
-
-mul-mq-4 : tie.Need-mul-mq-4 Inv-loop μ-loop
-mul-mq-4 c =
-    let l = c .before .before .loop in
-    let a = c .before .before .before .args in
-    omega (arith, row-small (a .n) (l .j) (search needs) (search needs))
+mul-mq-2 c = omega (arith, row-small (c .before .before .before .before .before .args .n) (c .before .before .before .loop .j) (search needs) (search needs))
 
 slice-write-mq : tie.Need-slice-write-mq Inv-loop μ-loop
 slice-write-mq c =
-    let l = c .before .before .loop in
-    let a = c .before .before .before .args in
-    omega (arith, place-in (a .n) (a .n) (l .j) (a .i) (search needs) (search needs))
-
-add-j : tie.Need-add-j Inv-loop μ-loop
-add-j c = search needs
-
-loop-less : tie.Need-loop-less Inv-loop μ-loop
-loop-less c = search needs
+    let a = c .before .before .before .before .before .args in
+    omega (arith, place-in (a .n) (a .n) (c .before .before .before .loop .j) (a .i) (search needs) (search needs))
 
 loop-again : tie.Need-loop-again Inv-loop μ-loop
 loop-again c =
-    let l = c .before .before .loop in
-    let a = c .before .before .before .args in
-    (search needs, mirror-turn (a .n) (a .i) (l .j) (a .mq .now) (l .mq) (l .inv .1) (search needs) (search needs))
-
-same-length : tie.Need-same-length Inv-loop μ-loop
-same-length c = search needs
+    let l = c .before .before .before .loop in
+    let a = c .before .before .before .before .before .args in
+    (search needs, mirror-turn (a .n) (a .i) (l .j) (a .mq .now) (l .mq) _ (l .inv .1) (c .at .ensures) (search needs) (search needs))
 
 returns : tie.Need-returns Inv-loop μ-loop
 returns c =
     let l = c .before .loop in
-    let a = c .before .before .args in
+    let a = c .before .before .before .args in
     mirror-done (a .n) (a .i) (l .j) (a .mq .now) (l .mq) (l .inv .1) (search needs)
 
 pub mirror-row-spec : {M : Type 1} → statement M
 mirror-row-spec =
     tie.close
-    (tie.spec
-    Inv-loop
-    μ-loop
-    loop-holds
-    mul-mq
-    add-mq
-    mul-mq-2
-    slice-read-mq
-    mul-mq-3
-    add-mq-2
-    mul-mq-4
-    slice-write-mq
-    add-j
-    loop-less
-    loop-again
-    same-length
-    returns)
+    (tie.spec Inv-loop μ-loop loop-holds (λ c κs. search needs) mul-mq add-mq mul-mq-2 slice-write-mq (λ c. search needs) (λ c. search needs) loop-again
+    (λ c. search needs) returns)

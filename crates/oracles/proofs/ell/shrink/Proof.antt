@@ -5,19 +5,12 @@ use Rattle.oracles.proofs.ell.Laws.{shrunk}
 use Rattle.oracles.proofs.ell.shrink.Statement.{statement}
 use Rattle.oracles.proofs.ell.shrink.Tie as tie
 
-lower-rows-requires : tie.Need-lower-rows-requires
-lower-rows-requires c κs = search needs
-
-mirror-requires : tie.Need-mirror-requires
-mirror-requires c κs = search needs
-
-same-length : tie.Need-same-length
-same-length c = search needs
-
 returns : tie.Need-returns
 returns c =
     let a = c .before .before .before .before .before .before .before .before .before .before .args in
     c .before .before .mirror .ensures ∙ rw (c .before .before .before .before .before .before .lower-rows .ensures) (shrunk (a .n) (a .ratio) (a .gt .now) (a .mq .now))
 
 pub shrink-spec : {M : Type 1} → statement M
-shrink-spec = tie.close (tie.spec lower-rows-requires mirror-requires same-length returns)
+shrink-spec =
+    tie.close
+    (tie.spec (λ c κs. search needs) (λ c κs. search needs) (λ c. search needs) returns)

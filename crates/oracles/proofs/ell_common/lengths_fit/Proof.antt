@@ -8,8 +8,7 @@ use Rattle.oracles.proofs.ell_common.lengths_fit.Tie as tie
 mul-result : tie.Need-mul-result
 mul-result c = omega (arith, mul-le-mul (c .pre) (c .pre))
 
-returns : tie.Need-returns
-returns c = refl
-
 pub lengths-fit-spec : {M : Type 1} → statement M
-lengths-fit-spec = tie.close (tie.spec mul-result returns)
+lengths-fit-spec =
+    tie.close
+    (tie.spec mul-result (λ c. refl))

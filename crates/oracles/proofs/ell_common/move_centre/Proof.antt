@@ -20,37 +20,10 @@ abbrev μ-loop : tie.MeasureT-loop
 loop-holds : tie.Need-loop-holds Inv-loop μ-loop
 loop-holds c = (search needs, sweep-zero _ _ _ refl)
 
-mul-xc : tie.Need-mul-xc Inv-loop μ-loop
-mul-xc c = search needs
-
-slice-read-xc : tie.Need-slice-read-xc Inv-loop μ-loop
-slice-read-xc c = search needs
-
-mul-xc-2 : tie.Need-mul-xc-2 Inv-loop μ-loop
-mul-xc-2 c = search needs
-
-shared-slice-read-xc : tie.Need-shared-slice-read-xc Inv-loop μ-loop
-shared-slice-read-xc c = search needs
-
-mul-xc-3 : tie.Need-mul-xc-3 Inv-loop μ-loop
-mul-xc-3 c = search needs
-
-slice-write-xc : tie.Need-slice-write-xc Inv-loop μ-loop
-slice-write-xc c = search needs
-
-add-i : tie.Need-add-i Inv-loop μ-loop
-add-i c = search needs
-
-loop-less : tie.Need-loop-less Inv-loop μ-loop
-loop-less c = search needs
-
 loop-again : tie.Need-loop-again Inv-loop μ-loop
 loop-again c =
     let l = c .before .before .before .loop in
     (search needs, sweep-turn _ _ _ (l .i) (l .xc) (l .inv .1) _ (search needs) (rw (sweep-left _ _ _ (l .i) (l .xc) (l .inv .1) (l .i) (omega arith) (search needs))))
-
-same-length : tie.Need-same-length Inv-loop μ-loop
-same-length c = search needs
 
 returns : tie.Need-returns Inv-loop μ-loop
 unfolding centre-of
@@ -61,18 +34,5 @@ returns c =
 pub move-centre-spec : {M : Type 1} → statement M
 move-centre-spec =
     tie.close
-    (tie.spec
-    Inv-loop
-    μ-loop
-    loop-holds
-    mul-xc
-    slice-read-xc
-    mul-xc-2
-    shared-slice-read-xc
-    mul-xc-3
-    slice-write-xc
-    add-i
-    loop-less
-    loop-again
-    same-length
-    returns)
+    (tie.spec Inv-loop μ-loop loop-holds (λ c. search needs) (λ c. search needs) (λ c. search needs) (λ c. search needs) (λ c. search needs) (λ c. search needs)
+    (λ c. search needs) (λ c. search needs) loop-again (λ c. search needs) returns)

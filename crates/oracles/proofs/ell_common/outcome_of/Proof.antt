@@ -3,15 +3,6 @@ use mathlib.Core.Path.{refl}
 use Rattle.oracles.proofs.ell_common.outcome_of.Statement.{statement}
 use Rattle.oracles.proofs.ell_common.outcome_of.Tie as tie
 
-enum-told : tie.Need-enum-told
-enum-told c = c .match .keys1
-
-enum-told-2 : tie.Need-enum-told-2
-enum-told-2 c = c .match .keys2
-
-enum-told-3 : tie.Need-enum-told-3
-enum-told-3 c = c .match .keys3
-
 returns : tie.Need-returns
 returns c = rw (c .enum-told .given .1) refl
 
@@ -23,4 +14,5 @@ returns-3 c = rw (c .enum-told3 .given .1) refl
 
 pub outcome-of-spec : {M : Type 1} → statement M
 outcome-of-spec =
-    tie.close (tie.spec enum-told enum-told-2 enum-told-3 returns returns-2 returns-3)
+    tie.close
+    (tie.spec (λ c. c .match .keys1) (λ c. c .match .keys2) (λ c. c .match .keys3) returns returns-2 returns-3)

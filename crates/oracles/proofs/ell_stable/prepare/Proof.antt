@@ -8,29 +8,11 @@ use Rattle.oracles.proofs.ell_stable.Laws.{prepare-done}
 use Rattle.oracles.proofs.ell_stable.prepare.Statement.{statement}
 use Rattle.oracles.proofs.ell_stable.prepare.Tie as tie
 
-copy-from-requires : tie.Need-copy-from-requires
-copy-from-requires c κs = search needs
-
 forward-requires : tie.Need-forward-requires
 forward-requires c κs = (dimension-most _ (c .before .before .before .before .before .before .before .before .before .before .before .before .pre .0), search needs, search needs, search needs)
 
 scale-into-requires : tie.Need-scale-into-requires
 scale-into-requires c κs = (dimension-most _ (c .before .before .before .before .before .before .before .before .before .before .before .before .before .before .before .before .before .before .before .before .before .before .pre .0), search needs, search needs, search needs)
-
-omega-into-requires : tie.Need-omega-into-requires
-omega-into-requires c κs = search needs
-
-same-length : tie.Need-same-length
-same-length c = search needs
-
-same-length-2 : tie.Need-same-length-2
-same-length-2 c = search needs
-
-same-length-3 : tie.Need-same-length-3
-same-length-3 c = search needs
-
-same-length-4 : tie.Need-same-length-4
-same-length-4 c = search needs
 
 returns : tie.Need-returns
 returns c =
@@ -47,13 +29,5 @@ returns c =
 pub prepare-spec : {M : Type 1} → statement M
 prepare-spec =
     tie.close
-    (tie.spec
-    copy-from-requires
-    forward-requires
-    scale-into-requires
-    omega-into-requires
-    same-length
-    same-length-2
-    same-length-3
-    same-length-4
-    returns)
+    (tie.spec (λ c κs. search needs) forward-requires scale-into-requires (λ c κs. search needs) (λ c. search needs) (λ c. search needs) (λ c. search needs)
+    (λ c. search needs) returns)

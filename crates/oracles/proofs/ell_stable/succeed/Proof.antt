@@ -6,29 +6,11 @@ use Rattle.oracles.proofs.ell_stable.Laws.{succeed-done}
 use Rattle.oracles.proofs.ell_stable.succeed.Statement.{statement}
 use Rattle.oracles.proofs.ell_stable.succeed.Tie as tie
 
-copy-from-requires : tie.Need-copy-from-requires
-copy-from-requires c κs = search needs
-
 backward-requires : tie.Need-backward-requires
 backward-requires c κs = (dimension-least _ (c .before .before .before .before .before .before .before .before .before .before .before .pre .0), dimension-most _ (c .before .before .before .before .before .before .before .before .before .before .before .pre .0), search needs, search needs)
 
-move-centre-requires : tie.Need-move-centre-requires
-move-centre-requires c κs = search needs
-
-copy-from-requires-2 : tie.Need-copy-from-requires-2
-copy-from-requires-2 c κs = search needs
-
 rank-one-requires : tie.Need-rank-one-requires
 rank-one-requires c κs = (dimension-most _ (c .before .before .before .before .before .before .before .before .before .before .before .before .before .before .before .before .before .before .before .before .before .before .before .before .before .before .before .before .pre .0), search needs, search needs, search needs)
-
-same-length : tie.Need-same-length
-same-length c = search needs
-
-same-length-2 : tie.Need-same-length-2
-same-length-2 c = search needs
-
-same-length-3 : tie.Need-same-length-3
-same-length-3 c = search needs
 
 returns : tie.Need-returns
 returns c =
@@ -47,13 +29,5 @@ returns c =
 pub succeed-spec : {M : Type 1} → statement M
 succeed-spec =
     tie.close
-    (tie.spec
-    copy-from-requires
-    backward-requires
-    move-centre-requires
-    copy-from-requires-2
-    rank-one-requires
-    same-length
-    same-length-2
-    same-length-3
-    returns)
+    (tie.spec (λ c κs. search needs) backward-requires (λ c κs. search needs) (λ c κs. search needs) rank-one-requires (λ c. search needs) (λ c. search needs)
+    (λ c. search needs) returns)

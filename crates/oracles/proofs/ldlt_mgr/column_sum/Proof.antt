@@ -13,26 +13,8 @@ Inv-loop m storage wit i end s₀ k₀ s k = SummedFrom _⊕_ 0ᶠ (λ k. at m s
 abbrev μ-loop : tie.MeasureT-loop
 μ-loop m storage wit i end s₀ k₀ s k = end - k
 
-add-k : tie.Need-add-k Inv-loop μ-loop
-add-k c = search needs
-
 loop-holds : tie.Need-loop-holds Inv-loop μ-loop
 loop-holds c = from-start _ _ _ _ _ (search needs)
-
-at-requires : tie.Need-at-requires Inv-loop μ-loop
-at-requires c κs = search needs
-
-mul-s : tie.Need-mul-s Inv-loop μ-loop
-mul-s c = search needs
-
-shared-slice-read-s : tie.Need-shared-slice-read-s Inv-loop μ-loop
-shared-slice-read-s c = search needs
-
-add-k-2 : tie.Need-add-k-2 Inv-loop μ-loop
-add-k-2 c = search needs
-
-loop-less : tie.Need-loop-less Inv-loop μ-loop
-loop-less c = search needs
 
 loop-again : tie.Need-loop-again Inv-loop μ-loop
 loop-again c =
@@ -45,15 +27,5 @@ returns c = let l = c .before .loop in from-done _ _ _ _ _ (l .s) (l .k) (l .inv
 pub column-sum-spec : {M : Type 1} → statement M
 column-sum-spec =
     tie.close
-    (tie.spec
-    Inv-loop
-    μ-loop
-    add-k
-    loop-holds
-    at-requires
-    mul-s
-    shared-slice-read-s
-    add-k-2
-    loop-less
-    loop-again
-    returns)
+    (tie.spec Inv-loop μ-loop (λ c. search needs) loop-holds (λ c κs. search needs) (λ c. search needs) (λ c. search needs) (λ c. search needs) (λ c. search needs)
+    loop-again returns)

@@ -16,9 +16,6 @@ Inv-loop m mat-b mat-f xc storage₀ i diag₀ j₀ storage diag j = RowTo (get-
 abbrev μ-loop : tie.MeasureT-loop
 μ-loop m mat-b mat-f xc storage₀ i diag₀ j₀ storage diag j = i - j
 
-get-elem-requires : tie.Need-get-elem-requires Inv-loop μ-loop
-get-elem-requires c κs = search needs
-
 loop-holds : tie.Need-loop-holds Inv-loop μ-loop
 loop-holds c = row-start _ _ _ _ _ (c .before .before .before .before .before .pre .3) (c .get-elem .ensures)
 
@@ -65,18 +62,9 @@ slice-write-storage-2 c =
     let a = c .before .before .before .before .before .before .before .before .before .args in
     simp length-set (omega (arith, place-in (a .m) (a .m) (a .i) (c .before .before .before .loop .j) (search needs) (search needs)))
 
-add-j : tie.Need-add-j Inv-loop μ-loop
-add-j c = search needs
-
-get-elem-requires-2 : tie.Need-get-elem-requires-2 Inv-loop μ-loop
-get-elem-requires-2 c κs = search needs
-
 row-sum-requires : tie.Need-row-sum-requires Inv-loop μ-loop
 row-sum-requires c κs =
     (search needs, search needs, search needs, simp length-set (c .before .before .before .before .before .loop .inv .long ∙ search needs))
-
-loop-less : tie.Need-loop-less Inv-loop μ-loop
-loop-less c = search needs
 
 loop-again : tie.Need-loop-again Inv-loop μ-loop
 loop-again c =
@@ -114,28 +102,6 @@ returns c =
 pub factor-row-spec : {M : Type 1} → statement M
 factor-row-spec =
     tie.close
-    (tie.spec
-    Inv-loop
-    μ-loop
-    get-elem-requires
-    loop-holds
-    mul-storage
-    add-storage
-    mul-storage-2
-    slice-write-storage
-    at-requires
-    mul-storage-3
-    add-storage-2
-    mul-storage-4
-    slice-write-storage-2
-    add-j
-    get-elem-requires-2
-    row-sum-requires
-    loop-less
-    loop-again
-    mul-storage-5
-    add-storage-3
-    mul-storage-6
-    slice-write-storage-3
-    same-length
-    returns)
+    (tie.spec Inv-loop μ-loop (λ c κs. search needs) loop-holds mul-storage add-storage mul-storage-2 slice-write-storage at-requires mul-storage-3 add-storage-2
+    mul-storage-4 slice-write-storage-2 (λ c. search needs) (λ c κs. search needs) row-sum-requires (λ c. search needs) loop-again mul-storage-5 add-storage-3
+    mul-storage-6 slice-write-storage-3 same-length returns)

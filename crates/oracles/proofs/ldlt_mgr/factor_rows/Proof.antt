@@ -23,9 +23,6 @@ factor-row-requires c κs =
     let l = c .before .before .loop in
     (search needs, search needs, rows-long _ _ _ _ _ (l .inv), rows-factored _ _ _ _ _ (l .inv) (search needs))
 
-add-i : tie.Need-add-i Inv-loop μ-loop
-add-i c = search needs
-
 same-length : tie.Need-same-length Inv-loop μ-loop
 same-length c =
     ap length (c .before .before .before .factor-row .ensures .1) ∙ length-filled _ _ _ _
@@ -35,9 +32,6 @@ returns : tie.Need-returns Inv-loop μ-loop
 returns c =
     let f = c .before .before .before .factor-row in
     rows-stop _ _ _ _ _ (c .before .before .before .before .before .before .loop .inv) _ _ (search needs) (f .ensures .1) (f .ensures .0) (c .if1 .taken)
-
-loop-less : tie.Need-loop-less Inv-loop μ-loop
-loop-less c = search needs
 
 loop-again : tie.Need-loop-again Inv-loop μ-loop
 loop-again c =
@@ -53,15 +47,4 @@ returns-2 c = rows-done _ _ _ _ _ (c .before .loop .inv) (search needs)
 pub factor-rows-spec : {M : Type 1} → statement M
 factor-rows-spec =
     tie.close
-    (tie.spec
-    Inv-loop
-    μ-loop
-    loop-holds
-    factor-row-requires
-    add-i
-    same-length
-    returns
-    loop-less
-    loop-again
-    same-length-2
-    returns-2)
+    (tie.spec Inv-loop μ-loop loop-holds factor-row-requires (λ c. search needs) same-length returns (λ c. search needs) loop-again same-length-2 returns-2)

@@ -18,15 +18,9 @@ Inv-loop m mat-b mat-f xc i j s₀ k₀ s k = (k ≤ length xc) × (s ≡ total 
 abbrev μ-loop : tie.MeasureT-loop
 μ-loop m mat-b mat-f xc i j s₀ k₀ s k = length xc - k
 
-at-requires : tie.Need-at-requires Inv-loop μ-loop
-at-requires c κs = search needs
-
 loop-holds : tie.Need-loop-holds Inv-loop μ-loop
 unfolding total
 loop-holds c = (search needs, c .at .ensures)
-
-mul-s : tie.Need-mul-s Inv-loop μ-loop
-mul-s c = search needs
 
 mul-s-2 : tie.Need-mul-s-2 Inv-loop μ-loop
 mul-s-2 c =
@@ -58,18 +52,6 @@ shared-slice-read-s c =
     let s = c .before .before .before .before .before .before .before in
     place-f _ _ _ _ (s .pre .0) (c .before .before .loop .k) (s .args .i) (s .args .j) (search needs) (search needs) (search needs)
 
-mul-s-5 : tie.Need-mul-s-5 Inv-loop μ-loop
-mul-s-5 c = search needs
-
-shared-slice-read-s-2 : tie.Need-shared-slice-read-s-2 Inv-loop μ-loop
-shared-slice-read-s-2 c = search needs
-
-add-k : tie.Need-add-k Inv-loop μ-loop
-add-k c = search needs
-
-loop-less : tie.Need-loop-less Inv-loop μ-loop
-loop-less c = search needs
-
 loop-again : tie.Need-loop-again Inv-loop μ-loop
 loop-again c =
     let l = c .before .before .before .loop in
@@ -82,21 +64,5 @@ returns c = let l = c .before .loop in total-at _⊖_ _ _ (l .k) _ (l .s) (l .in
 pub get-elem-spec : {M : Type 1} → statement M
 get-elem-spec =
     tie.close
-    (tie.spec
-    Inv-loop
-    μ-loop
-    at-requires
-    loop-holds
-    mul-s
-    mul-s-2
-    mul-s-3
-    add-s
-    add-s-2
-    mul-s-4
-    shared-slice-read-s
-    mul-s-5
-    shared-slice-read-s-2
-    add-k
-    loop-less
-    loop-again
-    returns)
+    (tie.spec Inv-loop μ-loop (λ c κs. search needs) loop-holds (λ c. search needs) mul-s-2 mul-s-3 add-s add-s-2 mul-s-4 shared-slice-read-s (λ c. search needs)
+    (λ c. search needs) (λ c. search needs) (λ c. search needs) loop-again returns)

@@ -10,4 +10,6 @@ returns-2 : tie.Need-returns-2
 returns-2 c = rw (lt-leb 1 (c .before .args .m) (c .if1 .left))
 
 pub is-order-spec : {M : Type 1} → statement M
-is-order-spec = tie.close (tie.spec returns returns-2)
+is-order-spec =
+    tie.close
+    (tie.spec returns returns-2)

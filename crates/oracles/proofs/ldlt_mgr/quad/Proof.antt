@@ -16,15 +16,6 @@ abbrev μ-loop : tie.MeasureT-loop
 loop-holds : tie.Need-loop-holds Inv-loop μ-loop
 loop-holds c = from-start _ _ _ _ _ (search needs)
 
-quad-row-requires : tie.Need-quad-row-requires Inv-loop μ-loop
-quad-row-requires c κs = search needs
-
-add-i : tie.Need-add-i Inv-loop μ-loop
-add-i c = search needs
-
-loop-less : tie.Need-loop-less Inv-loop μ-loop
-loop-less c = search needs
-
 loop-again : tie.Need-loop-again Inv-loop μ-loop
 loop-again c =
     let l = c .before .before .loop in
@@ -37,4 +28,4 @@ returns c = let l = c .before .loop in from-done _ _ _ _ _ (l .result) (l .i) (l
 pub quad-spec : {M : Type 1} → statement M
 quad-spec =
     tie.close
-    (tie.spec Inv-loop μ-loop loop-holds quad-row-requires add-i loop-less loop-again returns)
+    (tie.spec Inv-loop μ-loop loop-holds (λ c κs. search needs) (λ c. search needs) (λ c. search needs) loop-again returns)

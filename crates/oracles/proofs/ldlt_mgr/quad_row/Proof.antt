@@ -14,46 +14,13 @@ Inv-loop m wit mat end i s₀ j₀ s j = SummedFrom _⊕_ 0ᶠ (λ k. at m mat i
 abbrev μ-loop : tie.MeasureT-loop
 μ-loop m wit mat end i s₀ j₀ s j = end - j
 
-add-j : tie.Need-add-j Inv-loop μ-loop
-add-j c = search needs
-
 loop-holds : tie.Need-loop-holds Inv-loop μ-loop
 loop-holds c = from-start _ _ _ _ _ (search needs)
-
-at-requires : tie.Need-at-requires Inv-loop μ-loop
-at-requires c κs = search needs
-
-mul-s : tie.Need-mul-s Inv-loop μ-loop
-mul-s c = search needs
-
-shared-slice-read-s : tie.Need-shared-slice-read-s Inv-loop μ-loop
-shared-slice-read-s c = search needs
-
-add-j-2 : tie.Need-add-j-2 Inv-loop μ-loop
-add-j-2 c = search needs
-
-loop-less : tie.Need-loop-less Inv-loop μ-loop
-loop-less c = search needs
 
 loop-again : tie.Need-loop-again Inv-loop μ-loop
 loop-again c =
     let l = c .before .before .before .loop in
     from-turn _ _ _ _ _ (l .s) (l .j) _ (l .inv) (search needs) (rw (c .before .at .ensures))
-
-mul-result : tie.Need-mul-result Inv-loop μ-loop
-mul-result c = search needs
-
-shared-slice-read-result : tie.Need-shared-slice-read-result Inv-loop μ-loop
-shared-slice-read-result c = search needs
-
-at-requires-2 : tie.Need-at-requires-2 Inv-loop μ-loop
-at-requires-2 c κs = search needs
-
-mul-result-2 : tie.Need-mul-result-2 Inv-loop μ-loop
-mul-result-2 c = search needs
-
-shared-slice-read-result-2 : tie.Need-shared-slice-read-result-2 Inv-loop μ-loop
-shared-slice-read-result-2 c = search needs
 
 returns : tie.Need-returns Inv-loop μ-loop
 unfolding quad-term
@@ -64,20 +31,5 @@ returns c =
 pub quad-row-spec : {M : Type 1} → statement M
 quad-row-spec =
     tie.close
-    (tie.spec
-    Inv-loop
-    μ-loop
-    add-j
-    loop-holds
-    at-requires
-    mul-s
-    shared-slice-read-s
-    add-j-2
-    loop-less
-    loop-again
-    mul-result
-    shared-slice-read-result
-    at-requires-2
-    mul-result-2
-    shared-slice-read-result-2
-    returns)
+    (tie.spec Inv-loop μ-loop (λ c. search needs) loop-holds (λ c κs. search needs) (λ c. search needs) (λ c. search needs) (λ c. search needs) (λ c. search needs)
+    loop-again (λ c. search needs) (λ c. search needs) (λ c κs. search needs) (λ c. search needs) (λ c. search needs) returns)

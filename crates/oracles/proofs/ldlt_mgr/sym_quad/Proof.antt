@@ -7,12 +7,9 @@ use borrow.Author.Needs.{needs}
 use Rattle.numbers.specs.laws.Pick.{says-no, says-yes}
 use Rattle.numbers.specs.laws.Refusal.{failed, held, at-first, at-next, refuses, accepts}
 use Rattle.numbers.specs.declared.arr.Number.the-variants.{Value}
-use Rattle.oracles.specs.laws.Ldlt.{order-most}
+use Rattle.oracles.proofs.ldlt_mgr.Laws.{order-most}
 use Rattle.oracles.proofs.ldlt_mgr.sym_quad.Statement.{statement}
 use Rattle.oracles.proofs.ldlt_mgr.sym_quad.Tie as tie
-
-is-order-requires : tie.Need-is-order-requires
-is-order-requires c κs = search needs
 
 returns : tie.Need-returns
 returns c = refuses _ _ _ (at-first _ (at-first _ (failed (says-no _ _ (c .before .is-order .ensures) (c .if1 .taken))))) refl
@@ -65,13 +62,4 @@ returns-6 c =
 pub sym-quad-spec : {M : Type 1} → statement M
 sym-quad-spec =
     tie.close
-    (tie.spec
-    is-order-requires
-    returns
-    returns-2
-    mul-if3
-    returns-3
-    returns-4
-    returns-5
-    quad-requires
-    returns-6)
+    (tie.spec (λ c κs. search needs) returns returns-2 mul-if3 returns-3 returns-4 returns-5 quad-requires returns-6)

@@ -6,12 +6,9 @@ use borrow.Author.Tests.{le-ltb, lt-ltb, le-leb, lt-leb, eq-eqb, ne-eqb}
 use borrow.Author.Needs.{needs}
 use Rattle.numbers.specs.laws.Pick.{says-no, says-yes}
 use Rattle.numbers.specs.laws.Refusal.{failed, held, at-first, at-next, refuses, accepts}
-use Rattle.oracles.specs.laws.Ldlt.{order-most}
+use Rattle.oracles.proofs.ldlt_mgr.Laws.{order-most}
 use Rattle.oracles.proofs.ldlt_mgr.witness.Statement.{statement}
 use Rattle.oracles.proofs.ldlt_mgr.witness.Tie as tie
-
-is-order-requires : tie.Need-is-order-requires
-is-order-requires c κs = search needs
 
 returns : tie.Need-returns
 returns c = refuses _ _ _ (at-first _ (at-first _ (failed (says-no _ _ (c .before .is-order .ensures) (c .if1 .taken))))) refl
@@ -51,16 +48,10 @@ witness-into-requires c κs =
     let e = c .before .before .before .before .before in
     (order-most _ _ (e .before .before .before .is-order .ensures) (e .before .before .if1 .left), search needs, search needs, search needs, search needs)
 
-sub-last : tie.Need-sub-last
-sub-last c = search needs
-
 at-requires : tie.Need-at-requires
 at-requires c κs =
     let e = c .before .before .before .before .before .before .before .before .before in
     (order-most _ _ (e .before .before .before .is-order .ensures) (e .before .before .if1 .left), search needs, search needs, search needs)
-
-same-length : tie.Need-same-length
-same-length c = search needs
 
 returns-6 : tie.Need-returns-6
 returns-6 c =
@@ -75,16 +66,5 @@ returns-6 c =
 pub witness-spec : {M : Type 1} → statement M
 witness-spec =
     tie.close
-    (tie.spec
-    is-order-requires
-    returns
-    mul-if2
-    returns-2
-    returns-3
-    returns-4
-    returns-5
-    witness-into-requires
-    sub-last
-    at-requires
-    same-length
-    returns-6)
+    (tie.spec (λ c κs. search needs) returns mul-if2 returns-2 returns-3 returns-4 returns-5 witness-into-requires (λ c. search needs) at-requires
+    (λ c. search needs) returns-6)

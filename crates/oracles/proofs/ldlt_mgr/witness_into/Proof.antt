@@ -14,33 +14,12 @@ Inv-loop m storage wit₀ start end i₀ wit i = (start ≤ i) × WitnessTo m st
 abbrev μ-loop : tie.MeasureT-loop
 μ-loop m storage wit₀ start end i₀ wit i = i
 
-sub-i : tie.Need-sub-i Inv-loop μ-loop
-sub-i c = search needs
-
-mul-wit : tie.Need-mul-wit Inv-loop μ-loop
-mul-wit c = search needs
-
-slice-write-wit : tie.Need-slice-write-wit Inv-loop μ-loop
-slice-write-wit c = search needs
-
 loop-holds : tie.Need-loop-holds Inv-loop μ-loop
 loop-holds c = (search needs, witness-start _ _ _ (c .before .before .args .wit .now) (search needs) (search needs))
-
-sub-i-2 : tie.Need-sub-i-2 Inv-loop μ-loop
-sub-i-2 c = search needs
 
 column-sum-requires : tie.Need-column-sum-requires Inv-loop μ-loop
 column-sum-requires c κs =
     (search needs, search needs, search needs, search needs, c .before .before .loop .inv .1 .long ∙ simp length-set (search needs))
-
-mul-wit-2 : tie.Need-mul-wit-2 Inv-loop μ-loop
-mul-wit-2 c = search needs
-
-slice-write-wit-2 : tie.Need-slice-write-wit-2 Inv-loop μ-loop
-slice-write-wit-2 c = search needs
-
-loop-less : tie.Need-loop-less Inv-loop μ-loop
-loop-less c = search needs
 
 loop-again : tie.Need-loop-again Inv-loop μ-loop
 loop-again c =
@@ -59,18 +38,5 @@ returns c =
 pub witness-into-spec : {M : Type 1} → statement M
 witness-into-spec =
     tie.close
-    (tie.spec
-    Inv-loop
-    μ-loop
-    sub-i
-    mul-wit
-    slice-write-wit
-    loop-holds
-    sub-i-2
-    column-sum-requires
-    mul-wit-2
-    slice-write-wit-2
-    loop-less
-    loop-again
-    same-length
-    returns)
+    (tie.spec Inv-loop μ-loop (λ c. search needs) (λ c. search needs) (λ c. search needs) loop-holds (λ c. search needs) column-sum-requires (λ c. search needs)
+    (λ c. search needs) (λ c. search needs) loop-again same-length returns)

@@ -11,9 +11,6 @@ factor-rows-requires c κs =
     let p = c .before .before .before .before .before .before .before .pre in
     (reads _ _ _ _ _ (p .0) (p .1) (p .2) (p .3) (p .4), search needs)
 
-same-length : tie.Need-same-length
-same-length c = search needs
-
 returns : tie.Need-returns
 returns c = feasible _ _ _ _ _ _ _ _ (c .before .before .before .factor-rows .ensures) (c .if1 .taken)
 
@@ -25,22 +22,10 @@ gradient-into-requires : tie.Need-gradient-into-requires
 gradient-into-requires c κs =
     (search needs, search needs, search needs, rows-most _ _ _ _ _ (c .before .before .before .before .before .before .before .before .before .before .factor-rows .ensures), search needs, search needs, search needs)
 
-sub-last : tie.Need-sub-last
-sub-last c = search needs
-
 at-requires : tie.Need-at-requires
 at-requires c κs =
     let h = rows-most _ _ _ _ _ (c .before .before .before .before .before .before .before .before .before .before .before .before .before .before .factor-rows .ensures) in
     (search needs, omega arith, omega arith, search needs)
-
-same-length-2 : tie.Need-same-length-2
-same-length-2 c = search needs
-
-same-length-3 : tie.Need-same-length-3
-same-length-3 c = search needs
-
-same-length-4 : tie.Need-same-length-4
-same-length-4 c = search needs
 
 returns-2 : tie.Need-returns-2
 returns-2 c =
@@ -52,15 +37,5 @@ returns-2 c =
 pub assess-spec : {M : Type 1} → statement M
 assess-spec =
     tie.close
-    (tie.spec
-    factor-rows-requires
-    same-length
-    returns
-    witness-into-requires
-    gradient-into-requires
-    sub-last
-    at-requires
-    same-length-2
-    same-length-3
-    same-length-4
-    returns-2)
+    (tie.spec factor-rows-requires (λ c. search needs) returns witness-into-requires gradient-into-requires (λ c. search needs) at-requires (λ c. search needs)
+    (λ c. search needs) (λ c. search needs) returns-2)

@@ -4,20 +4,14 @@ use borrow.Author.Needs.{needs}
 use Rattle.numbers.specs.laws.Pick.{says-no, says-yes}
 use Rattle.numbers.specs.laws.Refusal.{failed, held, at-first, at-next, refuses}
 use Rattle.oracles.specs.LmiOracle.{lmi-answer}
-use Rattle.oracles.specs.laws.Ldlt.{order-most}
+use Rattle.oracles.proofs.ldlt_mgr.Laws.{order-most}
 use Rattle.oracles.proofs.lmi_oracle.Laws.{dimension-small, wrong-length, accepted, lengths}
 use Rattle.oracles.proofs.lmi_oracle.assess_feas.Statement.{statement}
 use Rattle.oracles.proofs.lmi_oracle.assess_feas.Tie as tie
 
-is-order-requires : tie.Need-is-order-requires
-is-order-requires c κs = search needs
-
 returns : tie.Need-returns
 unfolding lmi-answer
 returns c = refuses _ _ _ (at-first _ (failed (says-no _ _ (c .before .is-order .ensures) (c .if1 .taken)))) refl
-
-is-dimension-requires : tie.Need-is-dimension-requires
-is-dimension-requires c κs = search needs
 
 returns-2 : tie.Need-returns-2
 unfolding lmi-answer
@@ -41,15 +35,6 @@ assess-requires c κs =
     let q = lengths _ _ _ _ _ _ _ _ (f .before .lengths-fit .ensures) (f .if3 .left) in
     (order-most _ _ (e .before .before .before .is-order .ensures) (e .before .before .if1 .left), dimension-small _ _ (e .before .is-dimension .ensures) (e .if2 .left), q .0, q .1, q .2, q .3, q .4, q .5)
 
-same-length : tie.Need-same-length
-same-length c = search needs
-
-same-length-2 : tie.Need-same-length-2
-same-length-2 c = search needs
-
-same-length-3 : tie.Need-same-length-3
-same-length-3 c = search needs
-
 returns-4 : tie.Need-returns-4
 returns-4 c =
     let f = c .before .before .before .before .before .before .before .before .before .before in
@@ -59,15 +44,5 @@ returns-4 c =
 pub assess-feas-spec : {M : Type 1} → statement M
 assess-feas-spec =
     tie.close
-    (tie.spec
-    is-order-requires
-    returns
-    is-dimension-requires
-    returns-2
-    lengths-fit-requires
-    returns-3
-    assess-requires
-    same-length
-    same-length-2
-    same-length-3
-    returns-4)
+    (tie.spec (λ c κs. search needs) returns (λ c κs. search needs) returns-2 lengths-fit-requires returns-3 assess-requires (λ c. search needs) (λ c. search needs)
+    (λ c. search needs) returns-4)

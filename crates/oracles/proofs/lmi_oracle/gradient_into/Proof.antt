@@ -42,12 +42,6 @@ mul-quad c =
     let k = c .before .loop .k in
     omega (arith, end-small (a .m) (a .n) k (search needs) (search needs) (search needs))
 
-sub-quad : tie.Need-sub-quad Inv-loop μ-loop
-sub-quad c = search needs
-
-part-quad-start : tie.Need-part-quad-start Inv-loop μ-loop
-part-quad-start c = search needs
-
 part-quad-end : tie.Need-part-quad-end Inv-loop μ-loop
 part-quad-end c =
     let a = c .before .before .before .before .before .args in
@@ -59,26 +53,11 @@ quad-requires c κs =
     let a = c .before .before .before .before .before .before .args in
     (search needs, search needs, search needs, search needs, part-long (a .m) (a .n) (c .before .before .loop .k) (a .mat-f .now) (search needs) (search needs))
 
-mul-grad : tie.Need-mul-grad Inv-loop μ-loop
-mul-grad c = search needs
-
-slice-write-grad : tie.Need-slice-write-grad Inv-loop μ-loop
-slice-write-grad c = search needs
-
-add-k : tie.Need-add-k Inv-loop μ-loop
-add-k c = search needs
-
-loop-less : tie.Need-loop-less Inv-loop μ-loop
-loop-less c = search needs
-
 loop-again : tie.Need-loop-again Inv-loop μ-loop
 loop-again c =
     let a = c .before .before .before .before .before .before .before .args in
     let l = c .before .before .before .loop in
     filled-turn _ _ (l .grad) (l .k) _ (l .inv) (search needs) (quad-is (a .m) (l .k) (a .pos) (a .wit .now) (a .mat-f .now) (c .quad .ensures))
-
-same-length : tie.Need-same-length Inv-loop μ-loop
-same-length c = search needs
 
 returns : tie.Need-returns Inv-loop μ-loop
 returns c =
@@ -89,22 +68,5 @@ returns c =
 pub gradient-into-spec : {M : Type 1} → statement M
 gradient-into-spec =
     tie.close
-    (tie.spec
-    Inv-loop
-    μ-loop
-    mul-size
-    loop-holds
-    mul-at
-    add-end
-    mul-quad
-    sub-quad
-    part-quad-start
-    part-quad-end
-    quad-requires
-    mul-grad
-    slice-write-grad
-    add-k
-    loop-less
-    loop-again
-    same-length
-    returns)
+    (tie.spec Inv-loop μ-loop mul-size loop-holds mul-at add-end mul-quad (λ c. search needs) (λ c. search needs) part-quad-end quad-requires (λ c. search needs)
+    (λ c. search needs) (λ c. search needs) (λ c. search needs) loop-again (λ c. search needs) returns)

@@ -12,8 +12,7 @@ mul-size c = let h = c .pre .0 in omega (arith, mul-le-mul h h)
 mul-result : tie.Need-mul-result
 mul-result c = omega (arith, all-small (c .args .m) (c .args .n) (c .pre .0) (c .pre .1))
 
-returns : tie.Need-returns
-returns c = refl
-
 pub lengths-fit-spec : {M : Type 1} → statement M
-lengths-fit-spec = tie.close (tie.spec mul-size mul-result returns)
+lengths-fit-spec =
+    tie.close
+    (tie.spec mul-size mul-result (λ c. refl))

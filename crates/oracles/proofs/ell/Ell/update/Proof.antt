@@ -1,30 +1,12 @@
 -- `oracles::ell::Ell::update` meets its contract. Assumes nothing.
-use mathlib.Core.Path.{_∙_}
+use mathlib.Core.Path.{_∙_, sym}
 use borrow.Author.Needs.{needs}
 use Rattle.numbers.specs.laws.Arr.{dimension-most}
-use Rattle.oracles.specs.Ell.{updated}
+use Rattle.oracles.specs.Ell.{ell-buffers}
 use Rattle.oracles.proofs.ell_common.Laws.{multiplied}
-use Rattle.oracles.proofs.ell.Laws.{no-effect, fails, succeeds}
+use Rattle.oracles.proofs.ell.Laws.{ell-no-effect, ell-fails, ell-succeeds}
 use Rattle.oracles.proofs.ell.Ell.update.Statement.{statement}
 use Rattle.oracles.proofs.ell.Ell.update.Tie as tie
-
-dot-mv-into-requires : tie.Need-dot-mv-into-requires
-dot-mv-into-requires c κs = search needs
-
-dot-zip-requires : tie.Need-dot-zip-requires
-dot-zip-requires c κs = search needs
-
-is-tiny-requires : tie.Need-is-tiny-requires
-is-tiny-requires c κs = search needs
-
-said-requires : tie.Need-said-requires
-said-requires c κs = search needs
-
-same-length : tie.Need-same-length
-same-length c = search needs
-
-same-length-2 : tie.Need-same-length-2
-same-length-2 c = search needs
 
 returns : tie.Need-returns
 returns c =
@@ -32,25 +14,10 @@ returns c =
     let m = z .before .before .before .before .dot-mv-into in
     let i = z .before .before .before .before .before .before .before .before .before .before .before in
     let a = i .args in
-    let g = multiplied (a .self .ndim) (a .mq .now) (a .grad .now) (a .grad-t .now) (m .result, m .last .1 .1 .1 .0) (m .ensures) (i .pre .0) (i .pre .2) (i .pre .1) (i .pre .4) in
-    no-effect (a .self) (a .strategy) (a .grad .now) (a .beta) (record { mq = a .mq .now; xc = a .xc .now; grad-t = a .grad-t .now }) _ (z .dot-zip .result) _
+    let g = multiplied (a .self .ndim) (a .mq .now) (a .grad .now) (a .grad-t .now) (m .result, m .last .1 .1 .1 .0) (m .ensures) (i .pre .0) (i .pre .2 .mq-long) (i .pre .1) (i .pre .2 .grad-t-long) in
+    ell-no-effect (a .self) (a .strategy) (a .grad .now) (a .beta) (ell-buffers (a .mq .now) (a .xc .now) (a .grad-t .now)) (c .said .result) _ (z .dot-zip .result) _
     g (z .dot-zip .ensures) (c .before .before .is-tiny .ensures)
-    (updated (a .self) (c .said .result)) (c .before .if1 .taken) (c .said .ensures)
-
-calc-requires : tie.Need-calc-requires
-calc-requires c κs = search needs
-
-is-success-requires : tie.Need-is-success-requires
-is-success-requires c κs = search needs
-
-said-requires-2 : tie.Need-said-requires-2
-said-requires-2 c κs = search needs
-
-same-length-3 : tie.Need-same-length-3
-same-length-3 c = search needs
-
-same-length-4 : tie.Need-same-length-4
-same-length-4 c = search needs
+    (c .before .if1 .taken) (c .said .ensures)
 
 returns-2 : tie.Need-returns-2
 returns-2 c =
@@ -58,27 +25,20 @@ returns-2 c =
     let m = z .before .before .before .before .dot-mv-into in
     let i = z .before .before .before .before .before .before .before .before .before .before .before in
     let a = i .args in
-    let g = multiplied (a .self .ndim) (a .mq .now) (a .grad .now) (a .grad-t .now) (m .result, m .last .1 .1 .1 .0) (m .ensures) (i .pre .0) (i .pre .2) (i .pre .1) (i .pre .4) in
-    fails (a .self) (a .strategy) (a .grad .now) (a .beta) (record { mq = a .mq .now; xc = a .xc .now; grad-t = a .grad-t .now }) _ (z .dot-zip .result) _
+    let g = multiplied (a .self .ndim) (a .mq .now) (a .grad .now) (a .grad-t .now) (m .result, m .last .1 .1 .1 .0) (m .ensures) (i .pre .0) (i .pre .2 .mq-long) (i .pre .1) (i .pre .2 .grad-t-long) in
+    ell-fails (a .self) (a .strategy) (a .grad .now) (a .beta) (ell-buffers (a .mq .now) (a .xc .now) (a .grad-t .now)) (c .said2 .result) _ (z .dot-zip .result) _
     g (z .dot-zip .ensures) (c .before .before .before .before .before .before .before .is-tiny .ensures)
-    (c .before .before .before .calc .result) _ (c .before .before .before .calc .ensures) (c .before .before .is-success .ensures) (c .before .before .before .before .before .before .if1 .left) (updated (a .self) (c .said2 .result)) (c .before .if2 .taken) (c .said2 .ensures)
+    (c .before .before .before .calc .result) _ (c .before .before .before .calc .ensures) (c .before .before .is-success .ensures) (c .before .before .before .before .before .before .if1 .left) (c .before .if2 .taken) (c .said2 .ensures)
 
 move-centre-requires : tie.Need-move-centre-requires
-move-centre-requires c κs = search needs
+move-centre-requires c κs =
+    let i = c .before .before .before .before .before .before .before .before .before .before .before .before .before .before .before .before .before .before .before .before .before .before in
+    i .pre .2 .xc-long ∙ sym (c .before .before .before .before .before .before .before .before .before .before .before .before .before .before .before .dot-mv-into .kept .1 .1 .1 .0 ∙ i .pre .2 .grad-t-long)
 
 shrink-requires : tie.Need-shrink-requires
 shrink-requires c κs =
     let i = c .before .before .before .before .before .before .before .before .before .before .before .before .before .before .before .before .before .before .before .before .before .before .before .before .before .before .before .before in
-    (dimension-most (i .args .self .ndim) (i .pre .0), i .pre .2, c .before .before .before .before .before .before .before .before .before .before .before .before .before .before .before .before .before .before .before .before .before .dot-mv-into .kept .1 .1 .1 .0 ∙ i .pre .4)
-
-said-requires-3 : tie.Need-said-requires-3
-said-requires-3 c κs = search needs
-
-same-length-5 : tie.Need-same-length-5
-same-length-5 c = search needs
-
-same-length-6 : tie.Need-same-length-6
-same-length-6 c = search needs
+    (dimension-most (i .args .self .ndim) (i .pre .0), i .pre .2 .mq-long, c .before .before .before .before .before .before .before .before .before .before .before .before .before .before .before .before .before .before .before .before .before .dot-mv-into .kept .1 .1 .1 .0 ∙ i .pre .2 .grad-t-long)
 
 same-length-7 : tie.Need-same-length-7
 same-length-7 c = c .before .before .before .before .before .before .before .before .before .before .before .before .before .before .before .before .before .before .before .before .before .before .before .before .before .before .before .dot-mv-into .kept .1 .1 .1 .0
@@ -89,34 +49,16 @@ returns-3 c =
     let m = z .before .before .before .before .dot-mv-into in
     let i = z .before .before .before .before .before .before .before .before .before .before .before in
     let a = i .args in
-    let g = multiplied (a .self .ndim) (a .mq .now) (a .grad .now) (a .grad-t .now) (m .result, m .last .1 .1 .1 .0) (m .ensures) (i .pre .0) (i .pre .2) (i .pre .1) (i .pre .4) in
+    let g = multiplied (a .self .ndim) (a .mq .now) (a .grad .now) (a .grad-t .now) (m .result, m .last .1 .1 .1 .0) (m .ensures) (i .pre .0) (i .pre .2 .mq-long) (i .pre .1) (i .pre .2 .grad-t-long) in
     let k = c .before .before .before .before .before .before .before .before .before .before .before .before .before .before .before .before .before .before in
-    succeeds (a .self) (a .strategy) (a .grad .now) (a .beta) (record { mq = a .mq .now; xc = a .xc .now; grad-t = a .grad-t .now }) _ (z .dot-zip .result) _
+    ell-succeeds (a .self) (a .strategy) (a .grad .now) (a .beta) (ell-buffers (a .mq .now) (a .xc .now) (a .grad-t .now)) (c .said3 .result) _ (z .dot-zip .result) _
     g (z .dot-zip .ensures) (c .before .before .before .before .before .before .before .before .before .before .before .before .before .before .before .before .before .before .before .before .before .before .is-tiny .ensures)
-    (k .calc .result) _ (k .calc .ensures) (c .before .before .before .before .before .before .before .before .before .before .before .before .before .before .before .before .before .is-success .ensures) (c .before .before .before .before .before .before .before .before .before .before .before .before .before .before .before .before .before .before .before .before .before .if1 .left) (updated (a .self) (c .said3 .result)) _ _ (c .before .before .before .before .before .before .before .before .before .before .before .before .before .before .before .before .if2 .left)
+    (k .calc .result) _ (k .calc .ensures) (c .before .before .before .before .before .before .before .before .before .before .before .before .before .before .before .before .before .is-success .ensures) (c .before .before .before .before .before .before .before .before .before .before .before .before .before .before .before .before .before .before .before .before .before .if1 .left) _ _ (c .before .before .before .before .before .before .before .before .before .before .before .before .before .before .before .before .if2 .left)
     (c .before .before .before .before .before .shrink .ensures) (c .before .before .before .before .before .before .before .before .before .before .before .move-centre .ensures) (c .said3 .ensures)
 
 pub update-spec : {M : Type 1} → statement M
 update-spec =
     tie.close
-    (tie.spec
-    dot-mv-into-requires
-    dot-zip-requires
-    is-tiny-requires
-    said-requires
-    same-length
-    same-length-2
-    returns
-    calc-requires
-    is-success-requires
-    said-requires-2
-    same-length-3
-    same-length-4
-    returns-2
-    move-centre-requires
-    shrink-requires
-    said-requires-3
-    same-length-5
-    same-length-6
-    same-length-7
-    returns-3)
+    (tie.spec (λ c κs. search needs) (λ c κs. search needs) (λ c κs. search needs) (λ c κs. search needs) (λ c. search needs) (λ c. search needs) returns
+    (λ c κs. search needs) (λ c κs. search needs) (λ c κs. search needs) (λ c. search needs) (λ c. search needs) returns-2 move-centre-requires shrink-requires
+    (λ c κs. search needs) (λ c. search needs) (λ c. search needs) same-length-7 returns-3)

@@ -3,21 +3,6 @@ use mathlib.Core.Path.{refl}
 use Rattle.oracles.proofs.ell_common.Outcome.answer.Statement.{statement}
 use Rattle.oracles.proofs.ell_common.Outcome.answer.Tie as tie
 
-enum-told : tie.Need-enum-told
-enum-told c = c .match .keys1
-
-enum-told-2 : tie.Need-enum-told-2
-enum-told-2 c = c .match .keys2
-
-enum-told-3 : tie.Need-enum-told-3
-enum-told-3 c = c .match .keys3
-
-enum-told-4 : tie.Need-enum-told-4
-enum-told-4 c = c .match .keys4
-
-enum-told-5 : tie.Need-enum-told-5
-enum-told-5 c = c .match .keys5
-
 returns : tie.Need-returns
 returns c = rw (c .enum-told .given .1) refl
 
@@ -36,14 +21,5 @@ returns-5 c = rw (c .enum-told5 .given .1) refl
 pub answer-spec : {M : Type 1} → statement M
 answer-spec =
     tie.close
-    (tie.spec
-    enum-told
-    enum-told-2
-    enum-told-3
-    enum-told-4
-    enum-told-5
-    returns
-    returns-2
-    returns-3
-    returns-4
-    returns-5)
+    (tie.spec (λ c. c .match .keys1) (λ c. c .match .keys2) (λ c. c .match .keys3) (λ c. c .match .keys4) (λ c. c .match .keys5) returns returns-2 returns-3
+    returns-4 returns-5)

@@ -1,89 +1,42 @@
 -- `oracles::ell_stable::EllStable::update` meets its contract. Assumes nothing.
 use mathlib.Core.Path.{_∙_}
 use borrow.Author.Needs.{needs}
-use Rattle.oracles.proofs.ell_stable.Laws.{no-effect, fails, succeeds}
+use Rattle.oracles.specs.EllStable.{stable-buffers}
+use Rattle.oracles.proofs.ell_stable.Laws.{stable-no-effect, stable-fails, stable-succeeds}
 use Rattle.oracles.proofs.ell_stable.EllStable.update.Statement.{statement}
 use Rattle.oracles.proofs.ell_stable.EllStable.update.Tie as tie
-
-prepare-requires : tie.Need-prepare-requires
-prepare-requires c κs = search needs
-
-is-tiny-requires : tie.Need-is-tiny-requires
-is-tiny-requires c κs = search needs
-
-said-requires : tie.Need-said-requires
-said-requires c κs = search needs
-
-same-length : tie.Need-same-length
-same-length c = search needs
-
-same-length-2 : tie.Need-same-length-2
-same-length-2 c = search needs
-
-same-length-3 : tie.Need-same-length-3
-same-length-3 c = search needs
-
-same-length-4 : tie.Need-same-length-4
-same-length-4 c = search needs
 
 returns : tie.Need-returns
 returns c =
     let i = c .before .before .before .before .before .before .before .before .before .before .before .before .before .before .before .before .before .before .before .before .before .before .before in
     let a = i .args in
     let p = c .before .before .before .before .before .before .before .before .before .before .before .prepare in
-    no-effect (a .self) (a .strategy) (a .grad .now) (a .beta)
-    (record { mq = a .mq .now; xc = a .xc .now; inv-ml-g = a .inv-ml-g .now; inv-md-inv-ml-g = a .inv-md-inv-ml-g .now; gg-t = a .gg-t .now; g-t = a .g-t .now })
-    (p .result) _ _ _ _ _ (p .ensures) (c .before .before .is-tiny .ensures)
-    (c .said .result) (c .before .if1 .taken) (c .said .ensures)
-
-calc-requires : tie.Need-calc-requires
-calc-requires c κs = search needs
-
-is-success-requires : tie.Need-is-success-requires
-is-success-requires c κs = search needs
-
-said-requires-2 : tie.Need-said-requires-2
-said-requires-2 c κs = search needs
-
-same-length-5 : tie.Need-same-length-5
-same-length-5 c = search needs
-
-same-length-6 : tie.Need-same-length-6
-same-length-6 c = search needs
-
-same-length-7 : tie.Need-same-length-7
-same-length-7 c = search needs
-
-same-length-8 : tie.Need-same-length-8
-same-length-8 c = search needs
+    stable-no-effect (a .self) (a .strategy) (a .grad .now) (a .beta)
+    (stable-buffers (a .mq .now) (a .xc .now) (a .inv-ml-g .now) (a .inv-md-inv-ml-g .now) (a .gg-t .now) (a .g-t .now))
+    (c .said .result) (p .result) _ _ _ _ _ (p .ensures) (c .before .before .is-tiny .ensures)
+    (c .before .if1 .taken) (c .said .ensures)
 
 returns-2 : tie.Need-returns-2
 returns-2 c =
     let i = c .before .before .before .before .before .before .before .before .before .before .before .before .before .before .before .before .before .before .before .before .before .before .before .before .before .before .before .before in
     let a = i .args in
     let p = c .before .before .before .before .before .before .before .before .before .before .before .before .before .before .before .before .prepare in
-    fails (a .self) (a .strategy) (a .grad .now) (a .beta)
-    (record { mq = a .mq .now; xc = a .xc .now; inv-ml-g = a .inv-ml-g .now; inv-md-inv-ml-g = a .inv-md-inv-ml-g .now; gg-t = a .gg-t .now; g-t = a .g-t .now })
-    (p .result) _ _ _ _ _ (p .ensures) (c .before .before .before .before .before .before .before .is-tiny .ensures)
+    stable-fails (a .self) (a .strategy) (a .grad .now) (a .beta)
+    (stable-buffers (a .mq .now) (a .xc .now) (a .inv-ml-g .now) (a .inv-md-inv-ml-g .now) (a .gg-t .now) (a .g-t .now))
+    (c .said2 .result) (p .result) _ _ _ _ _ (p .ensures) (c .before .before .before .before .before .before .before .is-tiny .ensures)
     (c .before .before .before .calc .result) _ (c .before .before .before .calc .ensures) (c .before .before .is-success .ensures) (c .before .before .before .before .before .before .if1 .left)
-    (c .said2 .result) (c .before .if2 .taken) (c .said2 .ensures)
+    (c .before .if2 .taken) (c .said2 .ensures)
 
 succeed-requires : tie.Need-succeed-requires
 succeed-requires c κs =
     let i = c .before .before .before .before .before .before .before .before .before .before .before .before .before .before .before .before .before .before .before .before .before .before .before .before .before .before .before .before .before .before .before .before in
     let p = c .before .before .before .before .before .before .before .before .before .before .before .before .before .before .before .before .before .before .before .before .prepare in
-    (i .pre .0, i .pre .1, p .kept .1 .1 .0 ∙ i .pre .2, i .pre .3, p .kept .1 .1 .1 .1 .0 ∙ i .pre .5, i .pre .7)
-
-said-requires-3 : tie.Need-said-requires-3
-said-requires-3 c κs = search needs
+    (i .pre .0, i .pre .1, p .kept .1 .1 .0 ∙ i .pre .2 .mq-long, i .pre .2 .xc-long, p .kept .1 .1 .1 .1 .0 ∙ i .pre .2 .inv-md-inv-ml-g-long, i .pre .2 .g-t-long)
 
 same-length-9 : tie.Need-same-length-9
 same-length-9 c =
     c .before .before .before .before .before .before .before .before .before .succeed .kept .1 .1 .0
     ∙ c .before .before .before .before .before .before .before .before .before .before .before .before .before .before .before .before .before .before .before .before .before .before .before .before .before .before .before .before .before .before .prepare .kept .1 .1 .0
-
-same-length-10 : tie.Need-same-length-10
-same-length-10 c = search needs
 
 same-length-11 : tie.Need-same-length-11
 same-length-11 c = c .before .before .before .before .before .before .before .before .before .before .before .before .before .before .before .before .before .before .before .before .before .before .before .before .before .before .before .before .before .before .prepare .kept .1 .1 .1 .0
@@ -94,47 +47,21 @@ same-length-12 c = c .before .before .before .before .before .before .before .be
 same-length-13 : tie.Need-same-length-13
 same-length-13 c = c .before .before .before .before .before .before .before .before .before .before .before .before .before .before .before .before .before .before .before .before .before .before .before .before .before .before .before .before .before .before .prepare .kept .1 .1 .1 .1 .1 .0
 
-same-length-14 : tie.Need-same-length-14
-same-length-14 c = search needs
-
 returns-3 : tie.Need-returns-3
 returns-3 c =
     let i = c .before .before .before .before .before .before .before .before .before .before .before .before .before .before .before .before .before .before .before .before .before .before .before .before .before .before .before .before .before .before .before .before .before .before .before .before .before .before .before .before .before .before in
     let a = i .args in
     let p = c .before .before .before .before .before .before .before .before .before .before .before .before .before .before .before .before .before .before .before .before .before .before .before .before .before .before .before .before .before .before .prepare in
     let k = c .before .before .before .before .before .before .before .before .before .before .before .before .before .before .before .before .before .calc in
-    succeeds (a .self) (a .strategy) (a .grad .now) (a .beta)
-    (record { mq = a .mq .now; xc = a .xc .now; inv-ml-g = a .inv-ml-g .now; inv-md-inv-ml-g = a .inv-md-inv-ml-g .now; gg-t = a .gg-t .now; g-t = a .g-t .now })
-    (p .result) _ _ _ _ _ (p .ensures) (c .before .before .before .before .before .before .before .before .before .before .before .before .before .before .before .before .before .before .before .before .before .is-tiny .ensures)
+    stable-succeeds (a .self) (a .strategy) (a .grad .now) (a .beta)
+    (stable-buffers (a .mq .now) (a .xc .now) (a .inv-ml-g .now) (a .inv-md-inv-ml-g .now) (a .gg-t .now) (a .g-t .now))
+    (c .said3 .result) (p .result) _ _ _ _ _ (p .ensures) (c .before .before .before .before .before .before .before .before .before .before .before .before .before .before .before .before .before .before .before .before .before .is-tiny .ensures)
     (k .result) _ (k .ensures) (c .before .before .before .before .before .before .before .before .before .before .before .before .before .before .before .before .is-success .ensures) (c .before .before .before .before .before .before .before .before .before .before .before .before .before .before .before .before .before .before .before .before .if1 .left)
-    (c .said3 .result) _ _ _ (c .before .before .before .before .before .before .before .before .before .before .before .before .before .before .before .if2 .left) (c .before .before .before .before .before .before .before .before .before .succeed .ensures) (c .said3 .ensures)
+    _ _ _ (c .before .before .before .before .before .before .before .before .before .before .before .before .before .before .before .if2 .left) (c .before .before .before .before .before .before .before .before .before .succeed .ensures) (c .said3 .ensures)
 
 pub update-spec : {M : Type 1} → statement M
 update-spec =
     tie.close
-    (tie.spec
-    prepare-requires
-    is-tiny-requires
-    said-requires
-    same-length
-    same-length-2
-    same-length-3
-    same-length-4
-    returns
-    calc-requires
-    is-success-requires
-    said-requires-2
-    same-length-5
-    same-length-6
-    same-length-7
-    same-length-8
-    returns-2
-    succeed-requires
-    said-requires-3
-    same-length-9
-    same-length-10
-    same-length-11
-    same-length-12
-    same-length-13
-    same-length-14
-    returns-3)
+    (tie.spec (λ c κs. search needs) (λ c κs. search needs) (λ c κs. search needs) (λ c. search needs) (λ c. search needs) (λ c. search needs) (λ c. search needs)
+    returns (λ c κs. search needs) (λ c κs. search needs) (λ c κs. search needs) (λ c. search needs) (λ c. search needs) (λ c. search needs) (λ c. search needs)
+    returns-2 succeed-requires (λ c κs. search needs) same-length-9 (λ c. search needs) same-length-11 same-length-12 same-length-13 (λ c. search needs) returns-3)

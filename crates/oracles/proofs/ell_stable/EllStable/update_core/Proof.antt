@@ -3,15 +3,10 @@ use mathlib.Core.Path.{refl, _∙_}
 use Rattle.numbers.specs.laws.Arr.{dimension-most}
 use Rattle.numbers.specs.laws.Pick.{says-no, says-yes}
 use Rattle.numbers.specs.laws.Refusal.{failed, held, at-first, at-next, refuses, accepts}
+use Rattle.oracles.specs.EllStable.{stable-buffers, stable-update-of}
 use Rattle.oracles.proofs.ell_stable.Laws.{unfit, fit-by, lengths-known}
 use Rattle.oracles.proofs.ell_stable.EllStable.update_core.Statement.{statement}
 use Rattle.oracles.proofs.ell_stable.EllStable.update_core.Tie as tie
-
-is-dimension-requires : tie.Need-is-dimension-requires
-is-dimension-requires c κs = tt
-
-refused-requires : tie.Need-refused-requires
-refused-requires c κs = tt
 
 returns : tie.Need-returns
 returns c = rw (c .refused .ensures) (refuses _ _ _ (at-first _ (failed (says-no _ _ (c .before .before .is-dimension .ensures) (c .before .if1 .taken)))) refl)
@@ -19,32 +14,11 @@ returns c = rw (c .refused .ensures) (refuses _ _ _ (at-first _ (failed (says-no
 lengths-fit-requires : tie.Need-lengths-fit-requires
 lengths-fit-requires c κs = dimension-most _ (says-yes _ _ (c .before .is-dimension .ensures) (c .if1 .left))
 
-refused-requires-2 : tie.Need-refused-requires-2
-refused-requires-2 c κs = tt
-
 returns-2 : tie.Need-returns-2
 returns-2 c =
     rw (c .refused2 .ensures)
     (refuses _ _ _ (at-next (held _ _ (says-yes _ _ (c .before .before .before .before .is-dimension .ensures) (c .before .before .before .if1 .left)))
     (failed (unfit _ _ _ _ _ (says-no _ _ (c .before .before .lengths-fit .ensures) (c .before .if2 .taken))))) refl)
-
-scratch-fits-requires : tie.Need-scratch-fits-requires
-scratch-fits-requires c κs = tt
-
-refused-requires-3 : tie.Need-refused-requires-3
-refused-requires-3 c κs = tt
-
-same-length : tie.Need-same-length
-same-length c = refl
-
-same-length-2 : tie.Need-same-length-2
-same-length-2 c = refl
-
-same-length-3 : tie.Need-same-length-3
-same-length-3 c = refl
-
-same-length-4 : tie.Need-same-length-4
-same-length-4 c = refl
 
 returns-3 : tie.Need-returns-3
 returns-3 c =
@@ -55,9 +29,11 @@ returns-3 c =
 
 update-requires : tie.Need-update-requires
 update-requires c κs =
-    lengths-known _ _ _ _ _ _ _ _ (says-yes _ _ (c .before .before .before .before .before .before .before .before .before .before .before .before .before .before .before .is-dimension .ensures) (c .before .before .before .before .before .before .before .before .before .before .before .before .before .before .if1 .left))
+    let a = c .before .before .before .before .before .before .before .before .before .before .before .before .before .before .before .before .before .before .before .before .before .before .before .args in
+    let k = lengths-known _ (a .grad .now) (stable-buffers (a .mq .now) (a .xc .now) (a .inv-ml-g .now) (a .inv-md-inv-ml-g .now) (a .gg-t .now) (a .g-t .now))
     (says-yes _ _ (c .before .before .before .before .before .before .before .before .before .before .before .before .before .lengths-fit .ensures) (c .before .before .before .before .before .before .before .before .before .before .before .before .if2 .left))
-    (says-yes _ _ (c .before .before .before .before .before .before .before .scratch-fits .ensures) (c .before .before .before .before .before .before .if3 .left))
+    (says-yes _ _ (c .before .before .before .before .before .before .before .scratch-fits .ensures) (c .before .before .before .before .before .before .if3 .left)) in
+    (says-yes _ _ (c .before .before .before .before .before .before .before .before .before .before .before .before .before .before .before .is-dimension .ensures) (c .before .before .before .before .before .before .before .before .before .before .before .before .before .before .if1 .left), k .0, k .1)
 
 same-length-5 : tie.Need-same-length-5
 same-length-5 c = c .before .before .before .before .before .before .before .before .before .before .before .before .update .kept .1 .1 .1 .1 .0
@@ -78,6 +54,7 @@ same-length-10 : tie.Need-same-length-10
 same-length-10 c = c .before .before .before .before .before .before .before .before .before .before .before .before .update .kept .1 .1 .1 .1 .1 .1 .1 .1 .1 .0
 
 returns-4 : tie.Need-returns-4
+unfolding stable-update-of
 returns-4 c =
     c .before .before .before .before .before .before .before .before .before .before .before .before .update .ensures
     ∙ accepts _ _ _
@@ -90,25 +67,5 @@ returns-4 c =
 pub update-core-spec : {M : Type 1} → statement M
 update-core-spec =
     tie.close
-    (tie.spec
-    is-dimension-requires
-    refused-requires
-    returns
-    lengths-fit-requires
-    refused-requires-2
-    returns-2
-    scratch-fits-requires
-    refused-requires-3
-    same-length
-    same-length-2
-    same-length-3
-    same-length-4
-    returns-3
-    update-requires
-    same-length-5
-    same-length-6
-    same-length-7
-    same-length-8
-    same-length-9
-    same-length-10
-    returns-4)
+    (tie.spec (λ c κs. tt) (λ c κs. tt) returns lengths-fit-requires (λ c κs. tt) returns-2 (λ c κs. tt) (λ c κs. tt) (λ c. refl) (λ c. refl) (λ c. refl) (λ c. refl)
+    returns-3 update-requires same-length-5 same-length-6 same-length-7 same-length-8 same-length-9 same-length-10 returns-4)

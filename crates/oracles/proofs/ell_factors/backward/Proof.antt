@@ -1,13 +1,13 @@
--- `oracles::ell_stable::backward` meets its contract. The invariant: the entries from i on are solved. Assumes nothing.
+-- `oracles::ell_factors::backward` meets its contract. The invariant: the entries from i on are solved. Assumes nothing.
 use mathlib.Core.Path.{_≡_}
 use mathlib.Core.List.{_++_}
 use Prim.Native.Nat.{_-_, _<_}
 use borrow.Author.Needs.{needs}
 use lib.ListN.{length, take}
 use Rattle.oracles.specs.EllStable.{backward}
-use Rattle.oracles.proofs.ell_stable.Laws.{back-rows-start, back-rows-turn, back-rows-done}
-use Rattle.oracles.proofs.ell_stable.backward.Statement.{statement}
-use Rattle.oracles.proofs.ell_stable.backward.Tie as tie
+use Rattle.oracles.proofs.ell_factors.Laws.{back-rows-start, back-rows-turn, back-rows-done}
+use Rattle.oracles.proofs.ell_factors.backward.Statement.{statement}
+use Rattle.oracles.proofs.ell_factors.backward.Tie as tie
 
 abbrev Inv-loop : tie.InvT-loop
 Inv-loop n mq q₀ i₀ q i = (i < n) × (length q ≡ n) × (q ≡ take i q₀ ++ backward n mq q₀ (n - i))
@@ -15,22 +15,10 @@ Inv-loop n mq q₀ i₀ q i = (i < n) × (length q ≡ n) × (q ≡ take i q₀ 
 abbrev μ-loop : tie.MeasureT-loop
 μ-loop n mq q₀ i₀ q i = i
 
-sub-i : tie.Need-sub-i Inv-loop μ-loop
-sub-i c = search needs
-
 loop-holds : tie.Need-loop-holds Inv-loop μ-loop
 loop-holds c =
     let a = c .before .before .args in
     (search needs, search needs, back-rows-start (a .n) (a .mq .now) (a .q .now) (search needs) (search needs))
-
-sub-i-2 : tie.Need-sub-i-2 Inv-loop μ-loop
-sub-i-2 c = search needs
-
-backward-row-requires : tie.Need-backward-row-requires Inv-loop μ-loop
-backward-row-requires c κs = search needs
-
-loop-less : tie.Need-loop-less Inv-loop μ-loop
-loop-less c = search needs
 
 loop-again : tie.Need-loop-again Inv-loop μ-loop
 loop-again c =
@@ -41,9 +29,6 @@ loop-again c =
       rw (c .before .before .backward-row .ensures) (back-rows-turn (a .n) (a .mq .now) (a .q .now) (l .q) (l .i) (l .i - 1) (search needs) (search needs) (search needs) (l .inv .2)),
     )
 
-same-length : tie.Need-same-length Inv-loop μ-loop
-same-length c = search needs
-
 returns : tie.Need-returns Inv-loop μ-loop
 returns c =
     let l = c .before .loop in
@@ -53,14 +38,4 @@ returns c =
 pub backward-spec : {M : Type 1} → statement M
 backward-spec =
     tie.close
-    (tie.spec
-    Inv-loop
-    μ-loop
-    sub-i
-    loop-holds
-    sub-i-2
-    backward-row-requires
-    loop-less
-    loop-again
-    same-length
-    returns)
+    (tie.spec Inv-loop μ-loop (λ c. search needs) loop-holds (λ c. search needs) (λ c κs. search needs) (λ c. search needs) loop-again (λ c. search needs) returns)

@@ -1,4 +1,4 @@
--- `oracles::ell_stable::forward` meets its contract. The invariant: the rows below i are solved, and their products stored. Row i is lent, and comes back in its place.
+-- `oracles::ell_factors::forward` meets its contract. The invariant: the rows below i are solved, and their products stored. Row i is lent, and comes back in its place.
 -- Assumes nothing.
 use mathlib.Core.Path.{_≡_}
 use Prim.Native.Nat.{_-_}
@@ -8,9 +8,9 @@ use lib.ListN.{length}
 use Rattle.numbers.specs.laws.Arr.{row-in}
 use Rattle.oracles.specs.laws.Matrix.{row-small}
 use Rattle.oracles.specs.laws.Loop.{VectorOf, MatrixOf, sweep-done}
-use Rattle.oracles.proofs.ell_stable.Laws.{lowered-to, solved, lowered-start, solved-start, row-fits, lowered-turn, solved-turn, lowered-done}
-use Rattle.oracles.proofs.ell_stable.forward.Statement.{statement}
-use Rattle.oracles.proofs.ell_stable.forward.Tie as tie
+use Rattle.oracles.proofs.ell_factors.Laws.{lowered-to, solved, lowered-start, solved-start, row-fits, lowered-turn, solved-turn, lowered-done}
+use Rattle.oracles.proofs.ell_factors.forward.Statement.{statement}
+use Rattle.oracles.proofs.ell_factors.forward.Tie as tie
 
 abbrev Inv-loop : tie.InvT-loop
 Inv-loop n mq₀ w₀ column₀ i₀ mq w column i = MatrixOf n (lowered-to n mq₀ w₀ i) mq × VectorOf n (solved n mq₀ w₀ i) w × (length column ≡ n)
@@ -22,9 +22,6 @@ loop-holds : tie.Need-loop-holds Inv-loop μ-loop
 loop-holds c =
     let a = c .before .before .before .args in
     (lowered-start (a .n) (a .mq .now) (a .w .now) (search needs), solved-start (a .n) (a .mq .now) (a .w .now) (search needs), search needs)
-
-column-into-requires : tie.Need-column-into-requires Inv-loop μ-loop
-column-into-requires c κs = search needs
 
 mul-at : tie.Need-mul-at Inv-loop μ-loop
 mul-at c =
@@ -38,23 +35,11 @@ add-end c =
     let a = c .before .before .before .before .before .before .before .before .before .before .args in
     omega (arith, row-small (a .n) (l .i) (search needs) (search needs))
 
-mul-start : tie.Need-mul-start Inv-loop μ-loop
-mul-start c = search needs
-
-slice-read-start : tie.Need-slice-read-start Inv-loop μ-loop
-slice-read-start c = search needs
-
 mul-forward-row : tie.Need-mul-forward-row Inv-loop μ-loop
 mul-forward-row c =
     let l = c .before .before .before .before .before .before .before .loop in
     let a = c .before .before .before .before .before .before .before .before .before .before .before .args in
     omega (arith, row-small (a .n) (l .i) (search needs) (search needs))
-
-sub-forward-row : tie.Need-sub-forward-row Inv-loop μ-loop
-sub-forward-row c = search needs
-
-part-forward-row-start : tie.Need-part-forward-row-start Inv-loop μ-loop
-part-forward-row-start c = search needs
 
 part-forward-row-end : tie.Need-part-forward-row-end Inv-loop μ-loop
 part-forward-row-end c =
@@ -68,18 +53,6 @@ forward-row-requires c κs =
     let a = c .before .before .before .before .before .before .before .before .before .before .before .before .before .before .args in
     row-fits (a .n) (a .mq .now) (a .w .now) (l .i) (l .mq) (l .w) (l .inv .0) (l .inv .1) (search needs) _ _ (c .before .before .before .before .before .before .column-into .ensures) (l .inv .2)
 
-mul-w : tie.Need-mul-w Inv-loop μ-loop
-mul-w c = search needs
-
-slice-write-w : tie.Need-slice-write-w Inv-loop μ-loop
-slice-write-w c = search needs
-
-add-i : tie.Need-add-i Inv-loop μ-loop
-add-i c = search needs
-
-loop-less : tie.Need-loop-less Inv-loop μ-loop
-loop-less c = search needs
-
 loop-again : tie.Need-loop-again Inv-loop μ-loop
 loop-again c =
     let l = c .before .before .before .before .before .before .before .before .before .before .before .before .before .loop in
@@ -89,15 +62,6 @@ loop-again c =
       solved-turn (a .n) (a .mq .now) (a .w .now) (l .i) (l .mq) (l .w) (l .inv .0) (l .inv .1) (search needs) _ _ (c .before .before .before .before .before .before .before .before .before .column-into .ensures) _ (e .0),
       search needs,
     )
-
-same-length : tie.Need-same-length Inv-loop μ-loop
-same-length c = search needs
-
-same-length-2 : tie.Need-same-length-2 Inv-loop μ-loop
-same-length-2 c = search needs
-
-same-length-3 : tie.Need-same-length-3 Inv-loop μ-loop
-same-length-3 c = search needs
 
 returns : tie.Need-returns Inv-loop μ-loop
 returns c =
@@ -110,26 +74,6 @@ returns c =
 pub forward-spec : {M : Type 1} → statement M
 forward-spec =
     tie.close
-    (tie.spec
-    Inv-loop
-    μ-loop
-    loop-holds
-    column-into-requires
-    mul-at
-    add-end
-    mul-start
-    slice-read-start
-    mul-forward-row
-    sub-forward-row
-    part-forward-row-start
-    part-forward-row-end
-    forward-row-requires
-    mul-w
-    slice-write-w
-    add-i
-    loop-less
-    loop-again
-    same-length
-    same-length-2
-    same-length-3
-    returns)
+    (tie.spec Inv-loop μ-loop loop-holds (λ c κs. search needs) mul-at add-end (λ c. search needs) (λ c. search needs) mul-forward-row (λ c. search needs)
+    (λ c. search needs) part-forward-row-end forward-row-requires (λ c. search needs) (λ c. search needs) (λ c. search needs) (λ c. search needs) loop-again
+    (λ c. search needs) (λ c. search needs) (λ c. search needs) returns)

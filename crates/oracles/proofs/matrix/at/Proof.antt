@@ -1,9 +1,9 @@
--- `oracles::ldlt_mgr::at` meets its contract. Assumes nothing.
+-- `oracles::matrix::at` meets its contract. Assumes nothing.
 use native.Mathlib.Omega.{arith}
 use borrow.Author.Needs.{needs}
 use Rattle.oracles.specs.laws.Matrix.{row-small, place-in}
-use Rattle.oracles.proofs.ldlt_mgr.at.Statement.{statement}
-use Rattle.oracles.proofs.ldlt_mgr.at.Tie as tie
+use Rattle.oracles.proofs.matrix.at.Statement.{statement}
+use Rattle.oracles.proofs.matrix.at.Tie as tie
 
 mul-result : tie.Need-mul-result
 mul-result c = omega (arith, row-small (c .args .m) (c .args .i) (search needs) (search needs))
@@ -17,8 +17,7 @@ mul-result-2 c = omega (arith, row-small (c .args .m) (c .args .i) (search needs
 shared-slice-read-result : tie.Need-shared-slice-read-result
 shared-slice-read-result c = let a = c .before .args in omega (arith, place-in (a .m) (a .m) (a .i) (a .j) (search needs) (search needs))
 
-returns : tie.Need-returns
-returns c = search needs
-
 pub at-spec : {M : Type 1} → statement M
-at-spec = tie.close (tie.spec mul-result add-result mul-result-2 shared-slice-read-result returns)
+at-spec =
+    tie.close
+    (tie.spec mul-result add-result mul-result-2 shared-slice-read-result (λ c. search needs))

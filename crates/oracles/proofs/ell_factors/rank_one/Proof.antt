@@ -1,4 +1,4 @@
--- `oracles::ell_stable::rank_one` meets its contract. The invariant: the rows below j are done, and their columns taken from v. Row j is lent from its diagonal on.
+-- `oracles::ell_factors::rank_one` meets its contract. The invariant: the rows below j are done, and their columns taken from v. Row j is lent from its diagonal on.
 -- Assumes nothing.
 use mathlib.Core.Path.{_≡_, refl}
 use Prim.Native.Nat.{_-_, _≤_}
@@ -9,9 +9,9 @@ use Rattle.oracles.specs.Matrix.{total}
 use Rattle.oracles.specs.laws.Matrix.{row-small}
 use Rattle.oracles.specs.laws.Loop.{VectorOf, MatrixOf, by-zero}
 use Rattle.oracles.specs.laws.EllStable.{t-after}
-use Rattle.oracles.proofs.ell_stable.Laws.{factored-to, columns-to, columns-start, columns-turn, parts-fit, t-turn, factored-turn, factored-done, columns-done}
-use Rattle.oracles.proofs.ell_stable.rank_one.Statement.{statement}
-use Rattle.oracles.proofs.ell_stable.rank_one.Tie as tie
+use Rattle.oracles.proofs.ell_factors.Laws.{factored-to, columns-to, columns-start, columns-turn, parts-fit, t-turn, factored-turn, factored-done, columns-done}
+use Rattle.oracles.proofs.ell_factors.rank_one.Statement.{statement}
+use Rattle.oracles.proofs.ell_factors.rank_one.Tie as tie
 
 abbrev Inv-loop : tie.InvT-loop
 Inv-loop n mq₀ z v₀ t0 oldt₀ j₀ mq v oldt j = (j ≤ n) × MatrixOf n (factored-to n mq₀ z v₀ t0 j) mq × VectorOf n (columns-to n mq₀ v₀ j) v × (oldt ≡ t-after n mq₀ z v₀ t0 j)
@@ -24,21 +24,6 @@ unfolding t-after total
 loop-holds c =
     let a = c .before .before .before .args in
     (search needs, by-zero (a .n) (λ r c. r) _ (a .mq .now) (search needs), columns-start (a .n) (a .mq .now) (a .v .now) (search needs), refl)
-
-mul-temp : tie.Need-mul-temp Inv-loop μ-loop
-mul-temp c = search needs
-
-shared-slice-read-temp : tie.Need-shared-slice-read-temp Inv-loop μ-loop
-shared-slice-read-temp c = search needs
-
-mul-newt : tie.Need-mul-newt Inv-loop μ-loop
-mul-newt c = search needs
-
-slice-read-newt : tie.Need-slice-read-newt Inv-loop μ-loop
-slice-read-newt c = search needs
-
-take-column-requires : tie.Need-take-column-requires Inv-loop μ-loop
-take-column-requires c κs = search needs
 
 mul-at : tie.Need-mul-at Inv-loop μ-loop
 mul-at c =
@@ -70,26 +55,11 @@ mul-update-row c =
     let a = c .before .before .before .before .before .before .before .before .before .before .before .before .args in
     omega (arith, row-small (a .n) (l .j) (search needs) (search needs))
 
-sub-update-row : tie.Need-sub-update-row Inv-loop μ-loop
-sub-update-row c = search needs
-
-part-update-row-start : tie.Need-part-update-row-start Inv-loop μ-loop
-part-update-row-start c = search needs
-
 part-update-row-end : tie.Need-part-update-row-end Inv-loop μ-loop
 part-update-row-end c =
     let l = c .before .before .before .before .before .before .before .before .loop in
     let a = c .before .before .before .before .before .before .before .before .before .before .before .before .args in
     omega (arith, row-in (a .n) (l .j) (a .n) (search needs))
-
-mul-update-row-2 : tie.Need-mul-update-row-2 Inv-loop μ-loop
-mul-update-row-2 c = search needs
-
-sub-update-row-2 : tie.Need-sub-update-row-2 Inv-loop μ-loop
-sub-update-row-2 c = search needs
-
-part-update-row-start-2 : tie.Need-part-update-row-start-2 Inv-loop μ-loop
-part-update-row-start-2 c = search needs
 
 part-update-row-end-2 : tie.Need-part-update-row-end-2 Inv-loop μ-loop
 part-update-row-end-2 c =
@@ -103,12 +73,6 @@ update-row-requires c κs =
     let a = c .before .before .before .before .before .before .before .before .before .before .before .before .before .before .before .args in
     parts-fit (a .n) (a .mq .now) (a .z .now) (a .v .now) (a .t0) (l .j) (l .mq) (l .v) (l .inv .1) (l .inv .2) (search needs) _ (c .before .before .before .before .before .take-column .ensures)
 
-add-j : tie.Need-add-j Inv-loop μ-loop
-add-j c = search needs
-
-loop-less : tie.Need-loop-less Inv-loop μ-loop
-loop-less c = search needs
-
 loop-again : tie.Need-loop-again Inv-loop μ-loop
 loop-again c =
     let l = c .before .before .before .before .before .before .before .before .before .before .before .before .before .before .loop in
@@ -119,12 +83,6 @@ loop-again c =
       columns-turn (a .n) (a .mq .now) (a .z .now) (a .v .now) (a .t0) (l .j) (l .mq) (l .v) (l .inv .1) (l .inv .2) (search needs) _ e,
       t-turn (a .n) (a .mq .now) (a .z .now) (a .v .now) (a .t0) (l .j) (l .mq) (l .v) (l .inv .1) (l .inv .2) (search needs) _ e (l .oldt) (l .inv .3),
     )
-
-same-length : tie.Need-same-length Inv-loop μ-loop
-same-length c = search needs
-
-same-length-2 : tie.Need-same-length-2 Inv-loop μ-loop
-same-length-2 c = search needs
 
 returns : tie.Need-returns Inv-loop μ-loop
 returns c =
@@ -137,31 +95,6 @@ returns c =
 pub rank-one-spec : {M : Type 1} → statement M
 rank-one-spec =
     tie.close
-    (tie.spec
-    Inv-loop
-    μ-loop
-    loop-holds
-    mul-temp
-    shared-slice-read-temp
-    mul-newt
-    slice-read-newt
-    take-column-requires
-    mul-at
-    add-at
-    mul-end
-    add-end
-    mul-update-row
-    sub-update-row
-    part-update-row-start
-    part-update-row-end
-    mul-update-row-2
-    sub-update-row-2
-    part-update-row-start-2
-    part-update-row-end-2
-    update-row-requires
-    add-j
-    loop-less
-    loop-again
-    same-length
-    same-length-2
-    returns)
+    (tie.spec Inv-loop μ-loop loop-holds (λ c. search needs) (λ c. search needs) (λ c. search needs) (λ c. search needs) (λ c κs. search needs) mul-at add-at mul-end
+    add-end mul-update-row (λ c. search needs) (λ c. search needs) part-update-row-end (λ c. search needs) (λ c. search needs) (λ c. search needs)
+    part-update-row-end-2 update-row-requires (λ c. search needs) (λ c. search needs) loop-again (λ c. search needs) (λ c. search needs) returns)

@@ -1,4 +1,4 @@
--- `oracles::ell_stable::forward_row` meets its contract. The invariant: the first j products are stored in the row, and taken from the start. Assumes nothing.
+-- `oracles::ell_factors::forward_row` meets its contract. The invariant: the first j products are stored in the row, and taken from the start. Assumes nothing.
 use mathlib.Core.Path.{_≡_, refl}
 use Prim.Native.Nat.{_-_, _≤_}
 use native.Mathlib.Omega.{arith}
@@ -8,8 +8,8 @@ use Rattle.oracles.specs.Matrix.{nth, total}
 use Rattle.oracles.specs.laws.Matrix.{total-turn, total-at}
 use Rattle.oracles.specs.laws.Loop.{VectorOf, swept, sweep-zero, sweep-turn, sweep-done}
 use borrow.Author.Needs.{needs}
-use Rattle.oracles.proofs.ell_stable.forward_row.Statement.{statement}
-use Rattle.oracles.proofs.ell_stable.forward_row.Tie as tie
+use Rattle.oracles.proofs.ell_factors.forward_row.Statement.{statement}
+use Rattle.oracles.proofs.ell_factors.forward_row.Tie as tie
 
 abbrev Inv-loop : tie.InvT-loop
 Inv-loop row₀ column w start s₀ j₀ row s j = (j ≤ length row₀) × VectorOf (length row₀) (swept (λ k. nth column k ⊗ nth w k) (λ k. nth row₀ k) j) row × (s ≡ total _⊖_ start (λ k. nth column k ⊗ nth w k) j)
@@ -21,30 +21,6 @@ loop-holds : tie.Need-loop-holds Inv-loop μ-loop
 unfolding total
 loop-holds c = (search needs, sweep-zero _ _ _ refl, refl)
 
-mul-val : tie.Need-mul-val Inv-loop μ-loop
-mul-val c = search needs
-
-shared-slice-read-val : tie.Need-shared-slice-read-val Inv-loop μ-loop
-shared-slice-read-val c = search needs
-
-mul-val-2 : tie.Need-mul-val-2 Inv-loop μ-loop
-mul-val-2 c = search needs
-
-shared-slice-read-val-2 : tie.Need-shared-slice-read-val-2 Inv-loop μ-loop
-shared-slice-read-val-2 c = search needs
-
-mul-row : tie.Need-mul-row Inv-loop μ-loop
-mul-row c = search needs
-
-slice-write-row : tie.Need-slice-write-row Inv-loop μ-loop
-slice-write-row c = search needs
-
-add-j : tie.Need-add-j Inv-loop μ-loop
-add-j c = search needs
-
-loop-less : tie.Need-loop-less Inv-loop μ-loop
-loop-less c = search needs
-
 loop-again : tie.Need-loop-again Inv-loop μ-loop
 loop-again c =
     let l = c .before .before .before .loop in (
@@ -52,9 +28,6 @@ loop-again c =
       sweep-turn _ _ _ (l .j) (l .row) (l .inv .1) _ (search needs) refl,
       total-turn _⊖_ _ _ (l .j) _ _ (l .inv .2) refl,
     )
-
-same-length : tie.Need-same-length Inv-loop μ-loop
-same-length c = search needs
 
 returns : tie.Need-returns Inv-loop μ-loop
 returns c =
@@ -64,18 +37,5 @@ returns c =
 pub forward-row-spec : {M : Type 1} → statement M
 forward-row-spec =
     tie.close
-    (tie.spec
-    Inv-loop
-    μ-loop
-    loop-holds
-    mul-val
-    shared-slice-read-val
-    mul-val-2
-    shared-slice-read-val-2
-    mul-row
-    slice-write-row
-    add-j
-    loop-less
-    loop-again
-    same-length
-    returns)
+    (tie.spec Inv-loop μ-loop loop-holds (λ c. search needs) (λ c. search needs) (λ c. search needs) (λ c. search needs) (λ c. search needs) (λ c. search needs)
+    (λ c. search needs) (λ c. search needs) loop-again (λ c. search needs) returns)

@@ -1,4 +1,4 @@
--- `oracles::ell_stable::update_row` meets its contract. The invariant: the entries below l are written. Assumes nothing.
+-- `oracles::ell_factors::update_row` meets its contract. The invariant: the entries below l are written. Assumes nothing.
 use mathlib.Core.Path.{refl, _∙_}
 use Prim.Native.Nat.{_-_, _<_}
 use native.Mathlib.Omega.{arith}
@@ -8,9 +8,9 @@ use lib.Dec.{eqb}
 use lib.ListN.{length, length-set}
 use Rattle.oracles.specs.Matrix.{nth}
 use Rattle.oracles.specs.laws.Loop.{VectorOf, swept, sweep-start, sweep-left, sweep-turn, sweep-done}
-use Rattle.oracles.proofs.ell_stable.Laws.{updated-from, row-done}
-use Rattle.oracles.proofs.ell_stable.update_row.Statement.{statement}
-use Rattle.oracles.proofs.ell_stable.update_row.Tie as tie
+use Rattle.oracles.proofs.ell_factors.Laws.{updated-from, row-done}
+use Rattle.oracles.proofs.ell_factors.update_row.Statement.{statement}
+use Rattle.oracles.proofs.ell_factors.update_row.Tie as tie
 use Rattle.numbers.specs.laws.Pick.{hit, skip}
 
 abbrev Inv-loop : tie.InvT-loop
@@ -19,38 +19,8 @@ Inv-loop row₀ ratio beta2 v l₀ row l = (0 < l) × VectorOf (length v) (swept
 abbrev μ-loop : tie.MeasureT-loop
 μ-loop row₀ ratio beta2 v l₀ row l = length v - l
 
-slice-read-row : tie.Need-slice-read-row Inv-loop μ-loop
-slice-read-row c = search needs
-
-slice-write-row : tie.Need-slice-write-row Inv-loop μ-loop
-slice-write-row c = search needs
-
 loop-holds : tie.Need-loop-holds Inv-loop μ-loop
 loop-holds c = (search needs, sweep-start _ _ _ 1 _ (rw length-set (search needs)) (λ k b. refl) (λ k b. hit (eqb k 0) _ _ _ (eq-eqb k 0 (omega (arith, b))) refl))
-
-mul-row : tie.Need-mul-row Inv-loop μ-loop
-mul-row c = search needs
-
-slice-read-row-2 : tie.Need-slice-read-row-2 Inv-loop μ-loop
-slice-read-row-2 c = search needs
-
-mul-row-2 : tie.Need-mul-row-2 Inv-loop μ-loop
-mul-row-2 c = search needs
-
-shared-slice-read-row : tie.Need-shared-slice-read-row Inv-loop μ-loop
-shared-slice-read-row c = search needs
-
-mul-row-3 : tie.Need-mul-row-3 Inv-loop μ-loop
-mul-row-3 c = search needs
-
-slice-write-row-2 : tie.Need-slice-write-row-2 Inv-loop μ-loop
-slice-write-row-2 c = search needs
-
-add-l : tie.Need-add-l Inv-loop μ-loop
-add-l c = search needs
-
-loop-less : tie.Need-loop-less Inv-loop μ-loop
-loop-less c = search needs
 
 loop-again : tie.Need-loop-again Inv-loop μ-loop
 loop-again c =
@@ -59,9 +29,6 @@ loop-again c =
       sweep-turn _ _ _ (l .l) (l .row) (l .inv .1) _ (search needs)
           (skip (eqb (l .l) 0) _ _ _ (ne-eqb (l .l) 0 (λ q. absurd (omega (arith, q)))) (rw (sweep-left _ _ _ (l .l) (l .row) (l .inv .1) (l .l) (omega arith) (search needs)))),
     )
-
-same-length : tie.Need-same-length Inv-loop μ-loop
-same-length c = search needs
 
 returns : tie.Need-returns Inv-loop μ-loop
 returns c =
@@ -73,20 +40,5 @@ returns c =
 pub update-row-spec : {M : Type 1} → statement M
 update-row-spec =
     tie.close
-    (tie.spec
-    Inv-loop
-    μ-loop
-    slice-read-row
-    slice-write-row
-    loop-holds
-    mul-row
-    slice-read-row-2
-    mul-row-2
-    shared-slice-read-row
-    mul-row-3
-    slice-write-row-2
-    add-l
-    loop-less
-    loop-again
-    same-length
-    returns)
+    (tie.spec Inv-loop μ-loop (λ c. search needs) (λ c. search needs) loop-holds (λ c. search needs) (λ c. search needs) (λ c. search needs) (λ c. search needs)
+    (λ c. search needs) (λ c. search needs) (λ c. search needs) (λ c. search needs) loop-again (λ c. search needs) returns)
