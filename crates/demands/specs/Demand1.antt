@@ -77,7 +77,7 @@ use Rattle.drivers.specs.declared.answer.AnswerRead.the-variants.{Refused as No
 use Rattle.drivers.specs.declared.answer.Answer.{Answer}
 use Rattle.drivers.specs.declared.belongs.Belonging.{Belonging}
 use Rattle.oracles.specs.laws.Untouched.{is-improved, untouched}
-use Rattle.oracles.specs.laws.OracleAfter.{is-refusal, optim-left}
+use Rattle.oracles.specs.laws.OracleAfter.{is-refusal, optim-after}
 use Rattle.oracles.specs.declared.lowpass_oracle.AssessedOptim.{AssessedOptim}
 
 -- ---- what is said of a call
@@ -136,10 +136,10 @@ unfolding scan.scan-band-answer
 scan-band n rows table x c lower upper = refuses _ _ _ _ _ _ (λ why place. refl) (λ why place. refl) (λ e. refl)
 
 -- an assessment that the tests let through says something of the point
-said : (v : Verdict) → (judgement v ≡ unanswered → ⊥) → verdict-number v ≡ 0
-said Feasible h = refl
-said (Cut group beta) h = refl
-said (NotAssessed why) h = absurd (h refl)
+answered : (v : Verdict) → (judgement v ≡ unanswered → ⊥) → verdict-number v ≡ 0
+answered Feasible h = refl
+answered (Cut group beta) h = refl
+answered (NotAssessed why) h = absurd (h refl)
 
 accepted : (o : LowpassOracle) (n rows : ℕ) (table x grad : List Float) → lowpass.assess-tests o n rows table x grad ≡ Sound → is-accepted o n rows table x grad ≡ true
 accepted o n rows table x grad e = ap (λ (f : Fault). not (is-fault f)) e
@@ -149,7 +149,7 @@ assessed o n rows table x grad e =
     let a = accepted o n rows table x grad e in
     let r = feas-rule o n rows table x grad a in
     ap (λ z. verdict-number (z .0 .verdict)) (sym (accepted-is o n rows table x grad a))
-    ∙ said (lowpass.assess-feas-answer o n rows table x grad .0 .verdict) (λ h. judge-answers (asked o (o .«sp_sq») n rows table x) (sym (r .verdict-is) ∙ h))
+    ∙ answered (lowpass.assess-feas-answer o n rows table x grad .0 .verdict) (λ h. judge-answers (asked o (o .«sp_sq») n rows table x) (sym (r .verdict-is) ∙ h))
 
 pub assess-feas : (o : LowpassOracle) (n rows : ℕ) (table x grad : List Float) → Refuses {L = LowpassOracle × List Float} (lowpass.assess-tests o n rows table x grad) (λ r. verdict-number (r .0 .verdict)) (λ r. (r .0 .oracle, r .1)) (o, grad) (lowpass.assess-feas-answer o n rows table x grad)
 unfolding lowpass.assess-feas-answer
@@ -276,7 +276,7 @@ module _ (o : LowpassOracle) (gamma : Float) (n rows : ℕ) (table x grad : List
     writes-nothing = λ h.
         let t = numbered-refusal (answer .0 .verdict) (λ e. numbered (assess-optim-tests o gamma n rows table x grad) h (sym optim-by-number ∙ e)) in
         let u = untouched o gamma n rows table x grad in
-        rw (optim-left o gamma n rows table x grad .as-it-came t, u .gamma-stays (unimproved (answer .0 .verdict) t), u .grad-stays t);
+        rw (optim-after o gamma n rows table x grad .as-it-came t, u .gamma-stays (unimproved (answer .0 .verdict) t), u .grad-stays t);
   }
 
 -- ---- drivers and records
@@ -363,9 +363,9 @@ open-refused bytes table xc mq out why place = go (runs.input-tests bytes) (jobs
     go (At w p) g e = ap (λ (k : Fault). unless k (λ w p. runs.with-slices table xc mq (runs.opened-refused (trace.refused-line-answer w p out))) (runs.with-slices table xc mq (runs.opened-refused (trace.refused-line-answer why place out)))) (sym (is-hit _ _ _ refl) ∙ e)
 
 -- "each accepted call finishes": a run of either driver, within its step limit
-pub record Finishes (limit : ℕ) (said : FeasAnswer) : Type 0 where
+pub record Finishes (limit : ℕ) (answer-given : FeasAnswer) : Type 0 where
   pub answer : Answer
-  pub answer-is : said ≡ Ended answer
+  pub answer-is : answer-given ≡ Ended answer
   pub within : answer .steps ≤ limit
 
 pub feas-finishes : (options : Options) (rows : ℕ) (table : List Float) (s : run.State) (best : List Float) → run.run-tests rows table s best ≡ Sound

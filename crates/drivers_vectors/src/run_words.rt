@@ -31,7 +31,7 @@ pub(crate) struct Answered {
 
 pub(crate) fn answered_no(number: u8) -> Answered {
     Answered {
-        number: number,
+        number,
         has_answer: false,
         answer: Answer {
             found: false,
@@ -42,9 +42,9 @@ pub(crate) fn answered_no(number: u8) -> Answered {
 
 fn answered_so(number: u8, answer: Answer) -> Answered {
     Answered {
-        number: number,
+        number,
         has_answer: true,
-        answer: answer,
+        answer,
     }
 }
 
@@ -74,11 +74,11 @@ pub(crate) fn outcome_of(
     Outcome {
         number: answered.number,
         has_answer: answered.has_answer,
-        answer: answer,
-        gamma: gamma,
-        oracle: oracle,
-        kappa: kappa,
-        tsq: tsq,
+        answer,
+        gamma,
+        oracle,
+        kappa,
+        tsq,
     }
 }
 

@@ -26,7 +26,7 @@ pub(crate) fn state_legal(cursors: usize) -> State {
     State {
         any: false,
         limits: 2,
-        cursors: cursors,
+        cursors,
         rest: plus(cursors, 3),
         sp_sq: plus(cursors, 9),
     }
@@ -36,7 +36,7 @@ pub(crate) fn state_legal(cursors: usize) -> State {
 pub(crate) fn state_any(limits: usize) -> State {
     State {
         any: true,
-        limits: limits,
+        limits,
         cursors: plus(limits, 5),
         rest: plus(limits, 14),
         sp_sq: plus(limits, 4),
@@ -64,8 +64,8 @@ fn cursor_of(inputs: &[u8], p: State, i: usize, lo: i32, hi: i32) -> RoundRobin 
     if !p.any {
         return RoundRobin {
             cur: signed_at(inputs, wrapping_add_usize(p.cursors, i)),
-            lo: lo,
-            hi: hi,
+            lo,
+            hi,
         };
     }
     let k = wrapping_add_usize(p.cursors, wrapping_add_usize(i, wrapping_add_usize(i, i)));
@@ -83,8 +83,8 @@ pub(crate) fn oracle_of(inputs: &[u8], p: State) -> LowpassOracle {
     LowpassOracle {
         more_alt: word(inputs, wrapping_add_usize(p.rest, 5)) == 1,
         idx1: signed_at(inputs, p.rest),
-        nwpass: nwpass,
-        nwstop: nwstop,
+        nwpass,
+        nwstop,
         lp_sq: float(inputs, wrapping_add_usize(p.limits, 2)),
         up_sq: float(inputs, wrapping_add_usize(p.limits, 3)),
         sp_sq: float(inputs, p.sp_sq),

@@ -73,7 +73,7 @@ fn put_steps(
     grad_t: &mut [f64],
 ) -> usize {
     let mut stepped = Stepped {
-        run: run,
+        run,
         more: true,
         at: 8,
     };

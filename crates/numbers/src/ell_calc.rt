@@ -60,8 +60,8 @@ impl EllCalc {
         let n_f = n as f64;
         let helper = EllCalcCore::new(n_f);
         NewEllCalc::Made(EllCalc {
-            n_f: n_f,
-            helper: helper,
+            n_f,
+            helper,
             use_parallel_cut: true,
         })
     }

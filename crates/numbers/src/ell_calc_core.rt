@@ -26,12 +26,12 @@ impl EllCalcCore {
         let cst1 = n_sq / (n_sq - 1.0);
         let cst2 = 2.0 * cst0;
         EllCalcCore {
-            n_f: n_f,
-            n_plus_1: n_plus_1,
-            half_n: half_n,
-            inv_n: inv_n,
-            cst1: cst1,
-            cst2: cst2,
+            n_f,
+            n_plus_1,
+            half_n,
+            inv_n,
+            cst1,
+            cst2,
         }
     }
 
@@ -56,11 +56,7 @@ impl EllCalcCore {
         let sigma = 2.0 * eta / (tsq + b0b1 + self.half_n * bsumsq + xi);
         let rho = sigma * (beta0 + beta1) / 2.0;
         let delta = self.cst1 * ((zeta0 + zeta1) / 2.0 + xi / self.n_f) / tsq;
-        Params {
-            rho: rho,
-            sigma: sigma,
-            delta: delta,
-        }
+        Params { rho, sigma, delta }
     }
 
     pub fn calc_parallel_bias_cut(self, beta0: f64, beta1: f64, tsq: f64) -> Params
@@ -82,11 +78,7 @@ impl EllCalcCore {
         let rho = beta1 / r_plus_1;
         let sigma = 2.0 / r_plus_1;
         let delta = root / (root - self.inv_n);
-        Params {
-            rho: rho,
-            sigma: sigma,
-            delta: delta,
-        }
+        Params { rho, sigma, delta }
     }
 
     pub fn calc_bias_cut_fast(self, beta: f64, tau: f64, eta: f64) -> Params
@@ -96,11 +88,7 @@ impl EllCalcCore {
         let sigma = 2.0 * rho / (tau + beta);
         let alpha = beta / tau;
         let delta = self.cst1 * (1.0 - alpha * alpha);
-        Params {
-            rho: rho,
-            sigma: sigma,
-            delta: delta,
-        }
+        Params { rho, sigma, delta }
     }
 
     pub fn calc_bias_cut(self, beta: f64, tau: f64) -> Params
@@ -116,10 +104,6 @@ impl EllCalcCore {
         let sigma = self.cst2;
         let rho = sqrt(tsq) / self.n_plus_1;
         let delta = self.cst1;
-        Params {
-            rho: rho,
-            sigma: sigma,
-            delta: delta,
-        }
+        Params { rho, sigma, delta }
     }
 }

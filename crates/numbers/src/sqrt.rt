@@ -23,24 +23,24 @@ struct Square {
     g: u64,
 }
 
-// A significand of 53 digits, and how many places it was moved up.
+// A significand of 53 digits, and how many places it was shifted up.
 struct Normal {
     m: u64,
-    moved: u64,
+    shift: u64,
 }
 
 // A subnormal's digits moved up until the leading one is there.
 fn normalise(digits: u64) -> Normal
     requires { ⌜ (0 < digits) × (digits < 2 ^ 53) ⌝ }
-    ensures { λ r. ⌜ (r .m ≡ digits * 2 ^ (r .moved)) × (2 ^ 52 ≤ r .m) × (r .m < 2 ^ 53) × (r .moved ≤ 52) ⌝ }
+    ensures { λ r. ⌜ (r .m ≡ digits * 2 ^ (r .shift)) × (2 ^ 52 ≤ r .m) × (r .m < 2 ^ 53) × (r .shift ≤ 52) ⌝ }
 {
     let mut m = digits;
-    let mut moved: u64 = 0;
+    let mut shift: u64 = 0;
     while m < HIDDEN {
         m = m * 2;
-        moved += 1;
+        shift += 1;
     }
-    Normal { m: m, moved: moved }
+    Normal { m, shift }
 }
 
 // The square of the root of the number with these bits, positive and finite.
@@ -52,7 +52,7 @@ fn square_of(bits: u64) -> Square
     let digits = bits % HIDDEN;
     if field == 0 {
         let s = normalise(digits);
-        return halved(s.m, 1074 - s.moved);
+        return halved(s.m, 1074 - s.shift);
     }
     halved(HIDDEN + digits, field + 1073)
 }
@@ -63,10 +63,7 @@ fn halved(m: u64, e: u64) -> Square
     ensures { λ r. ⌜ (r .m * 2 ^ 54 * 4 ^ (r .g) ≡ m * 2 ^ e) × (2 ^ 52 ≤ r .m) × (r .m ≤ 2 ^ 54 - 2) × (r .g ≤ 1532) ⌝ }
 {
     if e % 2 == 0 {
-        return Square {
-            m: m,
-            g: e / 2 - 27,
-        };
+        return Square { m, g: e / 2 - 27 };
     }
     Square {
         m: m * 2,

@@ -110,13 +110,13 @@ fn shrink(n: usize, mq: &mut [f64], ratio: f64, gt: &[f64])
 }
 
 // Another kappa and tsq, and a status.
-fn said(kappa: f64, tsq: f64, status: CutStatus) -> EllChange
+fn with_status(kappa: f64, tsq: f64, status: CutStatus) -> EllChange
     ensures { λ r. ⌜ ((b : EllBuffers) → change-of r b ≡ change (Status status) kappa tsq b) ⌝ }
 {
     EllChange {
-        kappa: kappa,
+        kappa,
         outcome: outcome_of(status),
-        tsq: tsq,
+        tsq,
     }
 }
 
@@ -128,8 +128,8 @@ impl Ell {
         match EllCalc::new(n) {
             NewEllCalc::Made(helper) => NewEll::Made(Ell {
                 ndim: n,
-                kappa: kappa,
-                helper: helper,
+                kappa,
+                helper,
                 tsq: 0.0,
             }),
             NewEllCalc::Refused(why) => NewEll::Refused(why),
@@ -144,7 +144,7 @@ impl Ell {
         Ell {
             ndim: self.ndim,
             kappa: change.kappa,
-            helper: helper,
+            helper,
             tsq: change.tsq,
         }
     }
@@ -155,7 +155,7 @@ impl Ell {
     {
         EllChange {
             kappa: self.kappa,
-            outcome: outcome,
+            outcome,
             tsq: self.tsq,
         }
     }
@@ -179,19 +179,19 @@ impl Ell {
         dot_mv_into(n, mq, grad, grad_t);
         let omega = dot_zip(grad, grad_t);
         if is_tiny(omega) {
-            return said(self.kappa, self.tsq, CutStatus::NoEffect);
+            return with_status(self.kappa, self.tsq, CutStatus::NoEffect);
         }
         let tsq = self.kappa * omega;
         let helper = self.helper;
         let answer = strategy.calc(helper, beta, tsq);
         let status = answer.status;
         if !is_success(status) {
-            return said(self.kappa, tsq, status);
+            return with_status(self.kappa, tsq, status);
         }
         let params = answer.params;
         move_centre(xc, params.rho / omega, grad_t);
         shrink(n, mq, params.sigma / omega, grad_t);
-        said(self.kappa * params.delta, tsq, status)
+        with_status(self.kappa * params.delta, tsq, status)
     }
 
     // What `update_core` changes beside the slices, in a small form: a run keeps the rest, and copies no ellipsoid. The matrix that it leaves belongs to `changed` of this.

@@ -124,8 +124,8 @@ impl EllStable {
         match EllCalc::new(n) {
             NewEllCalc::Made(helper) => NewEllStable::Made(EllStable {
                 ndim: n,
-                kappa: kappa,
-                helper: helper,
+                kappa,
+                helper,
                 tsq: 0.0,
             }),
             NewEllCalc::Refused(why) => NewEllStable::Refused(why),
@@ -133,16 +133,16 @@ impl EllStable {
     }
 
     // The same ellipsoid with another kappa and tsq, and a status.
-    fn said(self, kappa: f64, tsq: f64, status: CutStatus) -> EllStableUpdate
+    fn with_status(self, kappa: f64, tsq: f64, status: CutStatus) -> EllStableUpdate
         ensures { λ r. ⌜ r ≡ record { ell = with-tsq self kappa tsq; answer = Status status } ⌝ }
     {
         let helper = self.helper;
         EllStableUpdate {
             ell: EllStable {
                 ndim: self.ndim,
-                kappa: kappa,
-                helper: helper,
-                tsq: tsq,
+                kappa,
+                helper,
+                tsq,
             },
             answer: Update::Status(status),
         }
@@ -182,18 +182,18 @@ impl EllStable {
         let n = self.ndim;
         let omega = prepare(n, grad, mq, inv_ml_g, inv_md_inv_ml_g, gg_t);
         if is_tiny(omega) {
-            return self.said(self.kappa, self.tsq, CutStatus::NoEffect);
+            return self.with_status(self.kappa, self.tsq, CutStatus::NoEffect);
         }
         let tsq = self.kappa * omega;
         let helper = self.helper;
         let answer = strategy.calc(helper, beta, tsq);
         let status = answer.status;
         if !is_success(status) {
-            return self.said(self.kappa, tsq, status);
+            return self.with_status(self.kappa, tsq, status);
         }
         let params = answer.params;
         succeed(n, grad, mq, xc, inv_md_inv_ml_g, g_t, omega, params);
-        self.said(self.kappa * params.delta, tsq, status)
+        self.with_status(self.kappa * params.delta, tsq, status)
     }
 
     // Cuts the ellipsoid by the half-space of `grad` and `beta`, or by the slab between two; the last four slices are scratch.

@@ -125,7 +125,7 @@ pub fn factor(m: usize, mat: &[f64], storage: &mut [f64]) -> Factored
     if end == 0 {
         return Factored::Definite;
     }
-    Factored::Stopped(Pos { start: 0, end: end })
+    Factored::Stopped(Pos { start: 0, end })
 }
 
 // The sum of column i of L below row i times the entries of the witness there.

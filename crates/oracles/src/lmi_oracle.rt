@@ -59,7 +59,7 @@ fn assess(
     if end == 0 {
         return LmiVerdict::Feasible;
     }
-    let pos = Pos { start: 0, end: end };
+    let pos = Pos { start: 0, end };
     witness_into(m, pos, storage, wit);
     gradient_into(m, n, pos, wit, mat_f, grad);
     let last = end - 1;

@@ -17,11 +17,7 @@ pub(crate) struct Answered {
 }
 
 pub(crate) fn answered_words(number: u8, words: [u64; 7], len: usize) -> Answered {
-    Answered {
-        number: number,
-        words: words,
-        len: len,
-    }
+    Answered { number, words, len }
 }
 
 // One word, and zeros.

@@ -32,9 +32,9 @@ fn places_legal(inputs: &[u8], xc: usize) -> Places {
     let grad = plus(mq, size);
     let betas = plus(grad, n);
     Places {
-        xc: xc,
+        xc,
         xc_len: n,
-        mq: mq,
+        mq,
         mq_len: size,
         s1: 0,
         s1_len: n,
@@ -44,10 +44,10 @@ fn places_legal(inputs: &[u8], xc: usize) -> Places {
         s3_len: n,
         s4: 0,
         s4_len: n,
-        grad: grad,
+        grad,
         grad_len: n,
         numbers: if xc == 5 { 3 } else { 2 },
-        betas: betas,
+        betas,
         end: plus(betas, 2),
     }
 }
@@ -81,19 +81,19 @@ fn places_any(inputs: &[u8], is_stable: bool) -> Places {
     let s4 = plus(s3, l3);
     let grad = plus(s4, l4);
     Places {
-        xc: xc,
+        xc,
         xc_len: lx,
-        mq: mq,
+        mq,
         mq_len: lm,
-        s1: s1,
+        s1,
         s1_len: l1,
-        s2: s2,
+        s2,
         s2_len: l2,
-        s3: s3,
+        s3,
         s3_len: l3,
-        s4: s4,
+        s4,
         s4_len: l4,
-        grad: grad,
+        grad,
         grad_len: lg,
         numbers: 2,
         betas: if is_stable { 11 } else { 8 },

@@ -53,9 +53,9 @@ fn outcome_of(answer: Update, kappa: f64, tsq: f64) -> Outcome {
         Update::Refused(_) => answered_word(answer.number(), 0, 0),
     };
     Outcome {
-        answered: answered,
-        kappa: kappa,
-        tsq: tsq,
+        answered,
+        kappa,
+        tsq,
     }
 }
 

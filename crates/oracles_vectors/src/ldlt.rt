@@ -32,10 +32,10 @@ struct Places {
 fn places_from(first: usize, first_len: usize, second_len: usize) -> Places {
     let second = plus(first, first_len);
     Places {
-        first: first,
-        first_len: first_len,
-        second: second,
-        second_len: second_len,
+        first,
+        first_len,
+        second,
+        second_len,
         end: plus(second, second_len),
     }
 }

@@ -71,13 +71,13 @@ fn places_of(any: bool, l: Lengths) -> Places {
     let grad = plus(wit, l.wit);
     let end = if any { plus(grad, l.grad) } else { grad };
     Places {
-        mat_b: mat_b,
-        mat_f: mat_f,
-        x: x,
-        storage: storage,
-        wit: wit,
-        grad: grad,
-        end: end,
+        mat_b,
+        mat_f,
+        x,
+        storage,
+        wit,
+        grad,
+        end,
     }
 }
 

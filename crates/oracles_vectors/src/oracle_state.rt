@@ -37,14 +37,14 @@ pub(crate) fn places_legal(inputs: &[u8], more: usize) -> Places {
     let gamma = plus(x, n);
     Places {
         table: 7,
-        table_len: table_len,
-        x: x,
+        table_len,
+        x,
         x_len: n,
         grad: 0,
         grad_len: n,
-        gamma: gamma,
+        gamma,
         limits: 2,
-        cursors: cursors,
+        cursors,
         rest: plus(cursors, 3),
         sp_sq: plus(cursors, 9),
         end: plus(gamma, more),
@@ -60,12 +60,12 @@ pub(crate) fn places_any(inputs: &[u8], more: usize) -> Places {
     let x = plus(table, table_len);
     let grad = plus(x, x_len);
     Places {
-        table: table,
-        table_len: table_len,
-        x: x,
-        x_len: x_len,
-        grad: grad,
-        grad_len: grad_len,
+        table,
+        table_len,
+        x,
+        x_len,
+        grad,
+        grad_len,
         gamma: 25,
         limits: 5,
         cursors: 10,
@@ -96,8 +96,8 @@ pub(crate) fn is_state(inputs: &[u8], p: Places) -> bool {
 fn cursor_of(inputs: &[u8], k: usize, lo: i32, hi: i32) -> RoundRobin {
     RoundRobin {
         cur: signed_at(inputs, k),
-        lo: lo,
-        hi: hi,
+        lo,
+        hi,
     }
 }
 
@@ -120,9 +120,9 @@ fn oracle_with(
         idx3: signed_at(inputs, wrapping_add_usize(p.rest, 2)),
         fmax: float(inputs, wrapping_add_usize(p.rest, 3)),
         kmax: signed_at(inputs, wrapping_add_usize(p.rest, 4)),
-        rr1: rr1,
-        rr2: rr2,
-        rr3: rr3,
+        rr1,
+        rr2,
+        rr3,
     }
 }
 

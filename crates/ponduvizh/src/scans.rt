@@ -78,11 +78,7 @@ fn put_answer(answer: ScanAnswer, found: &mut [usize; 2], values: &mut [f64; 2],
 fn cursor_at(cur: &i32, lo: i32, hi: i32) -> RoundRobin
     ensures { λ r. ⌜ r ≡ record { cur = now (cur .entry); lo = lo; hi = hi } ⌝ }
 {
-    RoundRobin {
-        cur: *cur,
-        lo: lo,
-        hi: hi,
-    }
+    RoundRobin { cur: *cur, lo, hi }
 }
 
 // The scan from a cursor.

@@ -19,7 +19,7 @@ use Rattle.oracles.specs.laws.Assess.{accepted-of}
 use Rattle.oracles.specs.Verdict.{feasible, Question, Limits, Has, limits, asked, judge, judgement, is-feasible, is-accepted, no-stop-value, OptimRule}
 use Rattle.oracles.specs.laws.Judge.{judge-answers}
 use Rattle.oracles.specs.laws.CursorRule.{optim-rule}
-use Rattle.oracles.specs.laws.OracleAfter.{is-refusal, optim-left, optim-kept, optim-again, optim-gradient-length}
+use Rattle.oracles.specs.laws.OracleAfter.{is-refusal, optim-after, optim-kept, optim-again, optim-gradient-length}
 use Rattle.oracles.specs.Numbered.{update-number}
 use Rattle.oracles.specs.Ell.{ell-update-answer}
 use Rattle.oracles.specs.laws.EllCalls.{ell-long, ell-same, ell-again, ell-answers}
@@ -173,7 +173,7 @@ module _ (rows : ℕ) (table : List Float) (s : OptimState) (is-sound : check-st
       cut-sound (a .0 .oracle) (a .0 .gamma) (a .0 .verdict) (a .1)
       (optim-again (s .oracle) (s .gamma) n rows table (s .buffers .xc) (s .grad) ok (s .buffers .xc) (a .1) (h .long .xc-long) g-long) g-long
       (optim-rule (s .oracle) (s .gamma) n rows table (s .buffers .xc) (s .grad) ok)
-      (optim-left (s .oracle) (s .gamma) n rows table (s .buffers .xc) (s .grad) .as-it-came) (u .gamma-stays) (u .grad-stays)
+      (optim-after (s .oracle) (s .gamma) n rows table (s .buffers .xc) (s .grad) .as-it-came) (u .gamma-stays) (u .grad-stays)
       (optim-kept (s .oracle) (s .gamma) n rows table (s .buffers .xc) (s .grad))
 
   -- so the number of the answer that ends a run with this step, 0 or 6, is that of the refusal which the step met

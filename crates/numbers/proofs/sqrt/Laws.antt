@@ -10,21 +10,21 @@ use Rattle.numbers.specs.laws.Values.{pow-join, place-lt}
 
 -- ---- `normalise`: digits moved up so far
 
-pub record Up (digits m moved : ℕ) : Type 0 where
-  pub is : m ≡ digits * 2 ^ moved
+pub record Up (digits m shift : ℕ) : Type 0 where
+  pub is : m ≡ digits * 2 ^ shift
   pub small : m < 2 ^ 53
 
 pub up-start : (digits : ℕ) → digits < 2 ^ 53 → Up digits digits 0
 up-start digits h = record { is = sym (mul-one digits); small = h }
 
-pub up-more : (digits m moved : ℕ) → Up digits m moved → m < 2 ^ 52 → Up digits (m * 2) (moved + 1)
-up-more digits m moved u h = record { is = ap (λ (x : ℕ). x * 2) (u .is) ∙ pow-join digits moved 1; small = omega arith }
+pub up-more : (digits m shift : ℕ) → Up digits m shift → m < 2 ^ 52 → Up digits (m * 2) (shift + 1)
+up-more digits m shift u h = record { is = ap (λ (x : ℕ). x * 2) (u .is) ∙ pow-join digits shift 1; small = omega arith }
 
-pub up-few : (digits m moved : ℕ) → 0 < digits → Up digits m moved → moved ≤ 52
-up-few digits m moved p u = le-of-suc-le-suc (place-lt digits moved 53 p (subst (λ (x : ℕ). x < 2 ^ 53) (u .is) (u .small)))
+pub up-few : (digits m shift : ℕ) → 0 < digits → Up digits m shift → shift ≤ 52
+up-few digits m shift p u = le-of-suc-le-suc (place-lt digits shift 53 p (subst (λ (x : ℕ). x < 2 ^ 53) (u .is) (u .small)))
 
-pub up-pos : (digits m moved : ℕ) → 0 < digits → Up digits m moved → 0 < m
-up-pos digits m moved p u = subst (λ (x : ℕ). 0 < x) (sym (u .is)) (mul-pos p (pow-pos moved))
+pub up-pos : (digits m shift : ℕ) → 0 < digits → Up digits m shift → 0 < m
+up-pos digits m shift p u = subst (λ (x : ℕ). 0 < x) (sym (u .is)) (mul-pos p (pow-pos shift))
 
 -- ---- `root_digits`: a has i digits of the root of m * 2 ^ 54, rest is left of the leading 2 * i digits, d is to come
 

@@ -49,10 +49,10 @@ root-normal bits k h l =
     ∙ ap rounded (pow-join (2 ^ 52 + t) k 1074)
 
 -- moved up, the digits are the same number
-moved-up : (digits m moved e : ℕ) → m ≡ digits * 2 ^ moved → moved ≤ e → m * 2 ^ (e - moved) ≡ digits * 2 ^ e
-moved-up digits m moved e h l =
-    let f : moved + (e - moved) ≡ e = omega arith in
-    ap (λ (x : ℕ). x * 2 ^ (e - moved)) h ∙ pow-join digits moved (e - moved) ∙ ap (λ (x : ℕ). digits * 2 ^ x) f
+shift-up : (digits m shift e : ℕ) → m ≡ digits * 2 ^ shift → shift ≤ e → m * 2 ^ (e - shift) ≡ digits * 2 ^ e
+shift-up digits m shift e h l =
+    let f : shift + (e - shift) ≡ e = omega arith in
+    ap (λ (x : ℕ). x * 2 ^ (e - shift)) h ∙ pow-join digits shift (e - shift) ∙ ap (λ (x : ℕ). digits * 2 ^ x) f
 
 -- ---- the bits of the rounded root
 
@@ -115,10 +115,10 @@ root-of-zero b l h = go (b / 2 ^ 63) refl
 
 -- ---- `square_of`: m * 2 ^ 54 * 4 ^ g is the square, from either kind of pattern
 
-pub square-subnormal : (bits d moved m g : ℕ) → 0 < bits → bits / 2 ^ 52 ≡ 0 → d ≡ bits % 2 ^ 52 * 2 ^ moved → moved ≤ 52
-    → (m * 2 ^ 54 * 4 ^ g ≡ d * 2 ^ (1074 - moved)) × (2 ^ 52 ≤ m) × (m ≤ 2 ^ 54 - 2) × (g ≤ 1532) → SquareOfBits bits m g
-square-subnormal bits d moved m g p z e k h = record {
-  root = root-subnormal bits p z ∙ ap rounded (sym (h .0 ∙ moved-up (bits % 2 ^ 52) d moved 1074 e (omega arith)));
+pub square-subnormal : (bits d shift m g : ℕ) → 0 < bits → bits / 2 ^ 52 ≡ 0 → d ≡ bits % 2 ^ 52 * 2 ^ shift → shift ≤ 52
+    → (m * 2 ^ 54 * 4 ^ g ≡ d * 2 ^ (1074 - shift)) × (2 ^ 52 ≤ m) × (m ≤ 2 ^ 54 - 2) × (g ≤ 1532) → SquareOfBits bits m g
+square-subnormal bits d shift m g p z e k h = record {
+  root = root-subnormal bits p z ∙ ap rounded (sym (h .0 ∙ shift-up (bits % 2 ^ 52) d shift 1074 e (omega arith)));
   least = h .1;
   most = h .2;
   reach = h .3;

@@ -128,7 +128,7 @@ shrunk n ratio gt mq =
 
 -- ---- the ways through an update, from what its calls answered
 
--- r is what `said` answered
+-- r is what `with_status` answered
 module _ (e : Ell) (s : CutStrategy) (grad : List Float) (beta : CutChoice) (b : EllBuffers) (r : EllChange) (gt : List Float) (omega : Float) (tiny : Bool)
     (g : gt ≡ mv-of (e .ndim) (b .mq) grad) (o : omega ≡ dot-of grad gt) (t : tiny ≡ is-tiny omega) where
   omega-is : omega ≡ dot-of grad (mv-of (e .ndim) (b .mq) grad)

@@ -49,7 +49,7 @@ module _ (e : EllStable) (s : CutStrategy) (grad : List Float) (beta : CutChoice
     (o : (omega ≡ omega-of (e .ndim) (b .mq) grad) × (mq ≡ lowered (e .ndim) (b .mq) grad) × (w ≡ tab (inv-ml-g-of (e .ndim) (b .mq) grad) (e .ndim))
     × (z ≡ tab (inv-md-inv-ml-g-of (e .ndim) (b .mq) grad) (e .ndim)) × (gg ≡ tab (gg-t-of (e .ndim) (b .mq) grad) (e .ndim)))
     (t : tiny ≡ is-tiny omega) where
-  -- what `said` answered, with the slices
+  -- what `with_status` answered, with the slices
   left : (c : Change StableBuffers) → r ≡ stable-after e c .0 → c ≡ update-of (stable-work e s grad beta b) → (r, c .buffers) ≡ stable-after e (update-of (stable-work e s grad beta b))
   left c q h = ap (λ (x : EllStableUpdate). (x, c .buffers)) q ∙ ap (stable-after e) h
 

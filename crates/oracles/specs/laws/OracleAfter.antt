@@ -54,18 +54,18 @@ is-refusal (CutOptim group beta) = false
 is-refusal (RefusedOptim why) = true
 
 -- a refusal gives the oracle o as it came, any other answer the oracle o′ that the assessment of the offered number leaves
-pub record OptimLeft (o o′ : LowpassOracle) (r : AssessedOptim) : Type 0 where
+pub record OptimAfter (o o′ : LowpassOracle) (r : AssessedOptim) : Type 0 where
   pub as-it-came : is-refusal (r .verdict) ≡ true → r .oracle ≡ o
   pub assessed : is-refusal (r .verdict) ≡ false → r .oracle ≡ o′
 
-pub optim-left : (o : LowpassOracle) (gamma : Float) (n rows : ℕ) (table x grad : List Float)
-    → OptimLeft o (assess-feas-answer (offered o gamma) n rows table x grad .0 .oracle) (assess-optim-answer o gamma n rows table x grad .0)
+pub optim-after : (o : LowpassOracle) (gamma : Float) (n rows : ℕ) (table x grad : List Float)
+    → OptimAfter o (assess-feas-answer (offered o gamma) n rows table x grad .0 .oracle) (assess-optim-answer o gamma n rows table x grad .0)
 unfolding improved-of
-optim-left o gamma n rows table x grad = let a = assess-feas-answer (offered o gamma) n rows table x grad in go (a .0 .oracle) (a .0 .verdict) (a .1)
+optim-after o gamma n rows table x grad = let a = assess-feas-answer (offered o gamma) n rows table x grad in go (a .0 .oracle) (a .0 .verdict) (a .1)
   where
-    go : (o′ : LowpassOracle) (v : Verdict) (g : List Float) → OptimLeft o o′ (optim-of o gamma n table o′ v g .0)
+    go : (o′ : LowpassOracle) (v : Verdict) (g : List Float) → OptimAfter o o′ (optim-of o gamma n table o′ v g .0)
     go o′ Feasible g =
-        by-test (λ (r : AssessedOptim × List Float). OptimLeft o o′ (r .0)) (ltZ (o′ .kmax) (pos 0)) _ _
+        by-test (λ (r : AssessedOptim × List Float). OptimAfter o o′ (r .0)) (ltZ (o′ .kmax) (pos 0)) _ _
         (λ t. record { as-it-came = λ e. refl; assessed = λ e. absurd (true≢false e) })
         (λ t. record { as-it-came = λ e. absurd (true≢false (sym e)); assessed = λ e. refl })
     go o′ (Cut group beta) g = record { as-it-came = λ e. absurd (true≢false (sym e)); assessed = λ e. refl }
@@ -74,7 +74,7 @@ optim-left o gamma n rows table x grad = let a = assess-feas-answer (offered o g
 -- so the offered number is stored unless the call is refused
 pub optim-kept : (o : LowpassOracle) (gamma : Float) (n rows : ℕ) (table x grad : List Float) → is-refusal (assess-optim-answer o gamma n rows table x grad .0 .verdict) ≡ false
     → limits (assess-optim-answer o gamma n rows table x grad .0 .oracle) ≡ limits (offered o gamma)
-optim-kept o gamma n rows table x grad e = ap limits (optim-left o gamma n rows table x grad .assessed e) ∙ assess-kept (offered o gamma) n rows table x grad
+optim-kept o gamma n rows table x grad e = ap limits (optim-after o gamma n rows table x grad .assessed e) ∙ assess-kept (offered o gamma) n rows table x grad
 
 -- after an accepted call it is accepted again, with any point and gradient of n numbers
 module _ (o : LowpassOracle) (n rows : ℕ) (table x grad : List Float) (h : is-accepted o n rows table x grad ≡ true) (x′ grad′ : List Float) (hx : length x′ ≡ n) (hg : length grad′ ≡ n) where
@@ -116,8 +116,8 @@ optim-again o gamma n rows table x grad h x′ grad′ hx hg = go (is-refusal (a
   where
     go : (t : Bool) → is-refusal (assess-optim-answer o gamma n rows table x grad .0 .verdict) ≡ t
         → is-accepted (assess-optim-answer o gamma n rows table x grad .0 .oracle) n rows table x′ grad′ ≡ true
-    go true e = rw (optim-left o gamma n rows table x grad .as-it-came e) (as-it-came-again o n rows table x grad h x′ grad′ hx hg)
-    go false e = rw (optim-left o gamma n rows table x grad .assessed e) (assess-again (offered o gamma) n rows table x grad h x′ grad′ hx hg)
+    go true e = rw (optim-after o gamma n rows table x grad .as-it-came e) (as-it-came-again o n rows table x grad h x′ grad′ hx hg)
+    go false e = rw (optim-after o gamma n rows table x grad .assessed e) (assess-again (offered o gamma) n rows table x grad h x′ grad′ hx hg)
 
 -- ---- the gradient after an accepted call has n numbers
 

@@ -6,13 +6,13 @@ use Rattle.numbers.proofs.sqrt.normalise.Statement.{statement}
 use Rattle.numbers.proofs.sqrt.normalise.Tie as tie
 
 abbrev Inv-loop : tie.InvT-loop
-Inv-loop digits m₀ moved₀ m moved = Up digits m moved
+Inv-loop digits m₀ shift₀ m shift = Up digits m shift
 
 abbrev μ-loop : tie.MeasureT-loop
-μ-loop digits m₀ moved₀ m moved = 2 ^ 53 - m
+μ-loop digits m₀ shift₀ m shift = 2 ^ 53 - m
 
-add-moved : tie.Need-add-moved Inv-loop μ-loop
-add-moved c = let l = up-few _ _ _ (c .before .before .pre .0) (c .before .loop .inv) in search needs
+add-shift : tie.Need-add-shift Inv-loop μ-loop
+add-shift c = let l = up-few _ _ _ (c .before .before .pre .0) (c .before .loop .inv) in search needs
 
 loop-less : tie.Need-loop-less Inv-loop μ-loop
 loop-less c = let l = up-pos _ _ _ (c .before .before .pre .0) (c .before .loop .inv) in search needs
@@ -27,7 +27,7 @@ normalise-spec =
     Inv-loop
     μ-loop
     (λ c. up-start _ (search needs)) (λ c. search needs)
-    add-moved
+    add-shift
     loop-less
     (λ c. up-more _ _ _ (c .before .loop .inv) (search needs))
     returns)

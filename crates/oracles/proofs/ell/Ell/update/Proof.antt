@@ -15,9 +15,9 @@ returns c =
     let i = z .before .before .before .before .before .before .before .before .before .before .before in
     let a = i .args in
     let g = multiplied (a .self .ndim) (a .mq .now) (a .grad .now) (a .grad-t .now) (m .result, m .last .1 .1 .1 .0) (m .ensures) (i .pre .0) (i .pre .2 .mq-long) (i .pre .1) (i .pre .2 .grad-t-long) in
-    ell-no-effect (a .self) (a .strategy) (a .grad .now) (a .beta) (ell-buffers (a .mq .now) (a .xc .now) (a .grad-t .now)) (c .said .result) _ (z .dot-zip .result) _
+    ell-no-effect (a .self) (a .strategy) (a .grad .now) (a .beta) (ell-buffers (a .mq .now) (a .xc .now) (a .grad-t .now)) (c .with-status .result) _ (z .dot-zip .result) _
     g (z .dot-zip .ensures) (c .before .before .is-tiny .ensures)
-    (c .before .if1 .taken) (c .said .ensures)
+    (c .before .if1 .taken) (c .with-status .ensures)
 
 returns-2 : tie.Need-returns-2
 returns-2 c =
@@ -26,9 +26,9 @@ returns-2 c =
     let i = z .before .before .before .before .before .before .before .before .before .before .before in
     let a = i .args in
     let g = multiplied (a .self .ndim) (a .mq .now) (a .grad .now) (a .grad-t .now) (m .result, m .last .1 .1 .1 .0) (m .ensures) (i .pre .0) (i .pre .2 .mq-long) (i .pre .1) (i .pre .2 .grad-t-long) in
-    ell-fails (a .self) (a .strategy) (a .grad .now) (a .beta) (ell-buffers (a .mq .now) (a .xc .now) (a .grad-t .now)) (c .said2 .result) _ (z .dot-zip .result) _
+    ell-fails (a .self) (a .strategy) (a .grad .now) (a .beta) (ell-buffers (a .mq .now) (a .xc .now) (a .grad-t .now)) (c .with-status2 .result) _ (z .dot-zip .result) _
     g (z .dot-zip .ensures) (c .before .before .before .before .before .before .before .is-tiny .ensures)
-    (c .before .before .before .calc .result) _ (c .before .before .before .calc .ensures) (c .before .before .is-success .ensures) (c .before .before .before .before .before .before .if1 .left) (c .before .if2 .taken) (c .said2 .ensures)
+    (c .before .before .before .calc .result) _ (c .before .before .before .calc .ensures) (c .before .before .is-success .ensures) (c .before .before .before .before .before .before .if1 .left) (c .before .if2 .taken) (c .with-status2 .ensures)
 
 move-centre-requires : tie.Need-move-centre-requires
 move-centre-requires c κs =
@@ -51,10 +51,10 @@ returns-3 c =
     let a = i .args in
     let g = multiplied (a .self .ndim) (a .mq .now) (a .grad .now) (a .grad-t .now) (m .result, m .last .1 .1 .1 .0) (m .ensures) (i .pre .0) (i .pre .2 .mq-long) (i .pre .1) (i .pre .2 .grad-t-long) in
     let k = c .before .before .before .before .before .before .before .before .before .before .before .before .before .before .before .before .before .before in
-    ell-succeeds (a .self) (a .strategy) (a .grad .now) (a .beta) (ell-buffers (a .mq .now) (a .xc .now) (a .grad-t .now)) (c .said3 .result) _ (z .dot-zip .result) _
+    ell-succeeds (a .self) (a .strategy) (a .grad .now) (a .beta) (ell-buffers (a .mq .now) (a .xc .now) (a .grad-t .now)) (c .with-status3 .result) _ (z .dot-zip .result) _
     g (z .dot-zip .ensures) (c .before .before .before .before .before .before .before .before .before .before .before .before .before .before .before .before .before .before .before .before .before .before .is-tiny .ensures)
     (k .calc .result) _ (k .calc .ensures) (c .before .before .before .before .before .before .before .before .before .before .before .before .before .before .before .before .before .is-success .ensures) (c .before .before .before .before .before .before .before .before .before .before .before .before .before .before .before .before .before .before .before .before .before .if1 .left) _ _ (c .before .before .before .before .before .before .before .before .before .before .before .before .before .before .before .before .if2 .left)
-    (c .before .before .before .before .before .shrink .ensures) (c .before .before .before .before .before .before .before .before .before .before .before .move-centre .ensures) (c .said3 .ensures)
+    (c .before .before .before .before .before .shrink .ensures) (c .before .before .before .before .before .before .before .before .before .before .before .move-centre .ensures) (c .with-status3 .ensures)
 
 pub update-spec : {M : Type 1} → statement M
 update-spec =

@@ -13,8 +13,8 @@ returns c =
     let p = c .before .before .before .before .before .before .before .before .before .before .before .prepare in
     stable-no-effect (a .self) (a .strategy) (a .grad .now) (a .beta)
     (stable-buffers (a .mq .now) (a .xc .now) (a .inv-ml-g .now) (a .inv-md-inv-ml-g .now) (a .gg-t .now) (a .g-t .now))
-    (c .said .result) (p .result) _ _ _ _ _ (p .ensures) (c .before .before .is-tiny .ensures)
-    (c .before .if1 .taken) (c .said .ensures)
+    (c .with-status .result) (p .result) _ _ _ _ _ (p .ensures) (c .before .before .is-tiny .ensures)
+    (c .before .if1 .taken) (c .with-status .ensures)
 
 returns-2 : tie.Need-returns-2
 returns-2 c =
@@ -23,9 +23,9 @@ returns-2 c =
     let p = c .before .before .before .before .before .before .before .before .before .before .before .before .before .before .before .before .prepare in
     stable-fails (a .self) (a .strategy) (a .grad .now) (a .beta)
     (stable-buffers (a .mq .now) (a .xc .now) (a .inv-ml-g .now) (a .inv-md-inv-ml-g .now) (a .gg-t .now) (a .g-t .now))
-    (c .said2 .result) (p .result) _ _ _ _ _ (p .ensures) (c .before .before .before .before .before .before .before .is-tiny .ensures)
+    (c .with-status2 .result) (p .result) _ _ _ _ _ (p .ensures) (c .before .before .before .before .before .before .before .is-tiny .ensures)
     (c .before .before .before .calc .result) _ (c .before .before .before .calc .ensures) (c .before .before .is-success .ensures) (c .before .before .before .before .before .before .if1 .left)
-    (c .before .if2 .taken) (c .said2 .ensures)
+    (c .before .if2 .taken) (c .with-status2 .ensures)
 
 succeed-requires : tie.Need-succeed-requires
 succeed-requires c κs =
@@ -55,9 +55,9 @@ returns-3 c =
     let k = c .before .before .before .before .before .before .before .before .before .before .before .before .before .before .before .before .before .calc in
     stable-succeeds (a .self) (a .strategy) (a .grad .now) (a .beta)
     (stable-buffers (a .mq .now) (a .xc .now) (a .inv-ml-g .now) (a .inv-md-inv-ml-g .now) (a .gg-t .now) (a .g-t .now))
-    (c .said3 .result) (p .result) _ _ _ _ _ (p .ensures) (c .before .before .before .before .before .before .before .before .before .before .before .before .before .before .before .before .before .before .before .before .before .is-tiny .ensures)
+    (c .with-status3 .result) (p .result) _ _ _ _ _ (p .ensures) (c .before .before .before .before .before .before .before .before .before .before .before .before .before .before .before .before .before .before .before .before .before .is-tiny .ensures)
     (k .result) _ (k .ensures) (c .before .before .before .before .before .before .before .before .before .before .before .before .before .before .before .before .is-success .ensures) (c .before .before .before .before .before .before .before .before .before .before .before .before .before .before .before .before .before .before .before .before .if1 .left)
-    _ _ _ (c .before .before .before .before .before .before .before .before .before .before .before .before .before .before .before .if2 .left) (c .before .before .before .before .before .before .before .before .before .succeed .ensures) (c .said3 .ensures)
+    _ _ _ (c .before .before .before .before .before .before .before .before .before .before .before .before .before .before .before .if2 .left) (c .before .before .before .before .before .before .before .before .before .succeed .ensures) (c .with-status3 .ensures)
 
 pub update-spec : {M : Type 1} → statement M
 update-spec =
