@@ -108,12 +108,10 @@ pub fn scan_by_value(
     );
     match fault {
         Fault::Sound => {
-            let swept = scan_lent(n, table, x, rr, lower, upper);
-            let scan = swept.scan;
-            let cursor = swept.cursor;
+            let scan = scan_rows(n, table, x, rr, lower, upper);
             ScanEnd {
                 answer: ScanAnswer::Scanned(scan),
-                cursor,
+                cursor: rr.with_cur(scan.last),
             }
         }
         Fault::At(why, _) => ScanEnd {

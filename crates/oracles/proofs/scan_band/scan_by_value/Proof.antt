@@ -63,8 +63,8 @@ first-fault-requires c κs = tt
 enum-told : tie.Need-enum-told
 enum-told c = search needs
 
-scan-lent-requires : tie.Need-scan-lent-requires
-scan-lent-requires c κs =
+scan-rows-requires : tie.Need-scan-rows-requires
+scan-rows-requires c κs =
     let m = c .before in
     let ff = m .before in
     let i = ff .before in
@@ -74,6 +74,9 @@ scan-lent-requires c κs =
     let l = d .before in
     let a = l .before .before .before .args in
     ready-of (a .n) (a .rows) (a .table .now) (a .x .now) (a .rr) (sym (found (a .n) (a .rows) (a .table .now) (a .x .now) (a .rr) (record { sfits = g .1 .0 .1 }) (record { sfits = g .1 .1 .0 .1 }) (ff .first-fault .ensures) (d .is-dimension .ensures) (l .table-fits .ensures) (b .band-fits .ensures) (i .is-at .ensures)) ∙ sound-of _ (m .match .keys1))
+
+with-cur-requires : tie.Need-with-cur-requires
+with-cur-requires c κs = tt
 
 enum-known-fault : tie.Need-enum-known-fault
 enum-known-fault c = search needs
@@ -89,7 +92,7 @@ returns c =
     let d = b .before .before .before in
     let l = d .before in
     let a = l .before .before .before .args in
-    scanned (a .n) (a .rows) (a .table .now) (a .x .now) (a .rr) (a .lower) (a .upper) (sym (found (a .n) (a .rows) (a .table .now) (a .x .now) (a .rr) (record { sfits = g .1 .0 .1 }) (record { sfits = g .1 .1 .0 .1 }) (ff .first-fault .ensures) (d .is-dimension .ensures) (l .table-fits .ensures) (b .band-fits .ensures) (i .is-at .ensures)) ∙ sound-of _ (m .match .keys1)) (w .scan-lent .ensures .0) (w .scan-lent .ensures .1)
+    scanned (a .n) (a .rows) (a .table .now) (a .x .now) (a .rr) (a .lower) (a .upper) (sym (found (a .n) (a .rows) (a .table .now) (a .x .now) (a .rr) (record { sfits = g .1 .0 .1 }) (record { sfits = g .1 .1 .0 .1 }) (ff .first-fault .ensures) (d .is-dimension .ensures) (l .table-fits .ensures) (b .band-fits .ensures) (i .is-at .ensures)) ∙ sound-of _ (m .match .keys1)) (w .scan-rows .ensures) (c .with-cur .ensures ∙ ap (with-cur (a .rr)) (toZ-ofZ (record { sfits = c .before .struct-told3 .given .1 .1 .1 .0 .1 })))
 
 returns-2 : tie.Need-returns-2
 returns-2 c =
@@ -105,5 +108,5 @@ returns-2 c =
 pub scan-by-value-spec : {M : Type 1} → statement M
 scan-by-value-spec =
     tie.close
-    (tie.spec table-fits-requires is-dimension-requires band-fits-requires is-at-requires first-fault-requires enum-told scan-lent-requires enum-known-fault
+    (tie.spec table-fits-requires is-dimension-requires band-fits-requires is-at-requires first-fault-requires enum-told scan-rows-requires with-cur-requires enum-known-fault
     returns returns-2)
