@@ -19,12 +19,8 @@ use Rattle.oracles.specs.EllStable.{StableBuffers, stable-update-answer, with-t
 use Rattle.oracles.specs.Numbered.{factored-number, update-number}
 use Rattle.oracles.specs.declared.ldlt_mgr.Factored.{Factored}
 use Rattle.oracles.specs.declared.ldlt_mgr.Factored.the-variants.{Definite, Stopped, Refused as NotFactored}
-use Rattle.oracles.specs.declared.ell.Ell.{Ell}
-use Rattle.oracles.specs.declared.ell.EllUpdate.{EllUpdate}
 use Rattle.oracles.specs.declared.ell.NewEll.{NewEll}
 use Rattle.oracles.specs.declared.ell.NewEll.the-variants.{Made, Refused as NotMade}
-use Rattle.oracles.specs.declared.ell_stable.EllStable.{EllStable}
-use Rattle.oracles.specs.declared.ell_stable.EllStableUpdate.{EllStableUpdate}
 use Rattle.oracles.specs.declared.ell_stable.NewEllStable.{NewEllStable}
 use Rattle.oracles.specs.declared.ell_stable.NewEllStable.the-variants.{Made as MadeStable, Refused as NotMadeStable}
 use Rattle.oracles.specs.declared.ell_common.CutStrategy.{CutStrategy}
@@ -79,27 +75,20 @@ pub record UpdateEnd (Buffers : Type 0) : Type 0 where
 abbrev pub update-end : {Buffers : Type 0} → ℕ → ℕ → Float → Float → Buffers → UpdateEnd Buffers
 update-end code status kappa tsq buffers = record { code = code; status = status; kappa = kappa; tsq = tsq; buffers = buffers }
 
--- after the update of an ellipsoid that was made
-abbrev pub ell-end : EllUpdate × EllBuffers → ℕ → UpdateEnd EllBuffers
-ell-end u status =
-    update-end (update-number (u .0 .answer)) (status-or (u .0 .answer) status) (u .0 .ell .kappa) (u .0 .ell .tsq) (u .1)
+-- its number, and status, kappa and tsq after it
+abbrev pub update-numbers : Update → Float → Float → ℕ → ℕ × ℕ × Float × Float
+update-numbers answer kappa tsq status = (update-number answer, status-or answer status, kappa, tsq)
 
-unfoldable pub ell-made : Ell → CutStrategy → List Float → CutChoice → Float → ℕ → EllBuffers → UpdateEnd EllBuffers
-ell-made e strategy grad beta tsq status b = ell-end (ell-update-answer (with-tsq e (e .kappa) tsq) strategy grad beta b) status
-
--- the ellipsoid of n and kappa is made first; refusal 1 where it cannot be
+-- the ellipsoid of n and kappa is made first, and has this tsq; refusal 1 where it cannot be
 unfoldable pub ell-exported : NewEll → CutStrategy → List Float → CutChoice → Float → Float → ℕ → EllBuffers → UpdateEnd EllBuffers
-ell-exported (Made e) strategy grad beta kappa tsq status b = ell-made e strategy grad beta tsq status b
+ell-exported (Made e) strategy grad beta kappa tsq status b =
+    let u = ell-update-answer (with-tsq e (e .kappa) tsq) strategy grad beta b in
+    update-end (update-number (u .0 .answer)) (status-or (u .0 .answer) status) (u .0 .ell .kappa) (u .0 .ell .tsq) (u .1)
 ell-exported (NotMade why) strategy grad beta kappa tsq status b = update-end (refusal-number why) status kappa tsq b
 
 -- the same of `EllStable`
-abbrev pub stable-end : EllStableUpdate × StableBuffers → ℕ → UpdateEnd StableBuffers
-stable-end u status =
-    update-end (update-number (u .0 .answer)) (status-or (u .0 .answer) status) (u .0 .ell .kappa) (u .0 .ell .tsq) (u .1)
-
-unfoldable pub stable-made : EllStable → CutStrategy → List Float → CutChoice → Float → ℕ → StableBuffers → UpdateEnd StableBuffers
-stable-made e strategy grad beta tsq status b = stable-end (stable-update-answer (with-stable-tsq e (e .kappa) tsq) strategy grad beta b) status
-
 unfoldable pub stable-exported : NewEllStable → CutStrategy → List Float → CutChoice → Float → Float → ℕ → StableBuffers → UpdateEnd StableBuffers
-stable-exported (MadeStable e) strategy grad beta kappa tsq status b = stable-made e strategy grad beta tsq status b
+stable-exported (MadeStable e) strategy grad beta kappa tsq status b =
+    let u = stable-update-answer (with-stable-tsq e (e .kappa) tsq) strategy grad beta b in
+    update-end (update-number (u .0 .answer)) (status-or (u .0 .answer) status) (u .0 .ell .kappa) (u .0 .ell .tsq) (u .1)
 stable-exported (NotMadeStable why) strategy grad beta kappa tsq status b = update-end (refusal-number why) status kappa tsq b
