@@ -2,21 +2,19 @@
 -- with no comparable stop row, a bad or overlong record, a short buffer. A refusal writes nothing; a driver halted midway keeps its finished steps. Accepted: everything else,
 -- NaN and infinity too, and each accepted call finishes." (It finishes since what it answers is a definition's value, and the code's loops are proved to end.) The exported functions of the
 -- static library are these calls again (ponduvizh/specs). Assumes nothing.
-use Prim.Native.Nat.{ℕ, _≤_}
+use Prim.Native.Nat.{ℕ}
 use mathlib.Core.Path.{_≡_, refl, sym, ap, _∙_}
 use mathlib.Core.Bool.{Bool, true, false, not, true≢false, _&&_}
 use mathlib.Core.List.{List}
-use mathlib.Core.Logic.{_⊎_, inl, inr}
-use lib.ListN.{length}
 use native.Mathlib.Omega.{arith}
-use borrow.Author.Tests.{eqb-true, leb-true}
+use borrow.Author.Tests.{eqb-true}
 use lib.Dec.{eqb}
 use lib.IntN.{ℤ}
 use lib.Ieee.{Float}
 use Rattle.numbers.specs.Pick.{pick}
 use Rattle.numbers.specs.Refusal.{refusal-number, is-fault, _⨾_, unless, fault-number, ask}
 use Rattle.numbers.specs.laws.Pick.{is-hit, is-skip, by-test}
-use Rattle.numbers.specs.laws.Refusal.{both-sound, ask-sound, number-is, by-tests, refuses as refused-at}
+use Rattle.numbers.specs.laws.Refusal.{number-is, by-tests}
 use Rattle.numbers.specs.Arr as arr
 use Rattle.numbers.specs.EllCalc as calc
 use Rattle.oracles.specs.RoundRobin as cursor
@@ -50,6 +48,7 @@ use Rattle.numbers.specs.declared.refusal.Fault.{Fault}
 use Rattle.numbers.specs.declared.refusal.Fault.the-variants.{Sound, At}
 use Rattle.oracles.specs.declared.lowpass_oracle.OptimVerdict.{OptimVerdict}
 use Rattle.oracles.specs.declared.lowpass_oracle.OptimVerdict.the-variants.{Improved, Cut as CutOptim, Refused as NotOptim}
+<<<<<<< HEAD
 use Rattle.drivers.specs.CuttingPlane as run
 use Rattle.drivers.specs.CuttingPlaneFeas as feas
 use Rattle.drivers.specs.CuttingPlaneOptim as optim
@@ -78,6 +77,10 @@ use Rattle.drivers.specs.declared.answer.Answer.{Answer}
 use Rattle.drivers.specs.declared.belongs.Belonging.{Belonging}
 use Rattle.oracles.specs.laws.Untouched.{is-improved, untouched}
 use Rattle.oracles.specs.laws.OracleAfter.{is-refusal, optim-after}
+=======
+use Rattle.drivers.specs.laws.Untouched.{is-improved, untouched}
+use Rattle.oracles.specs.laws.OracleAfter.{is-refusal, optim-left}
+>>>>>>> be22631178bab14bb2c7a3ba1e7710e7ec17855a
 use Rattle.oracles.specs.declared.lowpass_oracle.AssessedOptim.{AssessedOptim}
 
 -- ---- what is said of a call
@@ -88,7 +91,7 @@ pub record Refuses {X L : Type 0} (tests : Fault) (number : X → ℕ) (left : X
   pub by-number : number answer ≡ fault-number tests
   pub writes-nothing : is-fault tests ≡ true → left answer ≡ before
 
-refuses : {X L : Type 0} (tests : Fault) (number : X → ℕ) (left : X → L) (before : L) (refused : Refusal → ℕ → X) (done : X)
+pub refuses : {X L : Type 0} (tests : Fault) (number : X → ℕ) (left : X → L) (before : L) (refused : Refusal → ℕ → X) (done : X)
     → ((why : Refusal) (place : ℕ) → number (refused why place) ≡ refusal-number why) → ((why : Refusal) (place : ℕ) → left (refused why place) ≡ before)
     → (tests ≡ Sound → number done ≡ 0) → Refuses tests number left before (unless tests refused done)
 refuses tests number left before refused done h k d = record {
@@ -278,6 +281,7 @@ module _ (o : LowpassOracle) (gamma : Float) (n rows : ℕ) (table x grad : List
         let u = untouched o gamma n rows table x grad in
         rw (optim-after o gamma n rows table x grad .as-it-came t, u .gamma-stays (unimproved (answer .0 .verdict) t), u .grad-stays t);
   }
+<<<<<<< HEAD
 
 -- ---- drivers and records
 
@@ -378,3 +382,5 @@ feas-finishes options rows table s best e =
 pub optim-numbers : (options : Options) (rows : ℕ) (table : List Float) (s : optim.OptimState) → run.run-tests rows table (optim.plain s) (s .best) ≡ Sound
     → (optim-number (optim.optim-answer options rows table s .answer) ≡ 0) ⊎ (optim-number (optim.optim-answer options rows table s .answer) ≡ 6)
 optim-numbers options rows table s e = elim (optim-finishes options rows table s e .outcome) [ inl o ↦ inl (o .1) | inr o ↦ inr (o .1) ]
+=======
+>>>>>>> be22631178bab14bb2c7a3ba1e7710e7ec17855a
