@@ -91,23 +91,6 @@ fn run_optim(
     )
 }
 
-fn run(
-    ell: Ell,
-    p: Places,
-    inputs: &[u8],
-    table: &[f64],
-    a: &mut [f64],
-    b: &mut [f64],
-    c: &mut [f64],
-    d: &mut [f64],
-    e: &mut [f64],
-) -> Outcome {
-    if p.is_optim {
-        return run_optim(ell, p, inputs, table, a, b, c, d, e);
-    }
-    run_feas(ell, p, inputs, table, a, b, c, d, e)
-}
-
 // Where n is refused there is no ellipsoid, and its numbers are 0.
 fn call(
     p: Places,
@@ -124,7 +107,10 @@ fn call(
         NewEll::Made(made) => {
             let mut ell = made;
             ell.tsq = float(inputs, wrapping_add_usize(p.kappa, 1));
-            run(ell, p, inputs, table, a, b, c, d, e)
+            if p.is_optim {
+                return run_optim(ell, p, inputs, table, a, b, c, d, e);
+            }
+            run_feas(ell, p, inputs, table, a, b, c, d, e)
         }
         NewEll::Refused(why) => {
             let state = p.state;
