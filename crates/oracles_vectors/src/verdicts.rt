@@ -8,7 +8,6 @@ use lists::rooms::plus;
 use lists::rooms::times;
 use lists::signed::all_signed;
 use lists::signed::signed;
-use lists::signed::signed_at;
 use lists::tally::Replayed;
 use lists::words::float;
 use lists::words::word;

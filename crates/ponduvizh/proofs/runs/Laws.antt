@@ -19,7 +19,7 @@ use Rattle.drivers.specs.Numbered.{optim-number}
 use Rattle.drivers.specs.declared.cutting_plane.Options.{Options}
 use Rattle.drivers.specs.declared.cutting_plane_feas.FeasAnswer.{FeasAnswer}
 use Rattle.drivers.specs.declared.cutting_plane_optim.OptimAnswer.{OptimAnswer}
-use Rattle.ponduvizh.specs.ExportedRuns.{RunNumbers, RunEnd, run-end, coded, as-optim, numbers-by, feas-run-end, optim-run-end, feas-exported, optim-exported}
+use Rattle.ponduvizh.specs.ExportedRuns.{RunNumbers, RunEnd, run-end, as-optim, numbers-by, feas-run-end, optim-run-end, feas-exported, optim-exported}
 use Rattle.ponduvizh.specs.laws.Refused.{feas-exported-refused, optim-exported-refused}
 
 pub feas-law : (a : FeasAnswer) (a′ : OptimAnswer) (o : LowpassOracle) (e : Ell) (b : EllBuffers) (grad best : List Float) (code : ℕ) (now old : RunNumbers) (r : FeasAnswer × State × List Float)
