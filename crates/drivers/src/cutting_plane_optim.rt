@@ -128,6 +128,17 @@ fn optim_ended(answer: Update, found: bool, niter: u16) -> OptimAnswer
     }
 }
 
+fn run_of(oracle: LowpassOracle, ell: Ell, gamma: f64, answer: OptimAnswer) -> OptimRun
+    ensures { λ r. ⌜ r ≡ record { oracle = oracle; ell = ell; gamma = gamma; answer = answer } ⌝ }
+{
+    OptimRun {
+        oracle,
+        ell,
+        gamma,
+        answer,
+    }
+}
+
 // The steps, with nothing left to refuse but 6.
 fn run_optim(
     oracle: LowpassOracle,
@@ -171,24 +182,15 @@ fn run_optim(
         found = step.found;
         let answer = step.answer;
         if !optim_goes_on(answer, space.tsq, options.tolerance) {
-            return OptimRun {
-                oracle,
-                ell: space,
-                gamma: offer,
-                answer: optim_ended(answer, found, niter),
-            };
+            return run_of(oracle, space, offer, optim_ended(answer, found, niter));
         }
         niter += 1;
     }
-    OptimRun {
-        oracle,
-        ell: space,
-        gamma: offer,
-        answer: OptimAnswer::Ended(Answer {
-            found,
-            steps: niter,
-        }),
-    }
+    let ended = Answer {
+        found,
+        steps: niter,
+    };
+    run_of(oracle, space, offer, OptimAnswer::Ended(ended))
 }
 
 // Cuts the ellipsoid at each feasible centre by its largest stop value, which becomes the next offer; the last such centre is at the front of x_best. grad and grad_t are scratch. A refused call gives everything back as it came.

@@ -52,24 +52,20 @@ fn places_legal(inputs: &[u8], xc: usize) -> Places {
     }
 }
 
+// Word k has the length of a vector of scratch that only `EllStable` has.
+fn stable_length(inputs: &[u8], is_stable: bool, k: usize) -> usize {
+    if is_stable {
+        return word(inputs, k) as usize;
+    }
+    0
+}
+
 // Operations 119 and 120: words 4 on have the lengths, of one vector of scratch or of four.
 fn places_any(inputs: &[u8], is_stable: bool) -> Places {
     let xc = if is_stable { 13 } else { 10 };
-    let l2 = if is_stable {
-        word(inputs, 7) as usize
-    } else {
-        0
-    };
-    let l3 = if is_stable {
-        word(inputs, 8) as usize
-    } else {
-        0
-    };
-    let l4 = if is_stable {
-        word(inputs, 9) as usize
-    } else {
-        0
-    };
+    let l2 = stable_length(inputs, is_stable, 7);
+    let l3 = stable_length(inputs, is_stable, 8);
+    let l4 = stable_length(inputs, is_stable, 9);
     let lg = word(inputs, if is_stable { 10 } else { 7 }) as usize;
     let lx = word(inputs, 4) as usize;
     let lm = word(inputs, 5) as usize;

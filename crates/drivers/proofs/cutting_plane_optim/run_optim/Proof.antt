@@ -34,28 +34,29 @@ loop-holds c =
     )
 
 same-length : tie.Need-same-length Inv-loop μ-loop
-same-length c = c .before .before .before .before .before .before .before .before .before .before .before .before .before .before .before .optim-step .kept .1 .1 .1 .1 .1 .1 .0 ∙ c .before .before .before .before .before .before .before .before .before .before .before .before .before .before .before .before .before .before .before .before .before .before .before .loop .inv .2
+same-length c = c .before .before .before .before .before .before .before .before .before .before .before .before .before .before .before .before .optim-step .kept .1 .1 .1 .1 .1 .1 .0 ∙ c .before .before .before .before .before .before .before .before .before .before .before .before .before .before .before .before .before .before .before .before .before .before .before .before .loop .inv .2
 
 same-length-2 : tie.Need-same-length-2 Inv-loop μ-loop
-same-length-2 c = c .before .before .before .before .before .before .before .before .before .before .before .before .before .before .before .optim-step .kept .1 .1 .1 .1 .1 .1 .1 .0 ∙ c .before .before .before .before .before .before .before .before .before .before .before .before .before .before .before .before .before .before .before .before .before .before .before .loop .inv .3
+same-length-2 c = c .before .before .before .before .before .before .before .before .before .before .before .before .before .before .before .before .optim-step .kept .1 .1 .1 .1 .1 .1 .1 .0 ∙ c .before .before .before .before .before .before .before .before .before .before .before .before .before .before .before .before .before .before .before .before .before .before .before .before .loop .inv .3
 
 same-length-3 : tie.Need-same-length-3 Inv-loop μ-loop
-same-length-3 c = c .before .before .before .before .before .before .before .before .before .before .before .before .before .before .before .optim-step .kept .1 .1 .1 .1 .1 .1 .1 .1 .0 ∙ c .before .before .before .before .before .before .before .before .before .before .before .before .before .before .before .before .before .before .before .before .before .before .before .loop .inv .4
+same-length-3 c = c .before .before .before .before .before .before .before .before .before .before .before .before .before .before .before .before .optim-step .kept .1 .1 .1 .1 .1 .1 .1 .1 .0 ∙ c .before .before .before .before .before .before .before .before .before .before .before .before .before .before .before .before .before .before .before .before .before .before .before .before .loop .inv .4
 
 same-length-4 : tie.Need-same-length-4 Inv-loop μ-loop
-same-length-4 c = c .before .before .before .before .before .before .before .before .before .before .before .before .before .before .before .optim-step .kept .1 .1 .1 .1 .1 .1 .1 .1 .1 .0 ∙ c .before .before .before .before .before .before .before .before .before .before .before .before .before .before .before .before .before .before .before .before .before .before .before .loop .inv .5
+same-length-4 c = c .before .before .before .before .before .before .before .before .before .before .before .before .before .before .before .before .optim-step .kept .1 .1 .1 .1 .1 .1 .1 .1 .1 .0 ∙ c .before .before .before .before .before .before .before .before .before .before .before .before .before .before .before .before .before .before .before .before .before .before .before .before .loop .inv .5
 
 same-length-5 : tie.Need-same-length-5 Inv-loop μ-loop
-same-length-5 c = c .before .before .before .before .before .before .before .before .before .before .before .before .before .before .before .optim-step .kept .1 .1 .1 .1 .1 .1 .1 .1 .1 .1 .0 ∙ c .before .before .before .before .before .before .before .before .before .before .before .before .before .before .before .before .before .before .before .before .before .before .before .loop .inv .6
+same-length-5 c = c .before .before .before .before .before .before .before .before .before .before .before .before .before .before .before .before .optim-step .kept .1 .1 .1 .1 .1 .1 .1 .1 .1 .1 .0 ∙ c .before .before .before .before .before .before .before .before .before .before .before .before .before .before .before .before .before .before .before .before .before .before .before .before .loop .inv .6
 
 returns : tie.Need-returns Inv-loop μ-loop
 returns c =
-    let l = c .before .before .before .before .before .before .before .before .before .before .before .before .before .before .before .before .before .before .before .before .before .before .before .loop in
-    let a = c .before .before .before .before .before .before .before .before .before .before .before .before .before .before .before .before .before .before .before .before .before .before .before .before .before .before .before .before .before .before .args in
-    let f = c .before .before .before .before .before .before .before .before .before .before .before .before .before .before .before .optim-step in
-    optim-ends (a .rows) (a .table .now) (a .options .tolerance) (a .options .«max_iters») (l .niter) (optim-state-of (l .oracle) (l .space) (l .offer) (l .found) (l .mq) (l .xc) (l .grad) (l .grad-t) (l .x-best)) _ _
-    (c .before .before .before .before .before .before .before .before .before .before .before .before .before .before .before .before .before .before .before .before .before .if1 .taken) (f .ensures) (says-no _ _ (c .before .before .optim-goes-on .ensures) (c .before .if2 .taken)) _ (c .optim-ended .ensures)
-    ∙ l .inv .1
+    let l = c .before .before .before .before .before .before .before .before .before .before .before .before .before .before .before .before .before .before .before .before .before .before .before .before .loop in
+    let a = c .before .before .before .before .before .before .before .before .before .before .before .before .before .before .before .before .before .before .before .before .before .before .before .before .before .before .before .before .before .before .before .args in
+    let f = c .before .before .before .before .before .before .before .before .before .before .before .before .before .before .before .before .optim-step in
+    rw (c .run-of .ensures)
+    (optim-ends (a .rows) (a .table .now) (a .options .tolerance) (a .options .«max_iters») (l .niter) (optim-state-of (l .oracle) (l .space) (l .offer) (l .found) (l .mq) (l .xc) (l .grad) (l .grad-t) (l .x-best)) _ _
+    (c .before .before .before .before .before .before .before .before .before .before .before .before .before .before .before .before .before .before .before .before .before .before .if1 .taken) (f .ensures) (says-no _ _ (c .before .before .before .optim-goes-on .ensures) (c .before .before .if2 .taken)) _ (c .before .optim-ended .ensures)
+    ∙ l .inv .1)
 
 add-niter : tie.Need-add-niter Inv-loop μ-loop
 add-niter c = record { fits = omega (arith, c .before .before .before .before .before .before .before .before .before .before .before .before .before .before .before .before .before .before .before .before .if1 .taken, c .before .before .before .before .before .before .before .before .before .before .before .before .before .before .before .before .before .before .before .before .before .before .loop .inv .0) }
@@ -82,15 +83,16 @@ loop-again c =
 
 returns-2 : tie.Need-returns-2 Inv-loop μ-loop
 returns-2 c =
-    let l = c .before .before .loop in
-    let a = c .before .before .before .before .before .before .before .before .before .args in
-    sym (optim-out (a .rows) (a .table .now) (a .options .tolerance) (a .options .«max_iters») (l .niter) (optim-state-of (l .oracle) (l .space) (l .offer) (l .found) (l .mq) (l .xc) (l .grad) (l .grad-t) (l .x-best)) (c .if1 .left))
-    ∙ l .inv .1
+    let l = c .before .before .before .loop in
+    let a = c .before .before .before .before .before .before .before .before .before .before .args in
+    rw (c .run-of2 .ensures)
+    (sym (optim-out (a .rows) (a .table .now) (a .options .tolerance) (a .options .«max_iters») (l .niter) (optim-state-of (l .oracle) (l .space) (l .offer) (l .found) (l .mq) (l .xc) (l .grad) (l .grad-t) (l .x-best)) (c .before .if1 .left))
+    ∙ l .inv .1)
 
 pub run-optim-spec : {M : Type 1} → statement M
 run-optim-spec =
     tie.close
     (tie.spec
-    Inv-loop μ-loop loop-holds (λ c κs. tt) (λ c κs. tt) (λ c κs. tt) same-length same-length-2 same-length-3 same-length-4 same-length-5 returns
-    add-niter loop-less loop-again (λ c. c .before .before .loop .inv .2) (λ c. c .before .before .loop .inv .3) (λ c. c .before .before .loop .inv .4)
-    (λ c. c .before .before .loop .inv .5) (λ c. c .before .before .loop .inv .6) returns-2)
+    Inv-loop μ-loop loop-holds (λ c κs. tt) (λ c κs. tt) (λ c κs. tt) (λ c κs. tt) same-length same-length-2 same-length-3 same-length-4 same-length-5 returns
+    add-niter loop-less loop-again (λ c κs. tt) (λ c. c .before .before .before .loop .inv .2) (λ c. c .before .before .before .loop .inv .3) (λ c. c .before .before .before .loop .inv .4)
+    (λ c. c .before .before .before .loop .inv .5) (λ c. c .before .before .before .loop .inv .6) returns-2)
