@@ -1,7 +1,7 @@
 /* Checks the roots of a list with MPFR, read from standard input.
  *
  *   gcc -O2 -Wall -o target/mpfr_check_sqrt mpfr/check_sqrt.c -lmpfr -lgmp
- *   target/release/oracle gen numbers --seed 1 --count 1000000 --only 1 | target/mpfr_check_sqrt
+ *   target/release/reference gen numbers --seed 1 --count 1000000 --only 1 | target/mpfr_check_sqrt
  *
  * The cases of operation 1 are checked and the others passed over. MPFR's range of exponents
  * is far wider than f64's, and the root of every positive finite f64 is a normal f64, so a

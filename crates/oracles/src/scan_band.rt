@@ -87,8 +87,8 @@ pub(crate) fn first_fault(dimension: bool, lengths: bool, bands: bool, cursors: 
     Fault::Sound
 }
 
-// `scan_band` with the cursor by value, for callers who have no place to lend.
-pub fn scan_by_value(
+// `scan_band` with the cursor by value.
+fn scan_by_value(
     n: usize,
     rows: usize,
     table: &[f64],
@@ -137,4 +137,21 @@ pub fn scan_band(
     let end = scan_by_value(n, rows, table, x, c, lower, upper);
     *rr = end.cursor;
     end.answer
+}
+
+// Lends a local cursor to `scan_band`, for callers who have none to lend.
+pub fn scan_at(
+    n: usize,
+    rows: usize,
+    table: &[f64],
+    x: &[f64],
+    start: RoundRobin,
+    lower: f64,
+    upper: Upper,
+) -> ScanEnd
+    ensures { λ r. ⌜ (r .answer, r .cursor) ≡ scan-band-answer n rows (now (table .entry)) (now (x .entry)) start lower upper ⌝ }
+{
+    let mut c = start;
+    let answer = scan_band(n, rows, table, x, &mut c, lower, upper);
+    ScanEnd { answer, cursor: c }
 }

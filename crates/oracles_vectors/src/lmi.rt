@@ -51,7 +51,7 @@ fn right(m: usize, n: usize) -> Lengths {
 }
 
 // The lengths that the case says, in words 2 to 7.
-fn told_lengths(inputs: &[u8]) -> Lengths {
+fn any_lengths(inputs: &[u8]) -> Lengths {
     Lengths {
         mat_b: word(inputs, 2) as usize,
         mat_f: word(inputs, 3) as usize,
@@ -82,7 +82,7 @@ fn places_of(any: bool, l: Lengths) -> Places {
 }
 
 // Where the operation has no lengths of its own, a cut's gradient stands before the position, and only the first two words before that.
-fn said_of(any: bool, verdict: LmiVerdict) -> Answered {
+fn answered_of(any: bool, verdict: LmiVerdict) -> Answered {
     match verdict {
         LmiVerdict::Feasible => answered_words(verdict.number(), [0; 7], 3),
         LmiVerdict::Cut(pos, beta) => {
@@ -153,7 +153,7 @@ fn call(
     let storage = front(a, l.storage);
     let wit = front(b, l.wit);
     let grad = front(c, l.grad);
-    said_of(any, assess_feas(m, n, mat_b, mat_f, x, storage, wit, grad))
+    answered_of(any, assess_feas(m, n, mat_b, mat_f, x, storage, wit, grad))
 }
 
 pub(crate) fn replay_lmi(
@@ -168,7 +168,7 @@ pub(crate) fn replay_lmi(
 ) -> Replayed {
     let any = op == 118;
     let l = if any {
-        told_lengths(inputs)
+        any_lengths(inputs)
     } else {
         right(word(inputs, 0) as usize, word(inputs, 1) as usize)
     };

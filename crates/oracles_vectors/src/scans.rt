@@ -19,7 +19,7 @@ use oracles::scan::Scan;
 use oracles::scan::ScanAnswer;
 use oracles::scan::Upper;
 use oracles::scan::Violation;
-use oracles::scan_band::scan_by_value;
+use oracles::scan_band::scan_at;
 use std::num::wrapping_add_usize;
 
 // All ones stand for an absent upper limit.
@@ -66,7 +66,7 @@ fn scan_at(inputs: &[u8], k: usize, table: &[f64], x: &[f64]) -> Answered {
     let rows = word(inputs, 1) as usize;
     let lower = float(inputs, wrapping_add_usize(k, 3));
     let upper = upper_of(word(inputs, wrapping_add_usize(k, 4)));
-    let end = scan_by_value(n, rows, table, x, cursor_at(inputs, k), lower, upper);
+    let end = scan_at(n, rows, table, x, cursor_at(inputs, k), lower, upper);
     let after = end.cursor;
     let answer = end.answer;
     match answer {

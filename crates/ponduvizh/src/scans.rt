@@ -5,7 +5,7 @@ use oracles::scan::Scan;
 use oracles::scan::ScanAnswer;
 use oracles::scan::Upper;
 use oracles::scan::Violation;
-use oracles::scan_band::scan_by_value;
+use oracles::scan_band::scan_at;
 ghost use mathlib.Core.Path.{_≡_};
 ghost use Rattle.oracles.specs.Scan.{scan-band-answer};
 ghost use Rattle.ponduvizh.specs.ExportedScan.{upper-of, side-of, row-of, value-of, numbers-found, scan-numbers, scan-numbers-or, scan-end};
@@ -100,7 +100,7 @@ fn scan_from(
         (scan-band-answer n rows (now (table .entry)) (now (x .entry)) start lower upper)
         (numbers-found (now (found .entry)) (now (values .entry)) (now (kmax .entry))) ⌝ }
 {
-    let end = scan_by_value(n, rows, table, x, start, lower, upper);
+    let end = scan_at(n, rows, table, x, start, lower, upper);
     let cursor = end.cursor;
     let answer = end.answer;
     let last = cursor.cur;

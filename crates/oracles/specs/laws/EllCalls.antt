@@ -70,7 +70,7 @@ long-fits n grad b h l =
 
 -- ---- what an update works out
 
--- grad_t, omega, and the calculator's answer
+-- grad_t, and omega
 abbrev pub ell-gt : Ell → List Float → EllBuffers → List Float
 ell-gt e grad b = mv-of (e .ndim) (b .mq) grad
 
