@@ -61,7 +61,7 @@ fn scanned(number: u8, scan: Scan, cur: i32) -> Answered {
 }
 
 // Words k to k + 4 have the cursor and the limits.
-fn scan_at(inputs: &[u8], k: usize, table: &[f64], x: &[f64]) -> Answered {
+fn scan_case(inputs: &[u8], k: usize, table: &[f64], x: &[f64]) -> Answered {
     let n = word(inputs, 0) as usize;
     let rows = word(inputs, 1) as usize;
     let lower = float(inputs, wrapping_add_usize(k, 3));
@@ -102,6 +102,6 @@ pub(crate) fn replay_scan(
     if !all_signed(inputs, k, wrapping_add_usize(k, 3)) {
         return Replayed::Unfit;
     }
-    let answered = scan_at(inputs, k, part(floats, from, lt), part(floats, x_at, lx));
+    let answered = scan_case(inputs, k, part(floats, from, lt), part(floats, x_at, lx));
     put_answer(got, any, answered, floats, 0)
 }
