@@ -1,6 +1,6 @@
 -- The first demand of docs/00-demands.md for drivers and records: as Demand1 has it for the layers below. Assumes nothing.
 use Prim.Native.Nat.{ℕ, _≤_}
-use mathlib.Core.Path.{_≡_, refl, sym, ap, _∙_}
+use mathlib.Core.Path.{_≡_, refl, sym, ap}
 use mathlib.Core.List.{List}
 use mathlib.Core.Logic.{_⊎_, inl, inr}
 use lib.ListN.{length}
@@ -8,7 +8,7 @@ use native.Mathlib.Omega.{arith}
 use borrow.Author.Tests.{leb-true}
 use lib.Ieee.{Float}
 use Rattle.numbers.specs.Refusal.{_⨾_, unless}
-use Rattle.numbers.specs.laws.Pick.{is-hit, is-skip, by-test}
+use Rattle.numbers.specs.laws.Pick.{by-test}
 use Rattle.numbers.specs.laws.Refusal.{both-sound, ask-sound, refuses as refused-at}
 use Rattle.oracles.specs.Ell as ell
 use Rattle.numbers.specs.declared.refusal.Refusal.{Refusal}
@@ -18,8 +18,8 @@ use Rattle.drivers.specs.CuttingPlane as run
 use Rattle.drivers.specs.CuttingPlaneFeas as feas
 use Rattle.drivers.specs.CuttingPlaneOptim as optim
 use Rattle.drivers.specs.Trace as trace
+use Rattle.drivers.specs.Input as inputs
 use Rattle.drivers.specs.Run as runs
-use Rattle.drivers.specs.Record.{fronted}
 use Rattle.drivers.specs.Job as jobs
 use Rattle.drivers.specs.Answer as answers
 use Rattle.drivers.specs.Belongs as belonging
@@ -35,7 +35,10 @@ use Rattle.drivers.specs.declared.run.Run.{Run}
 use Rattle.drivers.specs.declared.run.Printed.{Printed}
 use Rattle.drivers.specs.declared.job.Job.{Job}
 use Rattle.drivers.specs.declared.job.JobAnswer.{JobAnswer}
-use Rattle.drivers.specs.declared.job.JobAnswer.the-variants.{Read as ReadJob, Refused as NoJob}
+use Rattle.drivers.specs.declared.job.JobAnswer.the-variants.{Refused as NoJob}
+use Rattle.drivers.specs.declared.input.TakenJob.{TakenJob}
+use Rattle.drivers.specs.declared.trace.Source.{Source}
+use Rattle.drivers.specs.declared.trace.Source.the-variants.{Only, Answer as OfAnswer}
 use Rattle.drivers.specs.declared.answer.AnswerRead.{AnswerRead}
 use Rattle.drivers.specs.declared.answer.AnswerRead.the-variants.{Refused as NoAnswer}
 use Rattle.drivers.specs.declared.answer.Answer.{Answer}
@@ -102,26 +105,27 @@ unfolding answers.write-answer-answer
 write-answer n a point out = refuses _ _ _ _ _ _ (λ why place. refl) (λ why place. refl) (λ e. refl)
 
 -- "a bad or overlong record": all that the program prints then is one line, with the number and the place of the first fault
-pub program : (bytes : List ℕ) (why : Refusal) (place : ℕ) → (runs.input-tests bytes ⨾ jobs.job-fault bytes) ≡ At why place → filterrun.program-text bytes ≡ filterrun.refused-text why place
+pub program : (bytes : List ℕ) (why : Refusal) (place : ℕ) → (inputs.input-tests bytes ⨾ jobs.job-fault bytes) ≡ At why place → filterrun.program-text bytes ≡ trace.refused-text Only why place
 unfolding filterrun.program-text
 program bytes why place e = sym (refused-at _ _ _ (sym e) refl)
 
--- what a job that is read is put into
-abbrev pub read-done : List ℕ → List Float → List Float → List Float → JobAnswer × List Float × List Float × List Float
-read-done bytes table xc mq = let f = jobs.full-job bytes in (ReadJob (f .job), fronted (f .table) table, fronted (f .point) xc, fronted (f .matrix) mq)
+-- `take_job` and `take_answer` test the input's length, then what the reader tests: the slices stay, and `out` has the line that says so, or is as it was where it is too short for a line
+pub take-job-refused : (source : Source) (bytes : List ℕ) (table xc mq : List Float) (out : List ℕ) (why : Refusal) (place : ℕ) → inputs.take-job-tests bytes table xc mq ≡ At why place
+    → inputs.take-job-answer source bytes table xc mq out ≡ inputs.with-slices table xc mq (inputs.job-refused (trace.refused-line-answer source why place out))
+unfolding inputs.take-job-answer
+take-job-refused source bytes table xc mq out why place e = sym (refused-at _ _ _ (sym e) refl)
 
--- `open` tests the input's length, then what `read_job` tests: the slices stay, and `out` has the line that says so, or is as it was where it is too short for a line
-pub open-refused : (bytes : List ℕ) (table xc mq : List Float) (out : List ℕ) (why : Refusal) (place : ℕ) → (runs.input-tests bytes ⨾ jobs.read-job-tests bytes table xc mq) ≡ At why place
-    → runs.open-answer bytes table xc mq out ≡ runs.with-slices table xc mq (runs.opened-refused (trace.refused-line-answer why place out))
-unfolding runs.open-answer jobs.read-job-answer
-open-refused bytes table xc mq out why place = go (runs.input-tests bytes) (jobs.read-job-tests bytes table xc mq)
-  where
-    go : (f g : Fault) → (f ⨾ g) ≡ At why place
-        → unless f (λ w p. runs.with-slices table xc mq (runs.opened-refused (trace.refused-line-answer w p out)))
-        (let r = unless g (λ w p. (NoJob w p, table, xc, mq)) (read-done bytes table xc mq) in runs.with-slices (r .1) (r .2) (r .3) (runs.opened-read out (r .0)))
-        ≡ runs.with-slices table xc mq (runs.opened-refused (trace.refused-line-answer why place out))
-    go Sound g e = ap (λ (k : Fault). let r = unless k (λ w p. (NoJob w p, table, xc, mq)) (read-done bytes table xc mq) in runs.with-slices (r .1) (r .2) (r .3) (runs.opened-read out (r .0))) (sym (is-skip _ _ _ refl) ∙ e)
-    go (At w p) g e = ap (λ (k : Fault). unless k (λ w p. runs.with-slices table xc mq (runs.opened-refused (trace.refused-line-answer w p out))) (runs.with-slices table xc mq (runs.opened-refused (trace.refused-line-answer why place out)))) (sym (is-hit _ _ _ refl) ∙ e)
+pub take-answer-refused : (n : ℕ) (bytes : List ℕ) (point : List Float) (out : List ℕ) (why : Refusal) (place : ℕ) → inputs.take-answer-tests n bytes point ≡ At why place
+    → inputs.take-answer-answer n bytes point out ≡ inputs.answer-refused point (trace.refused-line-answer OfAnswer why place out)
+unfolding inputs.take-answer-answer
+take-answer-refused n bytes point out why place e = sym (refused-at _ _ _ (sym e) refl)
+
+-- and so does `open`
+pub open-refused : (bytes : List ℕ) (table xc mq : List Float) (out : List ℕ) (why : Refusal) (place : ℕ) → inputs.take-job-tests bytes table xc mq ≡ At why place
+    → runs.open-answer bytes table xc mq out ≡ inputs.with-slices table xc mq (runs.opened-refused (trace.refused-line-answer Only why place out))
+unfolding runs.open-answer
+open-refused bytes table xc mq out why place e =
+    ap (λ (t : TakenJob × List Float × List Float × List Float × List ℕ). inputs.with-slices (t .1) (t .2) (t .3) (runs.opened-taken (t .4) (t .0))) (take-job-refused Only bytes table xc mq out why place e)
 
 -- "each accepted call finishes": a run of either driver, within its step limit
 pub record Finishes (limit : ℕ) (end : FeasAnswer) : Type 0 where

@@ -10,6 +10,7 @@ pub mod Fields
 pub mod Answer
 pub mod Belongs
 pub mod Trace
+pub mod Input
 pub mod Run
 pub mod Program
 pub mod Numbered

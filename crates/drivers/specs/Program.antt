@@ -4,17 +4,13 @@ use mathlib.Core.List.{List}
 use lib.ListN.{replicate}
 use Rattle.numbers.specs.F64.{0ᶠ}
 use Rattle.oracles.specs.Ell.{ell-buffers, fresh-ell}
-use Rattle.numbers.specs.declared.refusal.Refusal.{Refusal}
 use Rattle.numbers.specs.Refusal.{_⨾_, unless}
-use Rattle.drivers.specs.Text.{joined}
 use Rattle.drivers.specs.CuttingPlane.{State}
 use Rattle.drivers.specs.Job.{FullJob, job-oracle, full-job, job-fault}
-use Rattle.drivers.specs.Trace.{refused-pieces}
-use Rattle.drivers.specs.Run.{input-tests, run-text}
-
--- the line of a refusal
-abbrev pub refused-text : Refusal → ℕ → List ℕ
-refused-text why place = joined (refused-pieces why place)
+use Rattle.drivers.specs.declared.trace.Source.the-variants.{Only}
+use Rattle.drivers.specs.Trace.{refused-text}
+use Rattle.drivers.specs.Input.{input-tests}
+use Rattle.drivers.specs.Run.{run-text}
 
 -- what the run of a job begins with: its oracle, a new ellipsoid with its matrix and point, and scratch of zeros
 unfoldable pub first-state : FullJob → State
@@ -34,6 +30,4 @@ job-text f = run-text (f .job .rows) (f .table) (f .job .options .tolerance) (f 
 -- a long input is refused before all else; then a job's first fault; else the job is run, since a program with room for 1,024 rows of 32 has room for every job
 unfoldable pub program-text : List ℕ → List ℕ
 program-text bytes =
-    unless (input-tests bytes ⨾ job-fault bytes) refused-text (job-text (full-job bytes))
-
--- ---- the calls that print it: `open`, then, if a run goes, `Run::next` while there is more, over the fronts of the slices and scratch of zeros
+    unless (input-tests bytes ⨾ job-fault bytes) (refused-text Only) (job-text (full-job bytes))

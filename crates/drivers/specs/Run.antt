@@ -1,24 +1,24 @@
 -- A run of a job, a step at a time, with its text, and how a program's input is opened (document 01, "The program `filterrun`"). Definitions only.
-use Prim.Native.Nat.{ℕ, zero, suc, _-_}
+use Prim.Native.Nat.{ℕ, zero, suc}
 use mathlib.Core.Bool.{false}
 use mathlib.Core.List.{List, [], _++_}
-use lib.Dec.{leb, ltb}
+use lib.Dec.{ltb}
 use lib.ListN.{length}
 use lib.Ieee.{Float}
 use Rattle.numbers.specs.Pick.{pick}
-use Rattle.numbers.specs.Refusal.{_⨾_, unless, ask-at}
+use Rattle.numbers.specs.Refusal.{_⨾_, unless}
 use Rattle.numbers.specs.declared.refusal.Refusal.{Refusal}
-use Rattle.numbers.specs.declared.refusal.Refusal.the-variants.{Room}
 use Rattle.numbers.specs.declared.refusal.Fault.{Fault}
 use Rattle.numbers.specs.Over.{over}
 use Rattle.oracles.specs.Ell.{EllBuffers, new-ell-answer}
 use Rattle.oracles.specs.declared.ell.NewEll.{NewEll}
 use Rattle.oracles.specs.declared.ell.NewEll.the-variants.{Made, Refused as NoEll}
 use Rattle.drivers.specs.Text.{joined}
-use Rattle.drivers.specs.Job.{job-oracle, read-job-answer}
+use Rattle.drivers.specs.Job.{job-oracle}
 use Rattle.drivers.specs.declared.job.Job.{Job}
-use Rattle.drivers.specs.declared.job.JobAnswer.{JobAnswer}
-use Rattle.drivers.specs.declared.job.JobAnswer.the-variants.{Read, Refused as NotRead}
+use Rattle.drivers.specs.declared.input.TakenJob.{TakenJob}
+use Rattle.drivers.specs.declared.input.TakenJob.the-variants.{Taken, Refused as NoJob}
+use Rattle.drivers.specs.declared.trace.Source.the-variants.{Only}
 use Rattle.drivers.specs.declared.run.Run.{Run}
 use Rattle.drivers.specs.declared.trace.Text.{Text}
 use Rattle.drivers.specs.declared.trace.Text.the-variants.{Bytes, Refused}
@@ -30,6 +30,7 @@ use Rattle.drivers.specs.declared.run.Opened.the-variants.{Started, Refu
 use Rattle.drivers.specs.CuttingPlane.{State, check-state}
 use Rattle.drivers.specs.CuttingPlaneFeas.{feas-step, goes-on}
 use Rattle.drivers.specs.Trace.{last-pieces, text-room, refused-line-answer, step-text}
+use Rattle.drivers.specs.Input.{with-slices, take-job-answer}
 
 -- before its first step; n has been tested by the reader, and is again
 abbrev pub run-of : Job → NewEll → NewRun
@@ -87,35 +88,24 @@ run-text rows table tolerance (suc left) k s =
     let more = goes-on (r .0) (r .1 .ell .tsq) tolerance in
     step-text k more (r .0) ++ pick more (run-text rows table tolerance left (suc k) (r .1)) []
 
--- ---- a program's input
+-- ---- the run of a program's input
 
 abbrev pub opened-refused : Text × List ℕ → Opened × List ℕ
 opened-refused t = (NotStarted (t .0), t .1)
 
 abbrev pub opened-run : List ℕ → NewRun → Opened × List ℕ
 opened-run out (MadeRun run) = (Started run, out)
-opened-run out (NoRun why) = opened-refused (refused-line-answer why 0 out)
+opened-run out (NoRun why) = opened-refused (refused-line-answer Only why 0 out)
 
 abbrev pub opened-job : Job → List ℕ → Opened × List ℕ
 opened-job j out = opened-run out (new-run-answer j)
 
-abbrev pub opened-read : List ℕ → JobAnswer → Opened × List ℕ
-opened-read out (Read j) = opened-job j out
-opened-read out (NotRead why place) = opened-refused (refused-line-answer why place out)
+abbrev pub opened-taken : List ℕ → TakenJob → Opened × List ℕ
+opened-taken out (Taken j) = opened-job j out
+opened-taken out (NoJob text) = (NotStarted text, out)
 
--- more than 65,536 bytes are refused before all else
-abbrev pub longest : ℕ
-longest = 65536
-
-abbrev pub input-tests : List ℕ → Fault
-input-tests bytes = ask-at longest (leb (length bytes) longest) Room
-
-abbrev pub with-slices : List Float → List Float → List Float → Opened × List ℕ → Opened × List Float × List Float × List Float × List ℕ
-with-slices table xc mq r = (r .0, table, xc, mq, r .1)
-
--- `open`: then the job is read, and its run made
+-- `open`: the job is taken, and its run made
 unfoldable pub open-answer : List ℕ → List Float → List Float → List Float → List ℕ → Opened × List Float × List Float × List Float × List ℕ
 open-answer bytes table xc mq out =
-    let j = read-job-answer bytes table xc mq in
-    unless (input-tests bytes) (λ why place. with-slices table xc mq (opened-refused (refused-line-answer why place out)))
-    (with-slices (j .1) (j .2) (j .3) (opened-read out (j .0)))
+    let t = take-job-answer Only bytes table xc mq out in
+    with-slices (t .1) (t .2) (t .3) (opened-taken (t .4) (t .0))

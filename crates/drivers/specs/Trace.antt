@@ -24,6 +24,8 @@ use Rattle.drivers.specs.declared.cutting_plane_feas.FeasAnswer.{FeasAns
 use Rattle.drivers.specs.declared.cutting_plane_feas.FeasAnswer.the-variants.{Ended, Refused as NotRun}
 use Rattle.drivers.specs.declared.trace.Text.{Text}
 use Rattle.drivers.specs.declared.trace.Text.the-variants.{Bytes, Refused}
+use Rattle.drivers.specs.declared.trace.Source.{Source}
+use Rattle.drivers.specs.declared.trace.Source.the-variants.{Only, Job, Answer as OfAnswer}
 use Rattle.drivers.specs.CuttingPlane.{room-test}
 use Rattle.drivers.specs.CuttingPlaneFeas.{feas-ended}
 
@@ -77,10 +79,18 @@ abbrev pub ended-pieces : FeasAnswer → List (List ℕ)
 ended-pieces (Ended a) = last-pieces a
 ended-pieces (NotRun why) = []
 
--- ---- the line of a refusal: `refused`, number, place
+-- ---- the line of a refusal: `refused`, number, place and, where a command takes two inputs, which of them
 
-abbrev pub refused-pieces : Refusal → ℕ → List (List ℕ)
-refused-pieces why place = bytes-of "refused " ∷ decimal (refusal-number why) ∷ bytes-of " " ∷ decimal place ∷ bytes-of "\n" ∷ []
+abbrev pub source-word : Source → List ℕ
+source-word Only = bytes-of "\n"
+source-word Job = bytes-of " job\n"
+source-word OfAnswer = bytes-of " answer\n"
+
+abbrev pub refused-pieces : Source → Refusal → ℕ → List (List ℕ)
+refused-pieces source why place = bytes-of "refused " ∷ decimal (refusal-number why) ∷ bytes-of " " ∷ decimal place ∷ source-word source ∷ []
+
+abbrev pub refused-text : Source → Refusal → ℕ → List ℕ
+refused-text source why place = joined (refused-pieces source why place)
 
 -- 11 where `out` has fewer bytes than the longest text may need
 abbrev pub room : ℕ
@@ -93,8 +103,9 @@ text-room out = room-test room (length out)
 unfoldable pub printed : List ℕ → List ℕ → Text × List ℕ
 printed text out = unless (text-room out) (λ why place. (Refused why, out)) (Bytes (length text), over out 0 text)
 
-abbrev pub refused-line-answer : Refusal → ℕ → List ℕ → Text × List ℕ
-refused-line-answer why place out = printed (joined (refused-pieces why place)) out
+-- `refused_line`
+abbrev pub refused-line-answer : Source → Refusal → ℕ → List ℕ → Text × List ℕ
+refused-line-answer source why place out = printed (refused-text source why place) out
 
 -- the text of a step, and of the run's end where it is the last
 unfoldable pub step-text : ℕ → Bool → StepAnswer → List ℕ

@@ -8,8 +8,10 @@ pub mod StepSound
 pub mod OptimSound
 pub mod Trace
 pub mod Calls
+pub mod Input
 pub mod OneField
 pub mod Fields
+pub mod AnswerBytes
 pub mod RoundTrip
 pub mod RunEnds
 pub mod OptimBest

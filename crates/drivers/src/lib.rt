@@ -5,6 +5,7 @@ pub mod cutting_plane;
 pub mod cutting_plane_feas;
 pub mod cutting_plane_optim;
 pub mod fields;
+pub mod input;
 pub mod job;
 pub mod numbered;
 pub mod record;

@@ -5,10 +5,11 @@ use crate::cutting_plane::check;
 use crate::cutting_plane_feas::feas_ended;
 use crate::cutting_plane_feas::feas_step;
 use crate::cutting_plane_feas::goes_on;
+use crate::input::TakenJob;
+use crate::input::take_job;
 use crate::job::Job;
-use crate::job::JobAnswer;
-use crate::job::read_job;
 use crate::trace::ROOM;
+use crate::trace::Source;
 use crate::trace::Text;
 use crate::trace::put_ended;
 use crate::trace::put_last;
@@ -55,9 +56,6 @@ pub enum Opened {
     Started(Run),
     Refused(Text),
 }
-
-// A program's input has at most so many bytes.
-pub const LONGEST: usize = 65536;
 
 impl Run {
     // A job's run, before its first step.
@@ -203,7 +201,7 @@ impl Run {
     }
 }
 
-// ---- a program's input
+// ---- the run of a program's input
 
 fn open_job(job: Job, out: &mut [u8]) -> Opened
     ensures { λ r. ⌜ (r, now (out .exit)) ≡ opened-job job (now (out .entry)) ⌝ }
@@ -211,11 +209,11 @@ fn open_job(job: Job, out: &mut [u8]) -> Opened
     let run = Run::new(job);
     match run {
         NewRun::Made(made) => Opened::Started(made),
-        NewRun::Refused(why) => Opened::Refused(refused_line(why, 0, out)),
+        NewRun::Refused(why) => Opened::Refused(refused_line(Source::Only, why, 0, out)),
     }
 }
 
-// Reads a job from a program's input, of at most 65,536 bytes, and makes its run; or writes the line that refuses it to the front of `out`.
+// Takes a job from a program's input and makes its run; or writes the line that refuses it to the front of `out`.
 pub fn open(
     bytes: &[u8],
     table: &mut [f64],
@@ -226,12 +224,9 @@ pub fn open(
     ensures { λ r. ⌜ (r, now (table .exit), now (xc .exit), now (mq .exit), now (out .exit))
         ≡ open-answer (now (bytes .entry)) (now (table .entry)) (now (xc .entry)) (now (mq .entry)) (now (out .entry)) ⌝ }
 {
-    if LONGEST < bytes.len() {
-        return Opened::Refused(refused_line(Refusal::Room, LONGEST, out));
-    }
-    let read = read_job(bytes, table, xc, mq);
-    match read {
-        JobAnswer::Read(job) => open_job(job, out),
-        JobAnswer::Refused(why, place) => Opened::Refused(refused_line(why, place, out)),
+    let taken = take_job(Source::Only, bytes, table, xc, mq, out);
+    match taken {
+        TakenJob::Taken(job) => open_job(job, out),
+        TakenJob::Refused(text) => Opened::Refused(text),
     }
 }

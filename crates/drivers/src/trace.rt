@@ -11,13 +11,20 @@ use numbers::cut::CutStatus;
 use numbers::refusal::Refusal;
 use oracles::lowpass_oracle::Group;
 ghost use mathlib.Core.Path.{_≡_};
-ghost use Rattle.drivers.specs.Trace.{group-word, row-text, side-word, beta-pieces, status-word, cut-pieces, answer-pieces, outcome-word, last-pieces, ended-pieces, refused-pieces, refused-line-answer};
+ghost use Rattle.drivers.specs.Trace.{group-word, row-text, side-word, beta-pieces, status-word, cut-pieces, answer-pieces, outcome-word, last-pieces, ended-pieces, source-word, refused-pieces, refused-line-answer};
 ghost use Rattle.drivers.specs.laws.Text.{put, put-all};
 
 // The count of bytes written to the front of the lent slice, or why nothing was written.
 pub enum Text {
     Bytes(usize),
     Refused(Refusal),
+}
+
+// Which input a refused record came from; only a command that takes two says so, by the line's last word.
+pub enum Source {
+    Only,
+    Job,
+    Answer,
 }
 
 // The longest text of a step, its cut and the answer, fits.
@@ -135,22 +142,32 @@ pub(crate) fn put_ended(out: &mut [u8], at: usize, answer: FeasAnswer) -> usize
 
 // ---- a refusal
 
-fn put_refused(out: &mut [u8], why: Refusal, place: usize) -> usize
-    ensures { λ r. ⌜ (r, now (out .exit)) ≡ put-all (now (out .entry)) 0 (refused-pieces why place) ⌝ }
+fn put_source(out: &mut [u8], at: usize, source: Source) -> usize
+    ensures { λ r. ⌜ (r, now (out .exit)) ≡ put (now (out .entry)) at (source-word source) ⌝ }
+{
+    match source {
+        Source::Only => put_text(out, at, b"\n"),
+        Source::Job => put_text(out, at, b" job\n"),
+        Source::Answer => put_text(out, at, b" answer\n"),
+    }
+}
+
+fn put_refused(out: &mut [u8], source: Source, why: Refusal, place: usize) -> usize
+    ensures { λ r. ⌜ (r, now (out .exit)) ≡ put-all (now (out .entry)) 0 (refused-pieces source why place) ⌝ }
 {
     let at = put_text(out, 0, b"refused ");
     let at = put_decimal(out, at, why.number() as u64);
     let at = put_text(out, at, b" ");
     let at = put_decimal(out, at, place as u64);
-    put_text(out, at, b"\n")
+    put_source(out, at, source)
 }
 
-// The one line of a job that is refused.
-pub(crate) fn refused_line(why: Refusal, place: usize, out: &mut [u8]) -> Text
-    ensures { λ r. ⌜ (r, now (out .exit)) ≡ refused-line-answer why place (now (out .entry)) ⌝ }
+// The one line of a record that is refused.
+pub(crate) fn refused_line(source: Source, why: Refusal, place: usize, out: &mut [u8]) -> Text
+    ensures { λ r. ⌜ (r, now (out .exit)) ≡ refused-line-answer source why place (now (out .entry)) ⌝ }
 {
     if out.len() < ROOM {
         return Text::Refused(Refusal::Room);
     }
-    Text::Bytes(put_refused(out, why, place))
+    Text::Bytes(put_refused(out, source, why, place))
 }

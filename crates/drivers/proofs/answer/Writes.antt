@@ -2,23 +2,21 @@
 use Prim.Native.Nat.{ℕ, _+_, _*_, _≤_, _<_}
 use mathlib.Core.Path.{_≡_, refl, sym, ap, _∙_}
 use mathlib.Core.Bool.{true, false}
-use mathlib.Core.List.{List, [], _∷_, map}
+use mathlib.Core.List.{List, map}
 use native.Mathlib.Omega.{arith}
 use borrow.Author.Tests.{lt-leb, le-leb, eq-eqb, ne-eqb}
 use lib.Dec.{eqb}
-use lib.ListN.{length, length-append}
+use lib.ListN.{length}
 use lib.Ieee.{Float}
 use Rattle.numbers.specs.Pick.{pick}
 use Rattle.numbers.specs.Bits.{le-bytes}
 use Rattle.numbers.specs.Arr.{is-dimension, sized}
 use Rattle.numbers.specs.declared.refusal.Refusal.the-variants.{Dimension, Length, Room}
-use Rattle.numbers.specs.laws.Pick.{is-hit, is-skip, both-ways}
 use Rattle.numbers.specs.laws.Refusal.{failed, held, at-first, at-next, refuses, accepts}
 use Rattle.numbers.specs.declared.refusal.Fault.the-variants.{Sound}
-use Rattle.drivers.specs.Text.{joined}
 use Rattle.drivers.specs.laws.Text.{put-then, put-one, put-front, put, put-all}
-use Rattle.drivers.specs.Fields.{Field, field-bytes, record-bytes, number-bytes}
-use Rattle.drivers.specs.laws.OneField.{length-numbers}
+use Rattle.drivers.specs.Fields.{Field, field-bytes}
+use Rattle.drivers.specs.laws.AnswerBytes.{none-is, found-is, answer-long}
 use Rattle.drivers.specs.Answer.{outcome-byte, outcome-field, steps-field, point-field, answer-fields, answer-bytes, write-answer-tests, write-answer-answer}
 use Rattle.drivers.specs.declared.answer.Answer.{Answer}
 use Rattle.drivers.specs.declared.answer.AnswerWritten.the-variants.{Bytes, Refused}
@@ -26,29 +24,16 @@ use Rattle.drivers.specs.declared.answer.AnswerWritten.the-variants.{Byt
 -- ---- the fields, by whether there is a point
 
 module _ (a : Answer) (point : List Float) where
-  none-is : a .found ≡ false → outcome-field (a .found) ∷ steps-field (a .steps) ∷ [] ≡ answer-fields a point
-  none-is h = ap (λ (fs : List Field). outcome-field (a .found) ∷ steps-field (a .steps) ∷ fs) (sym (is-skip (a .found) (point-field point ∷ []) [] h))
-
-  found-is : a .found ≡ true → outcome-field (a .found) ∷ steps-field (a .steps) ∷ point-field point ∷ [] ≡ answer-fields a point
-  found-is h = ap (λ (fs : List Field). outcome-field (a .found) ∷ steps-field (a .steps) ∷ fs) (sym (is-hit (a .found) (point-field point ∷ []) [] h))
-
   module _ (out : List ℕ) (w : ℕ) (e : w ≡ outcome-byte (a .found)) (p q : ℕ × List ℕ) (one : p ≡ put out 0 (field-bytes (0x20, le-bytes 1 w))) (two : q ≡ put (p .1) (p .0) (field-bytes (steps-field (a .steps)))) where
     first : p ≡ put out 0 (field-bytes (outcome-field (a .found)))
     first = one ∙ ap (λ (v : ℕ). put out 0 (field-bytes (0x20, le-bytes 1 v))) e
 
     pub none-put : a .found ≡ false → q ≡ put-all out 0 (map field-bytes (answer-fields a point))
-    none-put h = put-then out 0 p q _ _ first (put-one _ _ _ _ two) ∙ ap (λ (fs : List Field). put-all out 0 (map field-bytes fs)) (none-is h)
+    none-put h = put-then out 0 p q _ _ first (put-one _ _ _ _ two) ∙ ap (λ (fs : List Field). put-all out 0 (map field-bytes fs)) (none-is a point h)
 
     pub found-put : a .found ≡ true → (r : ℕ × List ℕ) → r ≡ put (q .1) (q .0) (field-bytes (point-field point)) → r ≡ put-all out 0 (map field-bytes (answer-fields a point))
     found-put h r three =
-        put-then out 0 p r _ _ first (put-then _ _ q r _ _ two (put-one _ _ _ _ three)) ∙ ap (λ (fs : List Field). put-all out 0 (map field-bytes fs)) (found-is h)
-
-  -- how long they are
-  pub answer-long : (n : ℕ) → length point ≡ n → length (answer-bytes a point) ≡ pick (a .found) (12 + 8 * n) 9
-  unfolding joined le-bytes
-  answer-long n l =
-      both-ways (a .found) (λ h. ap (λ (fs : List Field). length (record-bytes fs)) (sym (found-is h)) ∙ omega (arith, length-append (number-bytes point) [], length-numbers point))
-      (λ h. ap (λ (fs : List Field). length (record-bytes fs)) (sym (none-is h)))
+        put-then out 0 p r _ _ first (put-then _ _ q r _ _ two (put-one _ _ _ _ three)) ∙ ap (λ (fs : List Field). put-all out 0 (map field-bytes fs)) (found-is a point h)
 
 -- ---- `write_answer`, by its tests
 

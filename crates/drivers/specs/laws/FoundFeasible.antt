@@ -38,43 +38,44 @@ pub record Answered (j : Job) (table x : List Float) (r : FeasAnswer × State ×
   pub belongs : 1 ≤ j .options .«max_iters» → is-of j table x answer (take (j .n) (r .2)) ≡ true
 
 module _ (j : Job) (h : JobSound j) (table : List Float) (b : EllBuffers) (grad best : List Float) (l : JobSlices j table b grad) (room : j .n ≤ length best) where
-  pub job-answered : Answered j table (b .xc) (feas-answer (j .options) (j .rows) table (job-state j b grad) best)
+  -- the run, its steps, and what is called of it
+  abbrev pub job-run-answer : FeasAnswer × State
+  job-run-answer = feas-run (j .rows) table (j .options .tolerance) (j .options .«max_iters») 0 (job-state j b grad)
+
+  ends : RunEnded (j .rows) table (j .options .«max_iters») 0 (job-state j b grad) job-run-answer
+  ends = job-ends j h table b grad l
+
+  pub job-call : feas-answer (j .options) (j .rows) table (job-state j b grad) best
+      ≡ (job-run-answer .0, job-run-answer .1, kept (is-found (job-run-answer .0)) (job-run-answer .1 .buffers .xc) best)
   unfolding feas-answer
+  job-call =
+      sym (accepts _ _ (run-tests (j .rows) table (job-state j b grad) best) (at-next (sym (job-run-sound j h table b grad l)) (held _ _ (le-leb (j .n) (length best) room))) refl)
+
+  xc-long : length (job-run-answer .1 .buffers .xc) ≡ j .n
+  xc-long = sound-fits (j .rows) table (job-run-answer .1) (ends .sound) .long .xc-long ∙ ends .ndim-stays
+
+  -- a point that is found is the centre at the run's end
+  pub found-point : is-found (job-run-answer .0) ≡ true → take (j .n) (kept (is-found (job-run-answer .0)) (job-run-answer .1 .buffers .xc) best) ≡ job-run-answer .1 .buffers .xc
+  found-point f =
+      let xc = job-run-answer .1 .buffers .xc in
+      let t : (is-found (job-run-answer .0) && leb (length xc) (length best)) ≡ true = rw f (le-leb (length xc) (length best) (omega (arith, xc-long))) in
+      ap (λ (l : List Float). take (j .n) l) (is-hit _ (fronted xc best) best t) ∙ ap (λ (k : ℕ). take k (fronted xc best)) (sym xc-long) ∙ front-over best xc
+
+  found-judged : ends .answer .found ≡ true → feasible-for j table (take (j .n) (kept (is-found (job-run-answer .0)) (job-run-answer .1 .buffers .xc) best)) ≡ true
+  found-judged f =
+      ap (λ (x : List Float). feasible-for j table x) (found-point (ap is-found (ends .answer-is) ∙ f))
+      ∙ ap (λ q. is-feasible (judge q)) (sym (asked-again (j .rows) table (job-state j b grad) (job-run-answer .1) (ends .ndim-stays) (ends .limits-stay)))
+      ∙ ends .found-feasible f
+
+  pub job-answered : Answered j table (b .xc) (feas-answer (j .options) (j .rows) table (job-state j b grad) best)
   job-answered =
-      subst (λ z. Answered j table (b .xc) z) (sym is) (record {
-        answer = e .answer;
-        answer-is = e .answer-is;
-        steps-within = omega (arith, e .steps-within);
-        found-feasible = found;
-        belongs = λ k. sym (both-ways (e .answer .found) (λ f. sym (found f)) (λ f. sym (ap not (e .none-feasible f k))));
+      subst (λ z. Answered j table (b .xc) z) (sym job-call) (record {
+        answer = ends .answer;
+        answer-is = ends .answer-is;
+        steps-within = omega (arith, ends .steps-within);
+        found-feasible = found-judged;
+        belongs = λ k. sym (both-ways (ends .answer .found) (λ f. sym (found-judged f)) (λ f. sym (ap not (ends .none-feasible f k))));
       })
-    where
-      s : State
-      s = job-state j b grad
-
-      r : FeasAnswer × State
-      r = feas-run (j .rows) table (j .options .tolerance) (j .options .«max_iters») 0 s
-
-      e : RunEnded (j .rows) table (j .options .«max_iters») 0 s r
-      e = job-ends j h table b grad l
-
-      is : feas-answer (j .options) (j .rows) table s best ≡ (r .0, r .1, kept (is-found (r .0)) (r .1 .buffers .xc) best)
-      is = sym (accepts _ _ (run-tests (j .rows) table s best) (at-next (sym (job-run-sound j h table b grad l)) (held _ _ (le-leb (j .n) (length best) room))) refl)
-
-      xc-long : length (r .1 .buffers .xc) ≡ j .n
-      xc-long = sound-fits (j .rows) table (r .1) (e .sound) .long .xc-long ∙ e .ndim-stays
-
-      point-is : e .answer .found ≡ true → take (j .n) (kept (is-found (r .0)) (r .1 .buffers .xc) best) ≡ r .1 .buffers .xc
-      point-is f =
-          let xc = r .1 .buffers .xc in
-          let t : (is-found (r .0) && leb (length xc) (length best)) ≡ true = rw (e .answer-is, f) (le-leb (length xc) (length best) (omega (arith, xc-long))) in
-          ap (λ (l : List Float). take (j .n) l) (is-hit _ (fronted xc best) best t) ∙ ap (λ (k : ℕ). take k (fronted xc best)) (sym xc-long) ∙ front-over best xc
-
-      found : e .answer .found ≡ true → feasible-for j table (take (j .n) (kept (is-found (r .0)) (r .1 .buffers .xc) best)) ≡ true
-      found f =
-          ap (λ (x : List Float). feasible-for j table x) (point-is f)
-          ∙ ap (λ q. is-feasible (judge q)) (sym (asked-again (j .rows) table s (r .1) (e .ndim-stays) (e .limits-stay)))
-          ∙ e .found-feasible f
 
 -- So every job that `read_job` has read is answered over the slices that it was read into, with scratch and an output of n numbers.
 pub read-answered : (bytes : List ℕ) (table xc mq table′ xc′ mq′ : List Float) (j : Job) → read-job-answer bytes table xc mq ≡ (Read j, table′, xc′, mq′)

@@ -1,5 +1,5 @@
 -- A job that `read_job` has read can be run, and its run ends with an answer. Assumes nothing.
-use Prim.Native.Nat.{ℕ, _*_, _≤_}
+use Prim.Native.Nat.{ℕ, zero, suc, _*_, _≤_}
 use mathlib.Core.Path.{_≡_, refl, sym, ap, _∙_}
 use mathlib.Core.Bool.{Bool, true, false, _&&_}
 use mathlib.Core.List.{List, [], _∷_}
@@ -7,20 +7,21 @@ use native.Mathlib.Nat.{zero-mul, one-mul, add-mul}
 use native.Mathlib.Omega.{arith}
 use borrow.Author.Tests.{leb-true}
 use lib.Dec.{leb}
-use lib.ListN.{length, take, length-append}
+use lib.ListN.{length, take, replicate, length-append}
 use lib.Seq.{length-take-le}
 use lib.Ieee.{Float}
+use Rattle.numbers.specs.F64.{0ᶠ}
 use Rattle.numbers.specs.Pick.{pick}
 use Rattle.numbers.specs.laws.Arr.{length-tab}
 use Rattle.numbers.specs.laws.Pick.{and-parts}
-use Rattle.numbers.specs.Refusal.{_⨾_, unless}
+use Rattle.numbers.specs.Refusal.{unless}
 use Rattle.numbers.specs.laws.Refusal.{both-sound, ask-sound}
 use Rattle.oracles.specs.Ell.{EllBuffers, fresh-ell}
 use Rattle.oracles.specs.laws.EllCalls.{EllLong, ell-makes}
 use Rattle.drivers.specs.Record.{number-at, numbers-at, fields-of, row-count, rows-of, is-row, rows-in, content-of, fronted, place}
 use Rattle.drivers.specs.CuttingPlane.{State, check-state}
 use Rattle.drivers.specs.CuttingPlaneFeas.{feas-run}
-use Rattle.drivers.specs.Job.{FullJob, job-oracle, job-at, full-job-at, job-walk, full-job, job-fault, has-room, room-fault, read-job-answer}
+use Rattle.drivers.specs.Job.{FullJob, job-oracle, job-at, full-job-at, job-walk, full-job, job-fault, has-room, room-fault, read-job-tests, read-job-answer}
 use Rattle.drivers.specs.laws.Job.{JobSound, sound-job}
 use Rattle.drivers.specs.Run.{run-of, new-run-answer, run-state}
 use Rattle.drivers.specs.laws.StepSound.{fits-sound}
@@ -34,7 +35,7 @@ use Rattle.drivers.specs.declared.job.JobAnswer.the-variants.{Read, Refu
 use Rattle.drivers.specs.declared.run.Run.{Run}
 use Rattle.drivers.specs.declared.run.NewRun.the-variants.{Made}
 use Rattle.drivers.specs.Rules.{matrix-place, point-place}
-use Rattle.numbers.specs.laws.Over.{length-over}
+use Rattle.numbers.specs.laws.Over.{length-over, front-over}
 
 -- the slices that a job's numbers are read into
 pub record JobHeld (j : Job) (table xc mq : List Float) : Type 0 where
@@ -87,16 +88,31 @@ room-held f table xc mq l h =
       mq-long = rw (length-over mq 0 (f .matrix) (omega (arith, l .matrix-is, m))) m;
     }
 
+-- numbers at the front of a list are its front
+pub front-is : (xs out : List Float) (n : ℕ) → length xs ≡ n → take n (fronted xs out) ≡ xs
+front-is xs out n h = ap (λ (k : ℕ). take k (fronted xs out)) (sym h) ∙ front-over out xs
+
+-- the front of zeros is zeros
+pub zeros-front : (n m : ℕ) → n ≤ m → take n (replicate m 0ᶠ) ≡ replicate n 0ᶠ
+zeros-front zero m h = refl
+zeros-front (suc n) zero h = absurd (omega (arith, h))
+zeros-front (suc n) (suc m) h = ap (λ (r : List Float). 0ᶠ ∷ r) (zeros-front n m (omega arith))
+
 module _ (bytes : List ℕ) (table xc mq : List Float) where
+  -- a record without a fault, and slices with room for it
+  pub tests-held : read-job-tests bytes table xc mq ≡ Sound
+      → let f = full-job bytes in JobSound (f .job) × JobHeld (f .job) (fronted (f .table) table) (fronted (f .point) xc) (fronted (f .matrix) mq)
+  unfolding full-job-at
+  tests-held e =
+      let f = full-job bytes in
+      let s = both-sound (job-fault bytes) (room-fault (f .job) (length table) (length xc) (length mq)) e in
+      (sound-job bytes (s .0), room-held f table xc mq (full-long bytes (job-walk bytes .1)) (ask-sound (has-room (f .job) (length table) (length xc) (length mq)) Room 0 (s .1)))
+
   -- A job that is read passes every test of a run, and the slices are long enough for its numbers.
   pub job-sound : (j : Job) (table′ xc′ mq′ : List Float) → read-job-answer bytes table xc mq ≡ (Read j, table′, xc′, mq′) → JobSound j × JobHeld j table′ xc′ mq′
   unfolding read-job-answer full-job-at
   job-sound j table′ xc′ mq′ =
-      let f = full-job bytes in
-      let g = room-fault (f .job) (length table) (length xc) (length mq) in
-      go f (job-fault bytes ⨾ g)
-      (λ e. let s = both-sound (job-fault bytes) g e in
-      (sound-job bytes (s .0), room-held f table xc mq (full-long bytes (job-walk bytes .1)) (ask-sound (has-room (f .job) (length table) (length xc) (length mq)) Room 0 (s .1))))
+      go (full-job bytes) (read-job-tests bytes table xc mq) tests-held
     where
       go : (f : FullJob) (fault : Fault) → (fault ≡ Sound → JobSound (f .job) × JobHeld (f .job) (fronted (f .table) table) (fronted (f .point) xc) (fronted (f .matrix) mq))
           → _≡_ {A = JobAnswer × List Float × List Float × List Float}

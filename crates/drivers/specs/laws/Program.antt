@@ -1,33 +1,31 @@
 -- The calls that the program `filterrun` makes print what its definition says. Assumes nothing.
 use Prim.Native.Nat.{ℕ, suc, _+_, _*_, _-_, _≤_, _<_}
 use mathlib.Core.Path.{_≡_, refl, sym, ap, _∙_, subst}
-use mathlib.Core.Bool.{true, false}
 use mathlib.Core.List.{List}
-use native.Mathlib.Nat.{mul-le-mul}
 use native.Mathlib.Omega.{arith}
 use borrow.Author.Tests.{le-leb}
 use lib.ListN.{length, take, replicate, length-replicate}
 use lib.Ieee.{Float}
 use Rattle.numbers.specs.F64.{0ᶠ}
 use Rattle.numbers.specs.declared.refusal.Refusal.{Refusal}
-use Rattle.numbers.specs.Refusal.{_⨾_, unless}
-use Rattle.numbers.specs.laws.Refusal.{held, at-first, at-next, refuses, accepts, by-tests}
+use Rattle.numbers.specs.Refusal.{_⨾_}
+use Rattle.numbers.specs.laws.Refusal.{held, both-sound, refuses, accepts, by-tests}
 use Rattle.oracles.specs.Ell.{EllBuffers}
 use Rattle.drivers.specs.Record.{fronted}
-use Rattle.drivers.specs.Job.{FullJob, job-oracle, options-of, job-at, full-job-at, job-walk, full-job, job-fault, has-room, room-fault, read-into, read-job-answer}
-use Rattle.drivers.specs.laws.Job.{JobSound, n-to, rows-to, sound-job}
-use Rattle.drivers.specs.Trace.{text-room, printed}
-use Rattle.drivers.specs.Run.{input-tests, new-run-answer, opened-run, opened-read, with-slices, run-text, open-answer}
+use Rattle.drivers.specs.Job.{FullJob, job-oracle, options-of, job-at, full-job-at, job-walk, full-job, job-fault}
+use Rattle.drivers.specs.laws.Job.{JobSound, sound-job}
+use Rattle.drivers.specs.laws.Input.{room-for-all, own-faults}
+use Rattle.drivers.specs.Trace.{refused-text, text-room, printed}
+use Rattle.drivers.specs.Input.{input-tests, with-slices, take-job-tests, take-job-answer}
+use Rattle.drivers.specs.Run.{new-run-answer, opened-run, opened-taken, run-text, open-answer}
 use Rattle.numbers.specs.laws.Over.{front-over}
 use Rattle.drivers.specs.laws.Trace.{calls-print, text-in, printed-by}
 use Rattle.drivers.specs.laws.Calls.{calls-enough, run-all-text}
-use Rattle.drivers.specs.laws.JobRuns.{JobHeld, FullLong, full-long, room-held, job-sound, held-slices, job-run, job-run-sound, run-made}
-use Rattle.drivers.specs.Program.{refused-text, first-state, job-text, program-text}
-use Rattle.numbers.specs.declared.refusal.Fault.{Fault}
+use Rattle.drivers.specs.laws.JobRuns.{JobHeld, FullLong, full-long, room-held, tests-held, held-slices, job-run, job-run-sound, run-made, front-is}
+use Rattle.drivers.specs.Program.{first-state, job-text, program-text}
 use Rattle.numbers.specs.declared.refusal.Fault.the-variants.{Sound, At}
-use Rattle.drivers.specs.declared.job.Job.{Job}
-use Rattle.drivers.specs.declared.job.JobAnswer.{JobAnswer}
-use Rattle.drivers.specs.declared.job.JobAnswer.the-variants.{Read, Refused}
+use Rattle.drivers.specs.declared.trace.Source.the-variants.{Only}
+use Rattle.drivers.specs.declared.input.TakenJob.{TakenJob}
 use Rattle.drivers.specs.declared.run.Run.{Run}
 use Rattle.drivers.specs.declared.run.NewRun.{NewRun}
 use Rattle.drivers.specs.declared.run.NewRun.the-variants.{Made, Refused as NoRun}
@@ -35,9 +33,12 @@ use Rattle.drivers.specs.declared.run.Opened.{Opened}
 use Rattle.drivers.specs.declared.run.Opened.the-variants.{Started, Refused as NotStarted}
 use Rattle.drivers.specs.declared.trace.Text.{Text}
 use Rattle.drivers.specs.declared.trace.Text.the-variants.{Bytes, Refused as NoLine}
-use Rattle.numbers.specs.laws.Pick.{is-skip, is-hit}
 
 -- ---- what is printed by `open`, and then by calls of `Run::next`
+
+-- what is opened of what was taken
+abbrev opened : TakenJob × List Float × List Float × List Float × List ℕ → Opened × List Float × List Float × List Float × List ℕ
+opened t = with-slices (t .1) (t .2) (t .3) (opened-taken (t .4) (t .0))
 
 -- what is printed after `open` has answered, by so many calls of `next` at most
 abbrev pub opened-text : ℕ → Opened → List Float → List Float → List Float → List ℕ → List ℕ
@@ -56,7 +57,7 @@ pub record RunHeld (run : Run) (table xc mq : List Float) : Type 0 where
   pub mq-long : run .ell .ndim * run .ell .ndim ≤ length mq
 
 -- a text that is printed where there is room stands at the front
-printed-front : (text out : List ℕ) → 128 ≤ length out → text-in (printed text out .0) (printed text out .1) ≡ text
+pub printed-front : (text out : List ℕ) → 128 ≤ length out → text-in (printed text out .0) (printed text out .1) ≡ text
 unfolding printed
 printed-front text out h =
     ap (λ (r : Text × List ℕ). text-in (r .0) (r .1)) (sym (accepts _ _ (text-room out) (held _ _ (le-leb 128 (length out) h)) refl)) ∙ front-over out text
@@ -66,10 +67,6 @@ limit-small : (bytes places : List ℕ) → job-at bytes places .options .«max_
 unfolding options-of job-at
 limit-small bytes places = omega arith
 
--- numbers at the front of a list are its front
-front-is : (xs out : List Float) (n : ℕ) → length xs ≡ n → take n (fronted xs out) ≡ xs
-front-is xs out n h = ap (λ (k : ℕ). take k (fronted xs out)) (sym h) ∙ front-over out xs
-
 -- equal slices, equal texts; a run at step 0 has all its steps left
 run-text-is : (rows : ℕ) (o : _) (e : _) (tolerance : Float) (m : ℕ) (grad grad-t : List Float) {table table′ mq mq′ xc xc′ : List Float} → table ≡ table′ → mq ≡ mq′ → xc ≡ xc′
     → run-text rows table tolerance (m - 0) 0 (record { oracle = o; ell = e; buffers = record { mq = mq; xc = xc; grad-t = grad-t }; grad = grad })
@@ -77,15 +74,6 @@ run-text-is : (rows : ℕ) (o : _) (e : _) (tolerance : Float) (m : ℕ) (grad g
 run-text-is rows o e tolerance m grad grad-t t q x =
     let z : m - 0 ≡ m = omega arith in
     λ i. run-text rows (t i) tolerance (z i) 0 (record { oracle = o; ell = e; buffers = record { mq = q i; xc = x i; grad-t = grad-t }; grad = grad })
-
--- a sound job fits into the program's slices
-room-enough : (j : Job) → JobSound j → has-room j 32768 32 1024 ≡ true
-room-enough j h =
-    let n = n-to j h in
-    let rows = rows-to j h in
-    let t : j .rows * j .n ≤ 1024 * 32 = mul-le-mul rows n in
-    let m : j .n * j .n ≤ 32 * 32 = mul-le-mul n n in
-    rw (le-leb (j .rows * j .n) 32768 t, le-leb (j .n) 32 n, le-leb (j .n * j .n) 1024 m)
 
 module _ (calls : ℕ) (enough : 65536 ≤ calls) (bytes : List ℕ) (out : List ℕ) (room : 128 ≤ length out) where
   -- the run of a sound job
@@ -105,36 +93,21 @@ module _ (calls : ℕ) (enough : 65536 ≤ calls) (bytes : List ℕ) (out : List
       ∙ run-text-is (j .rows) (job-oracle j) (job-run j .ell) (j .options .tolerance) (j .options .«max_iters») zeros zeros
       (front-is (f .table) table (j .rows * n) (l .table-is)) (front-is (f .matrix) mq (n * n) (l .matrix-is)) (front-is (f .point) xc n (l .point-is))
 
-  -- what is read into slices of the program's lengths has the faults that its definition names
-  read-prints : (table xc mq : List Float) → length table ≡ 32768 → length xc ≡ 32 → length mq ≡ 1024
-      → let j = read-job-answer bytes table xc mq in
-      calls-text calls (with-slices (j .1) (j .2) (j .3) (opened-read out (j .0))) ≡ unless (job-fault bytes) refused-text (job-text (full-job bytes))
-  unfolding read-job-answer full-job-at
-  read-prints table xc mq t x m = go (job-fault bytes) refl
-    where
-      f : FullJob
-      f = full-job bytes
-
-      go : (fault : Fault) → job-fault bytes ≡ fault
-          → let r = read-into f fault table xc mq in
-          calls-text calls (with-slices (r .1) (r .2) (r .3) (opened-read out (r .0))) ≡ unless fault refused-text (job-text f)
-      go Sound e =
-          let h = sound-job bytes e in
-          let k : has-room (f .job) (length table) (length xc) (length mq) ≡ true = rw (t, x, m) (room-enough (f .job) h) in
-          let l = full-long bytes (job-walk bytes .1) in
-          let s : (Sound ⨾ room-fault (f .job) (length table) (length xc) (length mq)) ≡ Sound = is-skip false Sound _ refl ∙ is-hit _ Sound _ k in
-          rw s
-          (ap (λ z. calls-text calls (with-slices (fronted (f .table) table) (fronted (f .point) xc) (fronted (f .matrix) mq) (opened-run out z))) (run-made (f .job) h)
-          ∙ sound-prints f table xc mq l (limit-small bytes (job-walk bytes .1)) h (room-held f table xc mq l k))
-      go (At why place) e = rw (is-hit true (At why place) (room-fault (f .job) (length table) (length xc) (length mq)) refl) (printed-front (refused-text why place) out room)
-
   -- Whatever the input, a program with this room prints its text. 65,536 calls of `next` are more than any step limit, so enough.
   pub program-prints : (table xc mq : List Float) → length table ≡ 32768 → length xc ≡ 32 → length mq ≡ 1024 → calls-text calls (open-answer bytes table xc mq out) ≡ program-text bytes
-  unfolding open-answer program-text
+  unfolding take-job-answer open-answer program-text full-job-at
   program-prints table xc mq t x m =
-      by-tests (λ (r : Opened × List Float × List Float × List Float × List ℕ). calls-text calls r ≡ program-text bytes) (input-tests bytes) _ _
-      (λ why place e. printed-front (refused-text why place) out room ∙ refuses _ _ (input-tests bytes ⨾ _) (at-first _ (sym e)) refl)
-      (λ e. read-prints table xc mq t x m ∙ ap (λ (f : Fault). unless f refused-text (job-text (full-job bytes))) (at-next (sym e) refl))
+      let f = full-job bytes in
+      let own = own-faults bytes table xc mq t x m in
+      let l = full-long bytes (job-walk bytes .1) in
+      by-tests (λ (r : TakenJob × List Float × List Float × List Float × List ℕ). calls-text calls (opened r) ≡ program-text bytes) (take-job-tests bytes table xc mq) _ _
+      (λ why place e. printed-front (refused-text Only why place) out room ∙ refuses _ _ (input-tests bytes ⨾ job-fault bytes) (sym e ∙ own) refl)
+      (λ e.
+      let s : job-fault bytes ≡ Sound = both-sound (input-tests bytes) (job-fault bytes) (sym own ∙ e) .1 in
+      let h = sound-job bytes s in
+      ap (λ z. calls-text calls (with-slices (fronted (f .table) table) (fronted (f .point) xc) (fronted (f .matrix) mq) (opened-run out z))) (run-made (f .job) h)
+      ∙ sound-prints f table xc mq l (limit-small bytes (job-walk bytes .1)) h (room-held f table xc mq l (room-for-all bytes table xc mq t x m s))
+      ∙ accepts _ _ (input-tests bytes ⨾ job-fault bytes) (sym e ∙ own) refl)
 
 -- Its two ways. The answer of `open` is a line that refuses the job ..
 pub refused-prints : (bytes : List ℕ) (table xc mq table′ xc′ mq′ : List Float) (out out′ : List ℕ) (k : ℕ) → length table ≡ 32768 → length xc ≡ 32 → length mq ≡ 1024
@@ -175,35 +148,29 @@ printed-speaks text out h = subst (λ (r : Text × List ℕ). Speaks (NotStarted
 
 run-speaks : (r : NewRun) (out : List ℕ) → 128 ≤ length out → Speaks (opened-run out r .0)
 run-speaks (Made run) out h = tt
-run-speaks (NoRun why) out h = printed-speaks (refused-text why 0) out h
-
-read-speaks : (r : JobAnswer) (out : List ℕ) → 128 ≤ length out → Speaks (opened-read out r .0)
-read-speaks (Read j) out h = run-speaks (new-run-answer j) out h
-read-speaks (Refused why place) out h = printed-speaks (refused-text why place) out h
+run-speaks (NoRun why) out h = printed-speaks (refused-text Only why 0) out h
 
 pub open-speaks : (bytes : List ℕ) (table xc mq : List Float) (out : List ℕ) → 128 ≤ length out → (why : Refusal) → open-answer bytes table xc mq out .0 ≡ NotStarted (NoLine why) → ⊥
-unfolding open-answer
+unfolding take-job-answer open-answer
 open-speaks bytes table xc mq out h why e =
     subst Speaks e
-    (by-tests (λ (r : Opened × List Float × List Float × List Float × List ℕ). Speaks (r .0)) (input-tests bytes) _ _ (λ w place _. printed-speaks (refused-text w place) out h)
-    (λ _. read-speaks (read-job-answer bytes table xc mq .0) out h))
+    (by-tests (λ (r : TakenJob × List Float × List Float × List Float × List ℕ). Speaks (opened r .0)) (take-job-tests bytes table xc mq) _ _
+    (λ w place _. printed-speaks (refused-text Only w place) out h)
+    (λ _. run-speaks (new-run-answer (full-job bytes .job)) out h))
 
 -- A run that goes has its numbers at the fronts of the slices.
 abbrev Held : Opened × List Float × List Float × List Float × List ℕ → Type 0
 Held (Started run, table, xc, mq, out) = RunHeld run table xc mq
 Held (NotStarted text, table, xc, mq, out) = Unit {0}
 
-module _ (bytes : List ℕ) (table xc mq : List Float) (out : List ℕ) where
-  read-held : (r : JobAnswer) (table′ xc′ mq′ : List Float) → read-job-answer bytes table xc mq ≡ (r, table′, xc′, mq′) → Held (with-slices table′ xc′ mq′ (opened-read out r))
-  read-held (Read j) table′ xc′ mq′ e =
-      let h = job-sound bytes table xc mq j table′ xc′ mq′ e in
-      subst (λ z. Held (with-slices table′ xc′ mq′ (opened-run out z))) (sym (run-made j (h .0)))
-      (record { table-long = h .1 .table-long; xc-long = h .1 .xc-long; mq-long = h .1 .mq-long })
-  read-held (Refused why place) table′ xc′ mq′ e = tt
-
-  pub open-held : (run : Run) (table′ xc′ mq′ : List Float) (out′ : List ℕ) → open-answer bytes table xc mq out ≡ (Started run, table′, xc′, mq′, out′) → RunHeld run table′ xc′ mq′
-  unfolding open-answer
-  open-held run table′ xc′ mq′ out′ e =
-      subst Held e
-      (by-tests Held (input-tests bytes) _ _ (λ why place _. tt)
-      (λ _. let j = read-job-answer bytes table xc mq in read-held (j .0) (j .1) (j .2) (j .3) refl))
+pub open-held : (bytes : List ℕ) (table xc mq : List Float) (out : List ℕ) (run : Run) (table′ xc′ mq′ : List Float) (out′ : List ℕ)
+    → open-answer bytes table xc mq out ≡ (Started run, table′, xc′, mq′, out′) → RunHeld run table′ xc′ mq′
+unfolding take-job-answer open-answer
+open-held bytes table xc mq out run table′ xc′ mq′ out′ e =
+    let f = full-job bytes in
+    subst Held e
+    (by-tests (λ (r : TakenJob × List Float × List Float × List Float × List ℕ). Held (opened r)) (take-job-tests bytes table xc mq) _ _ (λ why place _. tt)
+    (λ s.
+    let h = tests-held bytes table xc mq (both-sound (input-tests bytes) _ s .1) in
+    subst (λ z. Held (with-slices (fronted (f .table) table) (fronted (f .point) xc) (fronted (f .matrix) mq) (opened-run out z))) (sym (run-made (f .job) (h .0)))
+    (record { table-long = h .1 .table-long; xc-long = h .1 .xc-long; mq-long = h .1 .mq-long })))

@@ -26,7 +26,9 @@ use Rattle.oracles.specs.declared.lowpass_oracle.Group.{Group}
 use Rattle.oracles.specs.declared.lowpass_oracle.Group.the-variants.{Pass, Stop, Middle, Sign}
 use Rattle.drivers.specs.Text.{joined, hex}
 use Rattle.drivers.specs.laws.Text.{length-decimal, length-hex, most-more, most-on, most-none, put-front, joined-append, joined-none, put-all}
-use Rattle.drivers.specs.Trace.{group-word, row-text, side-word, beta-pieces, status-word, answer-pieces, outcome-word, last-pieces, ended-pieces, refused-pieces, text-room, printed, step-text}
+use Rattle.drivers.specs.Trace.{group-word, row-text, side-word, beta-pieces, status-word, answer-pieces, outcome-word, last-pieces, ended-pieces, source-word, refused-text, text-room, printed, step-text}
+use Rattle.drivers.specs.declared.trace.Source.{Source}
+use Rattle.drivers.specs.declared.trace.Source.the-variants.{Only, Job, Answer as OfAnswer}
 use Rattle.drivers.specs.Run.{run-state, run-at, step-printed, limit-printed, next-tests, next-answer, run-text}
 use Rattle.drivers.specs.CuttingPlane.{State, check-state}
 use Rattle.drivers.specs.CuttingPlaneFeas.{feas-step, goes-on, feas-ended, feas-run}
@@ -119,11 +121,16 @@ ended-most : (a : FeasAnswer) → length (joined (ended-pieces a)) ≤ 27
 ended-most (Ended a) = last-most a
 ended-most (NotRun why) = omega (arith, most-none)
 
-pub refused-most : (why : Refusal) (place : ℕ) → length (joined (refused-pieces why place)) ≤ 50
-refused-most why place =
-    most-more 8 42 _ _ (omega arith)
-    (most-more 20 22 _ _ (length-decimal (refusal-number why))
-    (most-more 1 21 _ _ (omega arith) (most-more 20 1 _ _ (length-decimal place) (most-more 1 0 _ _ (omega arith) most-none))))
+source-most : (source : Source) → length (source-word source) ≤ 8
+source-most Only = omega arith
+source-most Job = omega arith
+source-most OfAnswer = omega arith
+
+pub refused-most : (source : Source) (why : Refusal) (place : ℕ) → length (refused-text source why place) ≤ 57
+refused-most source why place =
+    most-more 8 49 _ _ (omega arith)
+    (most-more 20 29 _ _ (length-decimal (refusal-number why))
+    (most-more 1 28 _ _ (omega arith) (most-more 20 8 _ _ (length-decimal place) (most-more 8 0 _ _ (source-most source) most-none))))
 
 pub step-most : (k : ℕ) (more : Bool) (answer : StepAnswer) → length (step-text k more answer) ≤ 125
 unfolding step-text

@@ -21,7 +21,8 @@ use Rattle.drivers.specs.Record.{size-fault, after, number-at, fields-fr
 use Rattle.drivers.specs.CuttingPlaneFeas.{feas-step}
 use Rattle.drivers.specs.Text.{bytes-of, joined, digit-char, digits-of, digit-count-to, digit-count, decimal, hex}
 use Rattle.drivers.specs.Job.{signed, options-of, job-at, full-job-at, job-fault}
-use Rattle.drivers.specs.Run.{input-tests, run-text}
+use Rattle.drivers.specs.Input.{input-tests}
+use Rattle.drivers.specs.Run.{run-text}
 use Rattle.drivers.specs.Trace.{step-text}
 use Rattle.drivers.specs.Program.{first-state, job-text, program-text}
 use Rattle.drivers.specs.Rules.{rules, rule-at, index-in, index-of, rule-length}

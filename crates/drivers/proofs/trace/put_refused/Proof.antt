@@ -8,8 +8,8 @@ use Rattle.drivers.proofs.trace.put_refused.Tie as tie
 
 returns : tie.Need-returns
 returns c =
-    let text = c .before .before in
-    let digits = text .before .before .before .before .before in
+    let source = c .before .before in
+    let digits = source .before .before .before .before in
     let text2 = digits .before .before .before .before in
     let digits2 = text2 .before .before .before .before .before in
     let number = digits2 .before in
@@ -18,7 +18,7 @@ returns c =
     (put-then _ _ _ _ _ _ (put-same _ _ _ _ _ (digits2 .put-decimal .ensures) (ap decimal (number .number .ensures)))
     (put-then _ _ _ _ _ _ (text2 .put-text2 .ensures)
     (put-then _ _ _ _ _ _ (digits .put-decimal2 .ensures)
-    (put-one _ _ _ _ (text .put-text3 .ensures)))))
+    (put-one _ _ _ _ (source .put-source .ensures)))))
 
 pub put-refused-spec : {M : Type 1} → statement M
 put-refused-spec =
@@ -26,5 +26,5 @@ put-refused-spec =
     (tie.spec
     (λ c. search needs) (λ c κs. search needs) (λ c κs. search needs) (λ c. search needs)
     (λ c κs. search needs) (λ c. search needs) (λ c κs. search needs) (λ c κs. search needs)
-    (λ c. search needs) (λ c κs. search needs) (λ c. search needs)
+    (λ c κs. search needs) (λ c. search needs)
     returns)

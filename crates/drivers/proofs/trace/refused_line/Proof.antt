@@ -11,7 +11,7 @@ returns-2 c =
     let test = refused .before .before in
     let start = test .before .before in
     let a = start .args in
-    printed-in _ _ _ (test .if1 .left) (omega (arith, refused-most (a .why) (a .place))) (refused .put-refused .ensures)
+    printed-in _ _ _ (test .if1 .left) (omega (arith, refused-most (a .source) (a .why) (a .place))) (refused .put-refused .ensures)
 
 pub refused-line-spec : {M : Type 1} → statement M
 refused-line-spec =
