@@ -1,11 +1,16 @@
 // A job from standard input is run by the steps of `cutting_plane_feas` (`Run::next`), and the text of each is handed to standard output as it comes.
-use crate::mark::write;
+use drivers::input::INPUT_ROOM;
 use drivers::run::Opened;
 use drivers::run::Printed;
 use drivers::run::Run;
 use drivers::run::open;
 use drivers::trace::Text;
+use libc::STDIN_FILENO;
+use streams::input::Input;
+use streams::input::read_all;
+use streams::output::hand_next;
 ghost use mathlib.Core.Path.{_≡_};
+ghost use mathlib.Core.List.{[]};
 ghost use Rattle.oracles.specs.Ell.{ell-buffers};
 ghost use Prim.Native.Nat.{_*_, _≤_};
 ghost use lib.ListN.{length, take, replicate};
@@ -15,20 +20,21 @@ ghost use Rattle.drivers.specs.Program.{program-text};
 ghost use Rattle.drivers.specs.laws.Program.{RunHeld};
 ghost use Rattle.drivers.specs.laws.Trace.{text-in};
 ghost use Rattle.drivers.specs.laws.Calls.{run-all-answer, run-all-text};
-ghost use Rattle.runner.specs.Mark.{marked, mark-of};
+ghost use Rattle.streams.specs.Mark.{marked, mark-of};
+ghost use Rattle.streams.specs.Input.{Within, of-read};
 ghost use Rattle.runner.specs.Run.{Ran};
 
 // Writes the text at the front of `out`.
-fn write_text(mark: &mut u64, out: &[u8], text: Text)
+fn write_text(mark: &mut u64, has_failed: &mut bool, out: &[u8], text: Text)
     ensures { λ _. ⌜ now (mark .exit) ≡ marked (now (mark .entry)) (text-in text (now (out .entry))) ⌝ }
 {
     match text {
         Text::Bytes(count) => {
             if out.len() < count {
-                write(mark, out);
+                hand_next(mark, has_failed, out);
                 return;
             }
-            write(mark, &out[..count]);
+            hand_next(mark, has_failed, &out[..count]);
         }
         Text::Refused(_) => {}
     }
@@ -37,6 +43,7 @@ fn write_text(mark: &mut u64, out: &[u8], text: Text)
 // The next step, whose text is written.
 fn step(
     mark: &mut u64,
+    has_failed: &mut bool,
     run: Run,
     table: &[f64],
     mq: &mut [f64],
@@ -51,13 +58,14 @@ fn step(
 {
     let printed = run.next(table, mq, xc, grad, grad_t, out);
     let text = printed.text;
-    write_text(mark, out, text);
+    write_text(mark, has_failed, out, text);
     printed
 }
 
 // Takes steps until there is no more to come, each text written; what the last one left.
 fn run_all(
     mark: &mut u64,
+    has_failed: &mut bool,
     first: Run,
     table: &[f64],
     mq: &mut [f64],
@@ -71,10 +79,10 @@ fn run_all(
     ensures { λ r. ⌜ now (mark .exit) ≡ marked (now (mark .entry))
         (run-all-text first (now (table .entry)) (ell-buffers (now (mq .entry)) (now (xc .entry)) (now («grad_t» .entry))) (now (grad .entry)) (now (out .entry))) ⌝ }
 {
-    let mut printed = step(mark, first, table, mq, xc, grad, grad_t, out);
+    let mut printed = step(mark, has_failed, first, table, mq, xc, grad, grad_t, out);
     while printed.more {
         let run = printed.run;
-        printed = step(mark, run, table, mq, xc, grad, grad_t, out);
+        printed = step(mark, has_failed, run, table, mq, xc, grad, grad_t, out);
     }
     printed
 }
@@ -82,6 +90,7 @@ fn run_all(
 // The run on the fronts of the slices that its job fills: rows × n, n × n and n numbers.
 fn run_sized(
     mark: &mut u64,
+    has_failed: &mut bool,
     run: Run,
     table: &[f64],
     mq: &mut [f64],
@@ -101,6 +110,7 @@ fn run_sized(
     let square = n * n;
     run_all(
         mark,
+        has_failed,
         run,
         &table[..numbers],
         &mut mq[..square],
@@ -114,6 +124,7 @@ fn run_sized(
 // A job's run, in slices that are long enough for every job.
 fn run_lent(
     mark: &mut u64,
+    has_failed: &mut bool,
     bytes: &[u8],
     table: &mut [f64; 32768],
     mq: &mut [f64; 1024],
@@ -127,8 +138,10 @@ fn run_lent(
 {
     let opened = open(bytes, table, xc, mq, out);
     match opened {
-        Opened::Started(run) => run_sized(mark, run, table, mq, xc, grad, grad_t, out),
-        Opened::Refused(text) => write_text(mark, out, text),
+        Opened::Started(run) => {
+            run_sized(mark, has_failed, run, table, mq, xc, grad, grad_t, out)
+        }
+        Opened::Refused(text) => write_text(mark, has_failed, out, text),
     }
 }
 
@@ -137,6 +150,7 @@ pub fn run_input(bytes: &[u8]) -> u64
     ensures { λ r. ⌜ r ≡ mark-of (program-text (now (bytes .entry))) ⌝ }
 {
     let mut mark = 1;
+    let mut has_failed = false;
     let mut table = [0.0f64; 32768];
     let mut mq = [0.0f64; 1024];
     let mut xc = [0.0f64; 32];
@@ -145,6 +159,7 @@ pub fn run_input(bytes: &[u8]) -> u64
     let mut out = [0u8; 128];
     run_lent(
         &mut mark,
+        &mut has_failed,
         bytes,
         &mut table,
         &mut mq,
@@ -156,11 +171,22 @@ pub fn run_input(bytes: &[u8]) -> u64
     mark
 }
 
-// Reads standard input, and one byte more than a job may have, so that a long one is known.
+// Runs the job that was read, if the input could be read.
+fn run_read(bytes: &[u8], read: Input) -> u64
+    requires { ⌜ Within read (length (now bytes)) ⌝ }
+    ensures { λ r. ⌜ r ≡ mark-of (of-read read (now (bytes .entry)) program-text []) ⌝ }
+{
+    match read {
+        Input::Bytes(count) => run_input(&bytes[..count]),
+        Input::Failed => 1,
+    }
+}
+
+// Runs the job that stands on standard input.
 pub fn run_stdin() -> u64
     ensures { λ r. ⌜ Ran r ⌝ }
 {
-    let mut bytes = [0u8; 65537];
-    let count = io::read_full(0, &mut bytes);
-    run_input(&bytes[..count])
+    let mut bytes = [0u8; INPUT_ROOM];
+    let read = read_all(STDIN_FILENO, b"standard input", &mut bytes);
+    run_read(&bytes, read)
 }

@@ -7,8 +7,8 @@ use lib.ListN.{length}
 use lib.Ieee.{Float}
 use Rattle.drivers.specs.declared.run.Printed.{Printed}
 use Rattle.drivers.specs.laws.Calls.{last-done, calls-fewer, calls-turn, all-from, texts-done, texts-turn, texts-from, CallEnd, calls-after, last-of, text-of, texts-after}
-use Rattle.runner.specs.Mark.{marked}
-use Rattle.runner.specs.laws.Mark.{marked-append, marked-none}
+use Rattle.streams.specs.Mark.{marked}
+use Rattle.streams.specs.laws.Mark.{marked-append, marked-none}
 use Rattle.runner.proofs.run.run_all.Statement.{statement}
 use Rattle.runner.proofs.run.run_all.Tie as tie
 
@@ -28,46 +28,46 @@ text-joins : (table : List Float) (r : CallEnd) (mark mark′ : ℕ) → mark′
 text-joins table r mark mark′ e = ap (all-after table r) e ∙ marked-append mark (text-of r) (texts-after table r)
 
 abbrev Inv-loop : tie.InvT-loop
-Inv-loop mark₀ table mq₀ xc₀ grad₀ grad-t₀ out₀ printed₀ mark mq xc grad grad-t out printed =
+Inv-loop mark₀ has-failed₀ table mq₀ xc₀ grad₀ grad-t₀ out₀ printed₀ mark has-failed mq xc grad grad-t out printed =
     let r = left-by mq xc grad grad-t out printed in
     let r₀ = left-by mq₀ xc₀ grad₀ grad-t₀ out₀ printed₀ in
     (last-after table r ≡ last-after table r₀) × (all-after table r mark ≡ all-after table r₀ mark₀)
     × (length mq ≡ length mq₀) × (length xc ≡ length xc₀) × (length grad ≡ length grad₀) × (length grad-t ≡ length grad-t₀) × (length out ≡ length out₀)
 
 abbrev μ-loop : tie.MeasureT-loop
-μ-loop mark₀ table mq₀ xc₀ grad₀ grad-t₀ out₀ printed₀ mark mq xc grad grad-t out printed = calls-after printed
+μ-loop mark₀ has-failed₀ table mq₀ xc₀ grad₀ grad-t₀ out₀ printed₀ mark has-failed mq xc grad grad-t out printed = calls-after printed
 
 loop-less : tie.Need-loop-less Inv-loop μ-loop
 loop-less c =
-    let l = c .before .before .before .before .before .before .before .before .before .before .before .before .before .before .before .before .before .before .before .loop in
-    let table = c .before .before .before .before .before .before .before .before .before .before .before .before .before .before .before .before .before .before .before .before .before .before .before .before .before .before .before .before .before .before .before .before .before .before .before .before .before .before .before .before .before .before .before .args .table .now in
+    let l = c .before .before .before .before .before .before .before .before .before .before .before .before .before .before .before .before .before .before .before .before .loop in
+    let table = c .before .before .before .before .before .before .before .before .before .before .before .before .before .before .before .before .before .before .before .before .before .before .before .before .before .before .before .before .before .before .before .before .before .before .before .before .before .before .before .before .before .before .before .before .before .args .table .now in
     let f = c .before .before .before .before .before .before .before .before .before .before .step2 in
-    let more = c .before .before .before .before .before .before .before .before .before .before .before .before .before .before .before .before .before .before .loop-test .taken in
+    let more = c .before .before .before .before .before .before .before .before .before .before .before .before .before .before .before .before .before .before .before .loop-test .taken in
     let r = left-by (l .mq) (l .xc) (l .grad) (l .grad-t) (l .out) (l .printed) in
     subst (λ (q : CallEnd). calls-after (q .0) < calls-after (r .0)) (sym (f .ensures .0)) (calls-fewer table r more)
 
 loop-again : tie.Need-loop-again Inv-loop μ-loop
 loop-again c =
-    let l = c .before .before .before .before .before .before .before .before .before .before .before .before .before .before .before .before .before .before .before .loop in
-    let table = c .before .before .before .before .before .before .before .before .before .before .before .before .before .before .before .before .before .before .before .before .before .before .before .before .before .before .before .before .before .before .before .before .before .before .before .before .before .before .before .before .before .before .before .args .table .now in
+    let l = c .before .before .before .before .before .before .before .before .before .before .before .before .before .before .before .before .before .before .before .before .loop in
+    let table = c .before .before .before .before .before .before .before .before .before .before .before .before .before .before .before .before .before .before .before .before .before .before .before .before .before .before .before .before .before .before .before .before .before .before .before .before .before .before .before .before .before .before .before .before .before .args .table .now in
     let f = c .before .before .before .before .before .before .before .before .before .before .step2 in
-    let more = c .before .before .before .before .before .before .before .before .before .before .before .before .before .before .before .before .before .before .loop-test .taken in
+    let more = c .before .before .before .before .before .before .before .before .before .before .before .before .before .before .before .before .before .before .before .loop-test .taken in
     let r = left-by (l .mq) (l .xc) (l .grad) (l .grad-t) (l .out) (l .printed) in (
       ap (last-after table) (f .ensures .0) ∙ sym (calls-turn table r more) ∙ l .inv .0,
       text-joins table _ (l .mark) _ (f .ensures .1)
           ∙ ap (λ (q : CallEnd). marked (l .mark) (text-of q ++ texts-after table q)) (f .ensures .0)
           ∙ ap (marked (l .mark)) (sym (texts-turn table r more)) ∙ l .inv .1,
-      f .kept .1 .1 .1 .0 ∙ l .inv .2,
-      f .kept .1 .1 .1 .1 .0 ∙ l .inv .3,
-      f .kept .1 .1 .1 .1 .1 .0 ∙ l .inv .4,
-      f .kept .1 .1 .1 .1 .1 .1 .0 ∙ l .inv .5,
-      f .kept .1 .1 .1 .1 .1 .1 .1 .0 ∙ l .inv .6,
+      f .kept .1 .1 .1 .1 .0 ∙ l .inv .2,
+      f .kept .1 .1 .1 .1 .1 .0 ∙ l .inv .3,
+      f .kept .1 .1 .1 .1 .1 .1 .0 ∙ l .inv .4,
+      f .kept .1 .1 .1 .1 .1 .1 .1 .0 ∙ l .inv .5,
+      f .kept .1 .1 .1 .1 .1 .1 .1 .1 .0 ∙ l .inv .6,
     )
 
 returns : tie.Need-returns Inv-loop μ-loop
 returns c =
     let l = c .before .loop in
-    let a = c .before .before .before .before .before .before .before .before .before .before .before .before .before .before .before .before .before .before .before .before .before .before .before .before .before .args in
+    let a = c .before .before .before .before .before .before .before .before .before .before .before .before .before .before .before .before .before .before .before .before .before .before .before .before .before .before .args in
     let table = a .table .now in
     let f = c .before .before .before .before .before .before .before .before .before .before .before .before .step in
     let r = left-by (l .mq) (l .xc) (l .grad) (l .grad-t) (l .out) (l .printed) in

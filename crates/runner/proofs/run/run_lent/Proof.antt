@@ -1,7 +1,7 @@
 -- `runner::run::run_lent` meets its contract: the calls of `open` and of the run print the program's text. Assumes nothing.
-use mathlib.Core.Path.{_≡_, refl, sym, ap, _∙_}
-use mathlib.Core.List.{List, _∷_}
-use Prim.Native.Nat.{ℕ, zero, suc, _*_, _≤_}
+use mathlib.Core.Path.{_≡_, sym, ap, _∙_}
+use mathlib.Core.List.{List}
+use Prim.Native.Nat.{ℕ, _*_, _≤_}
 use native.Mathlib.Omega.{arith}
 use borrow.Author.Needs.{needs}
 use lib.ListN.{length, take, replicate}
@@ -14,15 +14,10 @@ use Rattle.drivers.specs.declared.run.Run.{Run}
 use Rattle.drivers.specs.declared.run.Opened.{Opened}
 use Rattle.drivers.specs.declared.run.Opened.the-variants.{Started}
 use Rattle.drivers.specs.laws.Calls.{run-all-text}
-use Rattle.runner.specs.Mark.{marked}
+use Rattle.drivers.specs.laws.JobRuns.{zeros-front}
+use Rattle.streams.specs.Mark.{marked}
 use Rattle.runner.proofs.run.run_lent.Statement.{statement}
 use Rattle.runner.proofs.run.run_lent.Tie as tie
-
--- the front of zeros
-zeros-front : (n m : ℕ) → n ≤ m → take n (replicate m 0ᶠ) ≡ replicate n 0ᶠ
-zeros-front zero m h = refl
-zeros-front (suc n) zero h = absurd (omega (arith, h))
-zeros-front (suc n) (suc m) h = ap (λ (r : List Float). 0ᶠ ∷ r) (zeros-front n m (omega arith))
 
 -- the answer of `open`, once a branch knows which it is
 as-known : {p q : Opened} {table xc mq : List Float} {out : List ℕ} {r : Opened × List Float × List Float × List Float × List ℕ} → (p, table, xc, mq, out) ≡ r → p ≡ q
@@ -43,28 +38,28 @@ module _ (bytes : List ℕ) (table xc mq : List Float) (out : List ℕ) (t : len
 
 run-sized-requires : tie.Need-run-sized-requires
 run-sized-requires c κs =
-    let a = c .before .before .before .before .before .before .before .before .before .before .before .before .before .before .before .before .before .args in
-    let o = c .before .before .before .before .before .before .before .before .before .before .before .«open» in
-    let run = c .before .before .before .before .before .before .before .before .before .opened .given in
+    let a = c .before .before .before .before .before .before .before .before .before .before .before .before .before .before .before .before .before .before .args in
+    let o = c .before .before .before .before .before .before .before .before .before .before .before .before .«open» in
+    let run = c .before .before .before .before .before .before .before .before .before .before .opened .given in
     let h = open-held (a .bytes .now) (a .table .now) (a .xc .now) (a .mq .now) (a .out .now) (run .0 .0) (o .last .1 .0) (o .last .1 .1 .0) (o .last .1 .1 .1 .0) (o .last .1 .1 .1 .1 .0) (as-known (o .ensures) (run .1)) in
     (h, omega (arith, h .xc-long), omega (arith, h .xc-long))
 
 returns : tie.Need-returns
 returns c =
-    let a = c .before .before .before .before .before .before .before .before .before .before .before .before .before .before .before .before .before .before .args in
-    let o = c .before .before .before .before .before .before .before .before .before .before .before .before .«open» in
-    let run = c .before .before .before .before .before .before .before .before .before .before .opened .given in
+    let a = c .before .before .before .before .before .before .before .before .before .before .before .before .before .before .before .before .before .before .before .args in
+    let o = c .before .before .before .before .before .before .before .before .before .before .before .before .before .«open» in
+    let run = c .before .before .before .before .before .before .before .before .before .before .before .opened .given in
     c .run-sized .ensures ∙ ap (marked (a .mark .now))
     (run-prints (a .bytes .now) (a .table .now) (a .xc .now) (a .mq .now) (a .out .now) (search needs) (search needs) (search needs) (search needs)
     (run .0 .0) (o .last .1 .0) (o .last .1 .1 .0) (o .last .1 .1 .1 .0) (a .grad .now) (a .grad-t .now) (o .last .1 .1 .1 .1 .0)
     (as-known (o .ensures) (run .1))
-    (search needs) (c .before .before .before .before .before .before .before .before .before .before .before .before .before .before .before .before .before .before .pre .0) (c .before .before .before .before .before .before .before .before .before .before .before .before .before .before .before .before .before .before .pre .1))
+    (search needs) (c .before .before .before .before .before .before .before .before .before .before .before .before .before .before .before .before .before .before .before .pre .0) (c .before .before .before .before .before .before .before .before .before .before .before .before .before .before .before .before .before .before .before .pre .1))
 
 returns-2 : tie.Need-returns-2
 returns-2 c =
-    let a = c .before .before .before .before .before .before .before .before .before .before .before .before .before .args in
-    let o = c .before .before .before .before .before .before .before .«open» in
-    let text = c .before .before .before .before .before .opened2 .given in
+    let a = c .before .before .before .before .before .before .before .before .before .before .before .before .before .before .args in
+    let o = c .before .before .before .before .before .before .before .before .«open» in
+    let text = c .before .before .before .before .before .before .opened2 .given in
     c .write-text .ensures ∙ ap (marked (a .mark .now))
     (sym (ap (calls-text 65536) (as-known (o .ensures) (text .1)))
     ∙ program-prints 65536 (omega arith) (a .bytes .now) (a .out .now) (search needs) (a .table .now) (a .xc .now) (a .mq .now) (search needs) (search needs) (search needs))

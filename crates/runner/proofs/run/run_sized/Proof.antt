@@ -9,7 +9,7 @@ use lib.Seq.{length-take-le}
 use lib.Ieee.{Float}
 use Rattle.drivers.specs.declared.run.Run.{Run}
 use Rattle.drivers.specs.laws.Calls.{run-all-text}
-use Rattle.runner.specs.Mark.{marked}
+use Rattle.streams.specs.Mark.{marked}
 use Rattle.runner.proofs.run.run_sized.Statement.{statement}
 use Rattle.runner.proofs.run.run_sized.Tie as tie
 
@@ -28,25 +28,25 @@ mul-square : tie.Need-mul-square
 mul-square c = record { fits = rw (c .before .n .ensures) (omega (arith, c .before .before .before .before .before .before .before .before .pre .0 .mq-long)) }
 
 slice-aggregate-run-all : tie.Need-slice-aggregate-run-all
-slice-aggregate-run-all c = sym (length-take-le _ (c .before .before .before .before .before .before .before .before .before .before .args .table .now) (rw (c .before .before .rows .ensures, c .before .before .before .n .ensures) (c .before .before .before .before .before .before .before .before .before .before .pre .0 .table-long)))
+slice-aggregate-run-all c = sym (length-take-le _ (c .before .before .before .before .before .before .before .before .before .before .before .args .table .now) (rw (c .before .before .before .rows .ensures, c .before .before .before .before .n .ensures) (c .before .before .before .before .before .before .before .before .before .before .before .pre .0 .table-long)))
 
 slice-aggregate-run-all-2 : tie.Need-slice-aggregate-run-all-2
-slice-aggregate-run-all-2 c = sym (length-take-le _ (c .before .before .before .before .before .before .before .before .before .before .before .args .mq .now) (rw (c .before .before .before .before .n .ensures) (c .before .before .before .before .before .before .before .before .before .before .before .pre .0 .mq-long)))
+slice-aggregate-run-all-2 c = sym (length-take-le _ (c .before .before .before .before .before .before .before .before .before .before .before .before .args .mq .now) (rw (c .before .before .before .before .before .n .ensures) (c .before .before .before .before .before .before .before .before .before .before .before .before .pre .0 .mq-long)))
 
 slice-aggregate-run-all-3 : tie.Need-slice-aggregate-run-all-3
-slice-aggregate-run-all-3 c = sym (length-take-le _ (c .before .before .before .before .before .before .before .before .before .before .before .before .args .xc .now) (rw (c .before .before .before .before .before .n .ensures) (c .before .before .before .before .before .before .before .before .before .before .before .before .pre .0 .xc-long)))
+slice-aggregate-run-all-3 c = sym (length-take-le _ (c .before .before .before .before .before .before .before .before .before .before .before .before .before .args .xc .now) (rw (c .before .before .before .before .before .before .n .ensures) (c .before .before .before .before .before .before .before .before .before .before .before .before .before .pre .0 .xc-long)))
 
 slice-aggregate-run-all-4 : tie.Need-slice-aggregate-run-all-4
-slice-aggregate-run-all-4 c = sym (length-take-le _ (c .before .before .before .before .before .before .before .before .before .before .before .before .before .args .grad .now) (rw (c .before .before .before .before .before .before .n .ensures) (c .before .before .before .before .before .before .before .before .before .before .before .before .before .pre .1)))
+slice-aggregate-run-all-4 c = sym (length-take-le _ (c .before .before .before .before .before .before .before .before .before .before .before .before .before .before .args .grad .now) (rw (c .before .before .before .before .before .before .before .n .ensures) (c .before .before .before .before .before .before .before .before .before .before .before .before .before .before .pre .1)))
 
 slice-aggregate-run-all-5 : tie.Need-slice-aggregate-run-all-5
-slice-aggregate-run-all-5 c = sym (length-take-le _ (c .before .before .before .before .before .before .before .before .before .before .before .before .before .before .args .grad-t .now) (rw (c .before .before .before .before .before .before .before .n .ensures) (c .before .before .before .before .before .before .before .before .before .before .before .before .before .before .pre .2)))
+slice-aggregate-run-all-5 c = sym (length-take-le _ (c .before .before .before .before .before .before .before .before .before .before .before .before .before .before .before .args .grad-t .now) (rw (c .before .before .before .before .before .before .before .before .n .ensures) (c .before .before .before .before .before .before .before .before .before .before .before .before .before .before .before .pre .2)))
 
 returns : tie.Need-returns
 returns c =
-    let a = c .before .before .before .before .before .before .before .before .before .before .before .before .before .before .before .before .before .before .before .before .before .before .before .before .before .before .args in
+    let a = c .before .before .before .before .before .before .before .before .before .before .before .before .before .before .before .before .before .before .before .before .before .before .before .before .before .before .before .args in
     c .before .before .before .before .before .before .before .before .before .before .run-all .ensures .1
-    ∙ ap (marked (a .mark .now)) (fronts-text (a .run) _ _ (a .table .now) (a .mq .now) (a .xc .now) (a .grad .now) (a .grad-t .now) (a .out .now) (c .before .before .before .before .before .before .before .before .before .before .before .before .before .before .before .before .before .before .before .n .ensures) (c .before .before .before .before .before .before .before .before .before .before .before .before .before .before .before .before .before .before .rows .ensures))
+    ∙ ap (marked (a .mark .now)) (fronts-text (a .run) _ _ (a .table .now) (a .mq .now) (a .xc .now) (a .grad .now) (a .grad-t .now) (a .out .now) (c .before .before .before .before .before .before .before .before .before .before .before .before .before .before .before .before .before .before .before .before .n .ensures) (c .before .before .before .before .before .before .before .before .before .before .before .before .before .before .before .before .before .before .before .rows .ensures))
 
 pub run-sized-spec : {M : Type 1} → statement M
 run-sized-spec =
@@ -56,7 +56,7 @@ run-sized-spec =
     mul-numbers
     mul-square
     slice-aggregate-run-all
-    (λ c. rw (c .before .before .before .n .ensures) (c .before .before .before .before .before .before .before .before .before .before .pre .0 .mq-long))
+    (λ c. rw (c .before .before .before .before .n .ensures) (c .before .before .before .before .before .before .before .before .before .before .before .pre .0 .mq-long))
     slice-aggregate-run-all-2
     (λ c. search needs)
     slice-aggregate-run-all-3

@@ -5,7 +5,7 @@ use mathlib.Core.List.{List, [], _∷_, _++_}
 use native.Mathlib.Numerals.{add-one}
 use lib.ListN.{length, getD, drop, drop-of-length-le}
 use lib.Seq.{drop-cons}
-use Rattle.runner.specs.Mark.{digit-on, marked}
+use Rattle.streams.specs.Mark.{digit-on, marked}
 
 -- a turn of the loop: what is left of a text loses its first byte ..
 pub marked-turn : (mark : ℕ) (text : List ℕ) (i : ℕ) → i < length text → marked mark (drop i text) ≡ marked (digit-on mark (getD text i 0)) (drop (i + 1) text)

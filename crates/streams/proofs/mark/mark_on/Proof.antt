@@ -1,13 +1,13 @@
--- `runner::mark::mark_on` meets its contract: what is left of the text still gives the whole text's number. Assumes nothing.
+-- `streams::mark::mark_on` meets its contract: what is left of the text still gives the whole text's number. Assumes nothing.
 use mathlib.Core.Path.{_≡_, refl, sym, _∙_}
 use Prim.Native.Nat.{_-_, _≤_}
 use native.Mathlib.Omega.{arith}
 use borrow.Author.Needs.{needs}
 use lib.ListN.{length, drop}
-use Rattle.runner.specs.Mark.{marked}
-use Rattle.runner.specs.laws.Mark.{marked-turn, marked-done}
-use Rattle.runner.proofs.mark.mark_on.Statement.{statement}
-use Rattle.runner.proofs.mark.mark_on.Tie as tie
+use Rattle.streams.specs.Mark.{marked}
+use Rattle.streams.specs.laws.Mark.{marked-turn, marked-done}
+use Rattle.streams.proofs.mark.mark_on.Statement.{statement}
+use Rattle.streams.proofs.mark.mark_on.Tie as tie
 
 abbrev Inv-loop : tie.InvT-loop
 Inv-loop from text mark₀ i₀ mark i = (i ≤ length text) × (marked mark (drop i text) ≡ marked from text)

@@ -1,4 +1,4 @@
--- The mark of what has been handed to standard output: one number of all its bytes, which contracts can name. Definitions only.
+-- The mark of what has been handed over: one number of all its bytes, which contracts can name. Definitions only.
 use Prim.Native.Nat.{ℕ, _+_, _*_, _%_}
 use mathlib.Core.List.{List, [], _∷_}
 

@@ -1,0 +1,4 @@
+pub mod Mark
+pub mod Output
+pub mod Input
+pub mod laws
