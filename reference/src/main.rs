@@ -17,7 +17,7 @@ mod words;
 use ellalgo_rs::arr::Arr;
 use layers::{Layer, LAYERS};
 use std::env;
-use std::io::{self, BufReader, BufWriter, ErrorKind};
+use std::io::{self, BufReader, BufWriter, ErrorKind, Write};
 use std::process::ExitCode;
 
 const USAGE: &str = "usage:
@@ -28,6 +28,7 @@ const USAGE: &str = "usage:
   reference show                                              print a list as text
   reference filterrun                                         run a job as the program does
   reference compare-runs --program PATH --seed S --count N    compare a program's texts with the Rust's
+  reference compare-jobfile --program PATH --seed S --count N compare what the program jobfile says
   reference job-to-text                                       a job or answer record as plain text
   reference job-from-text                                     and back
   reference example lowpass --n N [--rows R] ..               a real filter's job, see examples/README.md
@@ -47,11 +48,12 @@ fn main() -> ExitCode {
         ["answer"] => drivers::filterrun::answer(&mut input(), &mut output()),
         ["job-to-text"] => drivers::plain::to_text(&mut input(), &mut output()),
         ["job-from-text"] => drivers::plain::from_text(&mut input(), &mut output()),
-        ["example", "lowpass", "--n", n, ref rest @ ..] => {
-            drivers::example::write(n, rest, &mut output())
-        }
+        ["example", "lowpass", ref rest @ ..] => drivers::example::write(rest, &mut output()),
         ["compare-runs", "--program", program, "--seed", seed, "--count", count] => {
-            whole(seed).and_then(|seed| drivers::compare::compare(program, seed, whole(count)?))
+            compare(drivers::compare::compare, program, seed, count)
+        }
+        ["compare-jobfile", "--program", program, "--seed", seed, "--count", count] => {
+            compare(drivers::jobfile::compare::compare, program, seed, count)
         }
         _ => Err(wrong(USAGE)),
     };
@@ -70,8 +72,27 @@ fn input() -> BufReader<io::Stdin> {
     BufReader::with_capacity(1 << 16, io::stdin())
 }
 
-fn output() -> BufWriter<io::Stdout> {
-    BufWriter::with_capacity(1 << 16, io::stdout())
+type Output = BufWriter<Named>;
+
+fn output() -> Output {
+    BufWriter::with_capacity(1 << 16, Named(io::stdout()))
+}
+
+/// Standard output whose errors say where they come from.
+struct Named(io::Stdout);
+
+fn named(e: io::Error) -> io::Error {
+    io::Error::new(e.kind(), format!("standard output: {e}"))
+}
+
+impl Write for Named {
+    fn write(&mut self, bytes: &[u8]) -> io::Result<usize> {
+        self.0.write(bytes).map_err(named)
+    }
+
+    fn flush(&mut self) -> io::Result<()> {
+        self.0.flush().map_err(named)
+    }
 }
 
 fn wrong(text: &str) -> io::Error {
@@ -106,6 +127,12 @@ fn gen(name: &str, args: &[&str]) -> io::Result<bool> {
     begins_right()?;
     layer.write_list(&only, seed, count, &mut output())?;
     Ok(true)
+}
+
+type Compare = fn(&str, u64, u64, &mut Output) -> io::Result<bool>;
+
+fn compare(by: Compare, program: &str, seed: &str, count: &str) -> io::Result<bool> {
+    by(program, whole(seed)?, whole(count)?, &mut output())
 }
 
 fn whole(text: &str) -> io::Result<u64> {

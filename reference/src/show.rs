@@ -18,6 +18,7 @@ pub fn show(from: &mut impl Read, to: &mut impl Write) -> io::Result<bool> {
             hex(&case.output)
         )?;
     }
+    to.flush()?;
     Ok(true)
 }
 
@@ -48,6 +49,7 @@ pub fn count(from: &mut impl Read, to: &mut impl Write) -> io::Result<bool> {
             name(op)
         )?;
     }
+    to.flush()?;
     Ok(true)
 }
 

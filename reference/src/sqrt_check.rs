@@ -26,6 +26,7 @@ pub fn check(from: &mut impl Read, to: &mut impl Write) -> io::Result<bool> {
         }
     }
     writeln!(to, "{agree} agree, {differ} differ")?;
+    to.flush()?;
     Ok(differ == 0)
 }
 

@@ -1,5 +1,7 @@
 //! Whether an answer belongs to a job: operation 153.
 
+use super::answer::Answer;
+use super::job::Job;
 use super::run::Run;
 use crate::draw::vector;
 use crate::lengths::{resize, wrong};
@@ -13,6 +15,16 @@ pub struct Asked {
     pub call: Call,
     pub point: Vec<f64>,
     pub found: bool,
+}
+
+/// Document 01's: the answer's point is feasible for the job or, there being none, the job's own is not.
+pub fn is_of(job: &Job, answer: &Answer) -> bool {
+    let mut filter = job.run().filter;
+    if let Some(point) = &answer.point {
+        filter.x.clone_from(point);
+    }
+    let (cut, _) = Bench::new(&filter).assess_feas(&filter.state);
+    cut.is_none() == answer.point.is_some()
 }
 
 pub fn belongs(src: &mut Source, case: &mut Case) {

@@ -1,6 +1,7 @@
 //! Runs a program beside the Rust, job by job, and compares what it prints.
 
 use super::damage::{damaged, shuffle};
+use super::every_byte::EveryByte;
 use super::example::Lowpass;
 use super::filterrun::{text, LONGEST};
 use super::fixed::{fixed, record_of_length};
@@ -11,8 +12,9 @@ use crate::words::Source;
 use std::collections::BTreeMap;
 use std::fs;
 use std::io::{self, Write};
-use std::process::{Command, Stdio};
+use std::process::{Command, Output, Stdio};
 use std::thread;
+use std::time::Duration;
 
 /// A job as it is handed to the program.
 pub struct Question {
@@ -24,9 +26,7 @@ pub struct Question {
 pub struct Questions {
     src: Source,
     fixed: Vec<Vec<u8>>,
-    /// The record that is damaged at every byte, and the next damage.
-    small: Vec<u8>,
-    next: usize,
+    small: EveryByte,
     made: usize,
 }
 
@@ -36,8 +36,7 @@ impl Questions {
         Questions {
             src: Source::new(seed),
             fixed: texts.map(|c| unpacked(&c.input[1..], c.input[0])).collect(),
-            small: Vec::new(),
-            next: 0,
+            small: EveryByte::default(),
             made: 0,
         }
     }
@@ -69,7 +68,7 @@ impl Questions {
         Question { bytes, kind }
     }
 
-    fn real_filter(&mut self) -> Question {
+    pub fn real_filter(&mut self) -> Question {
         let rng = &mut self.src.rng;
         let n = rng.range(4, 14) as usize;
         let mut filter = Lowpass::of(n);
@@ -88,43 +87,37 @@ impl Questions {
         Question { bytes, kind }
     }
 
-    /// Each byte of a small record is changed twice, removed and doubled, and ends the record.
     fn damaged_at_next_byte(&mut self) -> Question {
-        if self.next == 5 * self.small.len() {
+        if self.small.is_over() {
             let mut record = draw(&mut self.src, 300).record();
             shuffle(&mut self.src, &mut record);
-            (self.small, self.next) = (record.bytes(), 0);
+            self.small = EveryByte::of(record.bytes());
         }
-        let mut bytes = self.small.clone();
-        let at = self.next / 5;
-        match self.next % 5 {
-            0 => bytes[at] ^= 1 << self.src.rng.below(8),
-            1 => bytes[at] = bytes[at].wrapping_add(self.src.rng.next() as u8 | 1),
-            2 => drop(bytes.remove(at)),
-            3 => bytes.insert(at, bytes[at]),
-            _ => bytes.truncate(at),
-        }
-        self.next += 1;
+        let bytes = self.small.next(&mut self.src);
         let kind = "damaged at every byte";
         Question { bytes, kind }
     }
 }
 
-/// What the program prints. The job comes in pieces, as a pipe may bring it.
+/// What the program prints for a job.
 fn asked(program: &str, bytes: &[u8]) -> io::Result<Vec<u8>> {
     let mut command = Command::new(program);
-    let mut child = command
-        .stdin(Stdio::piped())
-        .stdout(Stdio::piped())
-        .spawn()?;
+    Ok(piped(command.stdout(Stdio::piped()), bytes, Duration::ZERO)?.stdout)
+}
+
+/// Runs a command whose standard input comes in pieces, as a pipe may bring it.
+pub fn piped(command: &mut Command, bytes: &[u8], pause: Duration) -> io::Result<Output> {
+    let mut child = command.stdin(Stdio::piped()).spawn()?;
     let mut to = child.stdin.take().unwrap();
     thread::scope(|scope| {
         scope.spawn(move || {
             let piece = 1 + bytes.len() / 3;
-            // The program may have read enough.
-            bytes.chunks(piece).all(|part| to.write_all(part).is_ok())
+            bytes.chunks(piece).all(|part| {
+                thread::sleep(pause);
+                to.write_all(part).is_ok() // the program may have read enough
+            })
         });
-        Ok(child.wait_with_output()?.stdout)
+        child.wait_with_output()
     })
 }
 
@@ -169,13 +162,21 @@ impl Report {
     }
 
     /// Counts a difference; the first one's job is kept in a file of this name.
-    fn differs(&mut self, question: &Question, name: String, what: String) -> io::Result<()> {
+    fn differs(
+        &mut self,
+        question: &Question,
+        name: String,
+        what: String,
+        to: &mut impl Write,
+    ) -> io::Result<()> {
         self.differ += 1;
-        if self.differ == 1 {
-            fs::write(&name, &question.bytes)?;
-            println!("first difference, {}, job in {name}: {what}", question.kind);
+        if self.differ > 1 {
+            return Ok(());
         }
-        Ok(())
+        fs::write(&name, &question.bytes)?;
+        let kind = question.kind;
+        writeln!(to, "first difference, {kind}, job in {name}: {what}")?;
+        to.flush()
     }
 }
 
@@ -191,7 +192,7 @@ pub fn answers(program: &str, questions: &[Question]) -> Vec<Answer> {
     })
 }
 
-pub fn compare(program: &str, seed: u64, jobs: u64) -> io::Result<bool> {
+pub fn compare(program: &str, seed: u64, jobs: u64, to: &mut impl Write) -> io::Result<bool> {
     let mut questions = Questions::new(seed);
     let mut report = Report::default();
     for first in (1..=jobs).step_by(2) {
@@ -202,13 +203,16 @@ pub fn compare(program: &str, seed: u64, jobs: u64) -> io::Result<bool> {
             report.count(question.kind, &expected);
             if expected.as_bytes() != got {
                 let name = format!("differs-{seed}-{at}.job");
-                report.differs(question, name, difference(expected.as_bytes(), &got))?;
+                let what = difference(expected.as_bytes(), &got);
+                report.differs(question, name, what, to)?;
             }
         }
     }
     for (what, count) in report.tally {
-        println!("{what}: {count}");
+        writeln!(to, "{what}: {count}")?;
     }
-    println!("{} agree, {} differ", jobs - report.differ, report.differ);
+    let agree = jobs - report.differ;
+    writeln!(to, "{agree} agree, {} differ", report.differ)?;
+    to.flush()?;
     Ok(report.differ == 0)
 }

@@ -41,13 +41,17 @@ pub fn answer(from: &mut impl Read, to: &mut impl Write) -> io::Result<bool> {
             Ok(false)
         }
         Ok(job) => {
-            let (end, _) = feas(&job.run());
-            let (point, steps) = (end.best, end.steps);
-            to.write_all(&Answer { point, steps }.record().bytes())?;
+            to.write_all(&answer_of(&job).record().bytes())?;
             to.flush()?;
             Ok(true)
         }
     }
+}
+
+pub fn answer_of(job: &Job) -> Answer {
+    let (end, _) = feas(&job.run());
+    let (point, steps) = (end.best, end.steps);
+    Answer { point, steps }
 }
 
 fn read(from: &mut impl Read) -> io::Result<Vec<u8>> {

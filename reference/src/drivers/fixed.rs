@@ -8,7 +8,7 @@ use super::cutting::{default_options, feas_of, optim_of};
 use super::cutting_any::{any_of, AnyRun};
 use super::damage::{faults, put, Fault};
 use super::filterrun::{text_case, LONGEST};
-use super::job::{read_of as read_job_of, Job};
+use super::job::{read_of as read_job_of, rows_in, Job};
 use super::lively::lowpass;
 use super::record::{Record, Rule, ANSWER, JOB};
 use super::run::Run;
@@ -212,9 +212,7 @@ fn answers(cases: &mut Vec<Case>) {
 
 /// A record of exactly this many bytes, which no legal job has: the last field's length is wrong.
 pub fn record_of_length(n: usize, len: usize) -> Vec<u8> {
-    let fixed = 78 + 8 * n + 8 * n * n;
-    let rows = (len - fixed) / (3 + 8 * n);
-    let mut record = Job::of(&plain(n, rows, (1, 2))).record();
+    let mut record = Job::of(&plain(n, rows_in(len, n), (1, 2))).record();
     let more = len - record.bytes().len();
     let last = record.fields.last_mut().unwrap();
     last.resize(last.content.len() + more);
@@ -223,11 +221,7 @@ pub fn record_of_length(n: usize, len: usize) -> Vec<u8> {
 
 fn long_files(cases: &mut Vec<Case>) {
     for n in [9, 32] {
-        let legal = Job::of(&plain(
-            n,
-            (LONGEST - 78 - 8 * n - 8 * n * n) / (3 + 8 * n),
-            (1, 2),
-        ));
+        let legal = Job::of(&plain(n, rows_in(LONGEST, n), (1, 2)));
         push(cases, 160, |case| text_case(&legal.record().bytes(), case));
     }
     for len in LONGEST - 1..=LONGEST + 1 {

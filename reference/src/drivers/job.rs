@@ -28,6 +28,12 @@ pub struct Job {
     pub tolerance: f64,
 }
 
+/// How many rows a job of so many bytes has room for.
+pub fn rows_in(bytes: usize, n: usize) -> usize {
+    let others = 78 + 8 * n + 8 * n * n;
+    (bytes - others) / (3 + 8 * n)
+}
+
 /// How many floats the reader's outputs hold: table, point and matrix.
 pub type Room = [usize; 3];
 

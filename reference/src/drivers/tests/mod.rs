@@ -2,6 +2,8 @@
 //! readers give the known values.
 
 mod any_lengths;
+mod example;
+mod jobfile;
 mod known;
 mod plain;
 mod records;
