@@ -13,10 +13,23 @@ fn main() {
     let archive = folder.join("libponduvizh.a");
     println!("cargo:rerun-if-changed={}", archive.display());
     println!("cargo:rerun-if-env-changed=PONDUVIZH_LIB");
+    order();
     let rustc = env::var("RUSTC").unwrap_or("rustc".into());
     let rustc = said(&rustc, "--version");
     println!("cargo:rustc-env=BENCH_RUSTC={rustc}");
     println!("cargo:rustc-env=BENCH_RATTLE={}", said("rt", "version"));
+}
+
+/// With the functions of both sides in another order in memory where `BENCH_ORDER` is a number above 0: where code stands moves some times by itself.
+fn order() {
+    println!("cargo:rerun-if-env-changed=BENCH_ORDER");
+    let order = env::var("BENCH_ORDER").unwrap_or("0".into());
+    if order == "0" {
+        println!("cargo:rustc-env=BENCH_BUILD=as it comes");
+        return;
+    }
+    println!("cargo:rustc-env=BENCH_BUILD=order {order}");
+    println!("cargo:rustc-link-arg-bins=-Wl,--shuffle-sections=.text*={order}");
 }
 
 fn said(program: &str, word: &str) -> String {

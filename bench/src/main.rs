@@ -1,23 +1,38 @@
 //! The port beside the published Rust: times, growth, and comparisons at scale.
 
+/// Stands for the library's in every module: that one panics when the reader has had enough.
+macro_rules! println {
+    ($($part:tt)*) => {
+        $crate::say(format_args!($($part)*))
+    };
+}
+
 mod compare;
 mod growth;
+mod jobs;
+mod levels;
+mod noted;
 mod pairs;
 mod plot;
 mod port;
 mod race;
+mod summary;
 mod table;
 
 use std::collections::BTreeMap;
-use std::process::ExitCode;
-use std::{env, fs};
+use std::io::{self, ErrorKind, Write};
+use std::process::{self, ExitCode};
+use std::{env, fmt, fs};
 
 const USAGE: &str = "usage:
-  bench table [--date DATE] [--rounds N] [--svg FILE] [--only TEXT] [--n N]    times of both, as Markdown
+  bench table [--date DATE] [--rounds N] [--tsv FILE] [--only TEXT] [--n N]    times of both, as Markdown
+  bench jobs [--date DATE] [--rounds N] [--tsv FILE] [--port PATH] [--rust PATH]
+                                                                               times of whole jobs
+  bench summary FILE.. [--svg FILE]                                            many runs' files as one table
   bench growth [--date DATE] [--rounds N]                                      costs as n and the rows grow
   bench compare --seconds S [--seed N] [--program PATH]                        answers of both, for S seconds
 TEXT is a part of the name of the calls that are timed; all of them, and for every n, unless these are given
-PATH is filterrun, target/bin/filterrun unless it is given; the replay programs stand beside it";
+PATH is filterrun, target/bin/filterrun unless it is given; the replay programs stand beside it, and the Rust's filterrun beside bench";
 
 /// The words after the subcommand: each name with its value.
 type Options = BTreeMap<String, String>;
@@ -34,12 +49,33 @@ fn main() -> ExitCode {
     }
 }
 
+/// Prints a line. A reader that has had enough ends the program with success, any other failure with that.
+fn say(line: fmt::Arguments) {
+    let Err(e) = writeln!(io::stdout(), "{line}") else {
+        return;
+    };
+    if e.kind() == ErrorKind::BrokenPipe {
+        process::exit(0);
+    }
+    eprintln!("standard output: {e}");
+    process::exit(1);
+}
+
 fn run(args: &[String]) -> Result<bool, String> {
     let (command, rest) = args.split_first().ok_or(USAGE)?;
     match command.as_str() {
         "table" => {
-            let options = options(rest, &["--date", "--rounds", "--svg", "--only", "--n"])?;
+            let options = options(rest, &["--date", "--rounds", "--tsv", "--only", "--n"])?;
             table(&options).map(|()| true)
+        }
+        "jobs" => {
+            let options = options(rest, &["--date", "--rounds", "--tsv", "--port", "--rust"])?;
+            jobs(&options).map(|()| true)
+        }
+        "summary" => {
+            let files = rest.iter().position(|word| word.starts_with("--"));
+            let (files, rest) = rest.split_at(files.unwrap_or(rest.len()));
+            summary(files, &options(rest, &["--svg"])?).map(|()| true)
         }
         "growth" => {
             let options = options(rest, &["--date", "--rounds"])?;
@@ -87,12 +123,44 @@ fn table(options: &Options) -> Result<(), String> {
     let only = options.get("--only").map_or("", String::as_str);
     let n = whole(options, "--n")?.map(|n| n as usize);
     let rows = table::measure(rounds(options)?, only, n)?;
-    let head = head(options);
-    table::print(&rows, &head);
-    if let Some(file) = options.get("--svg") {
-        fs::write(file, plot::svg(&rows, &head)).map_err(|e| format!("{file}: {e}"))?;
-    }
-    Ok(())
+    show(rows, options)
+}
+
+fn jobs(options: &Options) -> Result<(), String> {
+    let beside = || Some(env::current_exe().ok()?.with_file_name("filterrun_rust"));
+    let beside = beside().unwrap_or_default().display().to_string();
+    let rust = options.get("--rust").unwrap_or(&beside);
+    let port = options.get("--port").map(String::as_str);
+    let port = port.unwrap_or("target/bin/filterrun");
+    show(jobs::measure(port, rust, rounds(options)?)?, options)
+}
+
+/// Prints rows, and notes them in a file if one is given.
+fn show(rows: Vec<table::Row>, options: &Options) -> Result<(), String> {
+    let (head, build) = (head(options), env!("BENCH_BUILD").into());
+    println!("{}", table::text(&rows, &head));
+    let run = noted::Run { head, build, rows };
+    options
+        .get("--tsv")
+        .map_or(Ok(()), |file| write(file, &noted::written(&run)))
+}
+
+fn summary(files: &[String], options: &Options) -> Result<(), String> {
+    let read = |file: &String| {
+        let text = fs::read_to_string(file).map_err(|e| format!("{file}: {e}"))?;
+        noted::read(&text).ok_or(format!("{file}: not a file of times"))
+    };
+    let runs: Vec<noted::Run> = files.iter().map(read).collect::<Result<_, _>>()?;
+    let head = runs.first().map(|run| run.head.as_str()).ok_or(USAGE)?;
+    let sums = summary::sums(&runs);
+    println!("{}", summary::text(&sums, &runs));
+    options
+        .get("--svg")
+        .map_or(Ok(()), |file| write(file, &plot::svg(&sums, head)))
+}
+
+fn write(file: &str, text: &str) -> Result<(), String> {
+    fs::write(file, text).map_err(|e| format!("{file}: {e}"))
 }
 
 fn compare(options: &Options) -> Result<bool, String> {

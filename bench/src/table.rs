@@ -42,23 +42,25 @@ pub fn measure(rounds: usize, only: &str, one: Option<usize>) -> Result<Vec<Row>
     Ok(rows)
 }
 
-pub fn print(rows: &[Row], head: &str) {
-    println!("{head}\n");
-    println!("| call | n | port, ns | Rust, ns | port / Rust |");
-    println!("|---|---:|---:|---:|---:|");
+/// The line above, and the table.
+pub fn text(rows: &[Row], head: &str) -> String {
+    let mut text = format!("{head}\n\n");
+    text += "| call | n | port, ns | Rust, ns | port / Rust |\n|---|---:|---:|---:|---:|";
     for row in rows {
         let n = row.n.map_or("any".into(), |n| n.to_string());
         let Times { port, rust, ratio } = row.times;
         let (port, rust) = (nanos(port), nanos(rust));
-        println!("| {} | {n} | {port} | {rust} | {ratio:.2} |", row.call);
+        text += &format!("\n| {} | {n} | {port} | {rust} | {ratio:.2} |", row.call);
     }
+    text
 }
 
-/// Three figures or more.
+/// Three figures or more; what takes longer than any call is in milliseconds.
 pub fn nanos(t: f64) -> String {
     match t {
         t if t < 10.0 => format!("{t:.2}"),
         t if t < 100.0 => format!("{t:.1}"),
-        t => format!("{t:.0}"),
+        t if t < 1e5 => format!("{t:.0}"),
+        t => format!("{:.3} ms", t / 1e6),
     }
 }

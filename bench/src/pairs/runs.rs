@@ -8,30 +8,18 @@ use ellalgo_rs::cutting_plane::{cutting_plane_feas, cutting_plane_optim, Options
 use ellalgo_rs::ell::Ell;
 use ellalgo_rs::oracles::lowpass_oracle::LowpassOracle;
 use ellalgo_rs::round_robin::RoundRobin;
+use generator::drivers::example::Lowpass;
 use generator::oracles::spaces::diagonal;
 use std::hint::black_box;
 
-const KAPPA: f64 = 40.0;
-const TOLERANCE: f64 = 1e-20;
-
-/// A filter of n coefficients: the pass band and the ripple of the Rust's own example, and the
-/// wider a transition the shorter it is, for n = 32 the example's.
-fn filter(n: usize, sp_sq: f64) -> LowpassOracle {
-    let wstop = (0.12 + 2.56 / n as f64).min(0.8);
-    let (lp_sq, up_sq) = (1.0 / (1.025 * 1.025), 1.025 * 1.025);
-    LowpassOracle::new(n, 0.12, wstop, lp_sq, up_sq, sp_sq)
+fn oracle(filter: &Lowpass) -> LowpassOracle {
+    let [lp_sq, up_sq, sp_sq] = filter.limits;
+    LowpassOracle::new(filter.n, filter.wpass, filter.wstop, lp_sq, up_sq, sp_sq)
 }
 
-fn ball(n: usize) -> Ell {
-    Ell::new_with_matrix(KAPPA, Arr::eye(n), Arr::new(n))
-}
-
-/// A stop limit that is not easily met: 1 % above the least that the Rust's optimizing driver reaches.
-fn tight(n: usize) -> f64 {
-    let mut gamma = 0.25;
-    let options = Options::new(20_000, TOLERANCE);
-    cutting_plane_optim(&mut filter(n, gamma), &mut ball(n), &mut gamma, &options);
-    1.01 * gamma
+fn ball(filter: &Lowpass) -> Ell {
+    let n = filter.n;
+    Ell::new_with_matrix(filter.kappa, Arr::eye(n), Arr::new(n))
 }
 
 /// A run of the Rust, and its answer.
@@ -44,6 +32,7 @@ struct Rust {
 
 pub struct Runs {
     optim: bool,
+    filter: Lowpass,
     task: Task,
     options: Options,
     start: Left,
@@ -63,9 +52,11 @@ impl Runs {
     }
 
     fn new(n: usize, max_iters: u16, optim: bool) -> Self {
-        let task = task(n, max_iters);
+        let filter = Lowpass::wide(n).tight();
+        let task = task(&filter, max_iters);
         Runs {
             optim,
+            filter,
             options: Options::new(max_iters as usize, task.tolerance),
             start: Left {
                 gamma: task.sp_sq,
@@ -84,21 +75,20 @@ impl Runs {
     }
 
     fn fresh(&self) -> Rust {
-        let n = self.task.n;
         Rust {
-            oracle: filter(n, self.task.sp_sq),
-            ell: ball(n),
+            oracle: oracle(&self.filter),
+            ell: ball(&self.filter),
             gamma: self.task.sp_sq,
             answer: (None, 0),
         }
     }
 }
 
-fn task(n: usize, max_iters: u16) -> Task {
-    let made = filter(n, tight(n));
+fn task(filter: &Lowpass, max_iters: u16) -> Task {
+    let made = oracle(filter);
     let rows = made.spectrum.iter();
     Task {
-        n,
+        n: filter.n,
         rows: made.spectrum.len(),
         nwpass: made.nwpass,
         nwstop: made.nwstop,
@@ -107,9 +97,9 @@ fn task(n: usize, max_iters: u16) -> Task {
         lp_sq: made.lp_sq,
         up_sq: made.up_sq,
         sp_sq: made.sp_sq,
-        kappa: KAPPA,
+        kappa: filter.kappa,
         max_iters,
-        tolerance: TOLERANCE,
+        tolerance: filter.tolerance,
         table: rows.flat_map(|row| row.data().to_vec()).collect(),
     }
 }
