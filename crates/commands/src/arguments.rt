@@ -2,7 +2,7 @@
 ghost use Rattle.std.specs.Prelude.{◌≡◌};
 ghost use Rattle.commands.specs.Arguments.{same_word, command_of};
 
-#[derive(Drop)]
+#[derive(Clone, Copy)]
 pub enum Command {
     Answer,
     Belongs,

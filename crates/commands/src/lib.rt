@@ -1,4 +1,6 @@
 // The commands of the program `jobfile`, for people with job files.
+#![tactic(auto)]
+
 pub mod answer;
 pub mod arguments;
 pub mod belongs;

@@ -17,20 +17,20 @@ use numbers::arr::is_dimension;
 use numbers::refusal::{Fault, Refusal, is_fault};
 
 // What a run answers, and a record keeps, beside the point: whether there is one, and the steps.
-#[derive(Drop)]
+#[derive(Clone, Copy)]
 pub struct Answer {
     pub found: bool,
     pub steps: u16,
 }
 
-#[derive(Drop)]
+#[derive(Clone, Copy)]
 pub enum AnswerRead {
     Read(Answer),
     Refused(Refusal, usize),
 }
 
 // The count of bytes written, or why nothing was written.
-#[derive(Drop)]
+#[derive(Clone, Copy)]
 pub enum AnswerWritten {
     Bytes(usize),
     Refused(Refusal),

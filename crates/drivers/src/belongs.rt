@@ -9,7 +9,7 @@ use numbers::arr::is_dimension;
 use numbers::refusal::Refusal;
 use oracles::lowpass_oracle::Verdict;
 
-#[derive(Drop)]
+#[derive(Clone, Copy)]
 pub enum Belonging {
     Yes,
     No,

@@ -10,7 +10,7 @@ use oracles::lowpass_oracle::LowpassOracle;
 use oracles::table::table_fits;
 
 // How many steps a run may take, and the tsq below which it ends.
-#[derive(Drop)]
+#[derive(Clone, Copy)]
 pub struct Options {
     pub max_iters: u16,
     pub tolerance: f64,

@@ -14,28 +14,28 @@ use oracles::ell_common::{CutStrategy, Update};
 use oracles::lowpass_oracle::{Group, LowpassOracle, Verdict};
 
 // What a step of `cutting_plane_feas` came to: the centre is feasible, or it was cut off with this status.
-#[derive(Drop)]
+#[derive(Clone, Copy)]
 pub(crate) enum StepAnswer {
     Feasible,
     Cut(Group, CutChoice, CutStatus),
     Refused(Refusal),
 }
 
-#[derive(Drop)]
+#[derive(Clone, Copy)]
 pub(crate) struct FeasStep {
     pub(crate) oracle: LowpassOracle,
     pub(crate) ell: Ell,
     pub(crate) answer: StepAnswer,
 }
 
-#[derive(Drop)]
+#[derive(Clone, Copy)]
 pub enum FeasAnswer {
     Ended(Answer),
     Refused(Refusal),
 }
 
 // The state after the run; as it came where the call is refused.
-#[derive(Drop)]
+#[derive(Clone, Copy)]
 pub struct FeasRun {
     pub oracle: LowpassOracle,
     pub ell: Ell,

@@ -12,7 +12,7 @@ use oracles::ell::{Ell, EllChange};
 use oracles::ell_common::{CutStrategy, Update};
 use oracles::lowpass_oracle::{LowpassOracle, OptimVerdict};
 
-#[derive(Drop)]
+#[derive(Clone, Copy)]
 struct OptimStep {
     oracle: LowpassOracle,
     ell: Ell,
@@ -22,7 +22,7 @@ struct OptimStep {
 }
 
 // A run that is halted by refusal 6 answers the halted step's number, and whether there is a best point.
-#[derive(Drop)]
+#[derive(Clone, Copy)]
 pub enum OptimAnswer {
     Ended(Answer),
     Halted(Answer),
@@ -30,7 +30,7 @@ pub enum OptimAnswer {
 }
 
 // `gamma` is the caller's sp_sq, after the run.
-#[derive(Drop)]
+#[derive(Clone, Copy)]
 pub struct OptimRun {
     pub oracle: LowpassOracle,
     pub ell: Ell,

@@ -8,13 +8,13 @@ use crate::trace::{Source, Text, refused_line};
 use numbers::refusal::Refusal;
 
 // A job, or the text that refuses it.
-#[derive(Drop)]
+#[derive(Clone, Copy)]
 pub enum TakenJob {
     Taken(Job),
     Refused(Text),
 }
 
-#[derive(Drop)]
+#[derive(Clone, Copy)]
 pub enum TakenAnswer {
     Taken(Answer),
     Refused(Text),

@@ -19,7 +19,7 @@ use oracles::lowpass_oracle::LowpassOracle;
 use oracles::table::is_rows;
 
 // What a job record keeps, beside its row table, its point and its matrix, which the reader writes into slices.
-#[derive(Drop)]
+#[derive(Clone, Copy)]
 pub struct Job {
     pub n: usize,
     pub rows: usize,
@@ -35,7 +35,7 @@ pub struct Job {
     pub options: Options,
 }
 
-#[derive(Drop)]
+#[derive(Clone, Copy)]
 pub enum JobAnswer {
     Read(Job),
     Refused(Refusal, usize),

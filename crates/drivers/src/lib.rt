@@ -1,4 +1,6 @@
 // The third layer: drivers and records, and the text of a run. Names and order of operations are those of the Rust in docs/src.
+#![tactic(auto)]
+
 pub mod answer;
 pub mod belongs;
 pub mod cutting_plane;

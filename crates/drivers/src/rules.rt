@@ -4,7 +4,7 @@ ghost use Rattle.drivers.specs.Rules.{rule_at, index_of, rule_length};
 
 // A tag's rule: the tag, the forms of record that have it, base, factor and power of n, and how often it stands. Its field has base + factor × n ^ power bytes.
 // The numbers are narrow since the table, a constant, is made anew at each use: it has 72 bytes.
-#[derive(Drop)]
+#[derive(Clone, Copy)]
 pub(crate) struct Rule(
     pub(crate) u8,
     pub(crate) u8,
@@ -15,7 +15,7 @@ pub(crate) struct Rule(
 );
 
 // A form of record: its bit among the rules' forms.
-#[derive(Drop)]
+#[derive(Clone, Copy)]
 pub(crate) struct Form {
     pub(crate) bit: u8,
 }

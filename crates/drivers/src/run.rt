@@ -16,7 +16,7 @@ use oracles::ell::{Ell, NewEll};
 use oracles::lowpass_oracle::LowpassOracle;
 
 // A run of `cutting_plane_feas` between two steps: niter is the next one's number. Only `open` makes one. The caller keeps the slices.
-#[derive(Drop)]
+#[derive(Clone, Copy)]
 pub struct Run {
     oracle: LowpassOracle,
     ell: Ell,
@@ -26,7 +26,7 @@ pub struct Run {
 }
 
 // The run after a step, its text, and whether there is more to come.
-#[derive(Drop)]
+#[derive(Clone, Copy)]
 pub struct Printed {
     pub run: Run,
     pub more: bool,
@@ -34,14 +34,14 @@ pub struct Printed {
 }
 
 // A run, or why there is none.
-#[derive(Drop)]
+#[derive(Clone, Copy)]
 pub(crate) enum NewRun {
     Made(Run),
     Refused(Refusal),
 }
 
 // A job that can be run, or the text that refuses it.
-#[derive(Drop)]
+#[derive(Clone, Copy)]
 pub enum Opened {
     Started(Run),
     Refused(Text),

@@ -12,14 +12,14 @@ use numbers::refusal::Refusal;
 use oracles::lowpass_oracle::Group;
 
 // The count of bytes written to the front of the lent slice, or why nothing was written.
-#[derive(Drop)]
+#[derive(Clone, Copy)]
 pub enum Text {
     Bytes(usize),
     Refused(Refusal),
 }
 
 // Which input a refused record came from; only a command that takes two says so, by the line's last word.
-#[derive(Drop)]
+#[derive(Clone, Copy)]
 pub enum Source {
     Only,
     Job,

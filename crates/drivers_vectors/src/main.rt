@@ -1,4 +1,6 @@
 // Replays a list of the Rust's answers (docs/LISTS.md) through the public functions of `drivers`, case by case from standard input.
+#![tactic(auto)]
+
 mod belonging;
 mod packed;
 mod places;

@@ -6,7 +6,7 @@ use lists::words::{float, word};
 use std::num::wrapping_add_usize;
 
 // Of each slice where it begins and how long it is; where the state, gamma if there is one, kappa and tsq, and the options stand, and where the case ends.
-#[derive(Drop)]
+#[derive(Clone, Copy)]
 pub(crate) struct Places {
     pub(crate) any: bool,
     pub(crate) is_optim: bool,

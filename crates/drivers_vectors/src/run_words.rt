@@ -8,7 +8,7 @@ use lists::pushes::{Bytes, push, push_float, push_floats};
 use oracles::lowpass_oracle::LowpassOracle;
 
 // The outcome of a run: 0 or a refusal's number, its answer if it has one, and gamma and the state after it.
-#[derive(Drop)]
+#[derive(Clone, Copy)]
 pub(crate) struct Outcome {
     pub(crate) number: u8,
     pub(crate) has_answer: bool,
@@ -20,7 +20,7 @@ pub(crate) struct Outcome {
 }
 
 // What the answer of either driver says.
-#[derive(Drop)]
+#[derive(Clone, Copy)]
 pub(crate) struct Answered {
     pub(crate) number: u8,
     pub(crate) has_answer: bool,

@@ -9,7 +9,7 @@ use oracles::round_robin::RoundRobin;
 use std::num::wrapping_add_usize;
 
 // Where nwpass and the limits begin, the cursors, and what follows them; where sp_sq stands. Cursors that are given have a lo and a hi of their own.
-#[derive(Drop)]
+#[derive(Clone, Copy)]
 pub(crate) struct State {
     any: bool,
     limits: usize,

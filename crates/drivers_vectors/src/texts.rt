@@ -9,7 +9,7 @@ use lists::words::word;
 use std::num::wrapping_sub_usize;
 
 // A run whose text so far ends at byte `at`.
-#[derive(Drop)]
+#[derive(Clone, Copy)]
 struct Stepped {
     run: Run,
     more: bool,

@@ -1,4 +1,6 @@
 // The program `filterrun` again, so that the gate runs it on a file of 65,537 bytes, one too many: a crate has one standard input.
+#![tactic(auto)]
+
 fn main() {
     runner::run_stdin();
 }

@@ -1,4 +1,6 @@
 // The program `jobfile` again, so that the gate runs it with other arguments: a crate has one list of them.
+#![tactic(auto)]
+
 fn main() {
     commands::jobfile::run_arguments();
 }

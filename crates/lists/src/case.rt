@@ -5,14 +5,14 @@ ghost use Rattle.lists.specs.Case.{Whole};
 use crate::words::word;
 
 // A case that stands whole in the two buffers: its operation, and how many words of input and of output it has.
-#[derive(Drop)]
+#[derive(Clone, Copy)]
 pub struct Case {
     pub op: u64,
     pub ins: usize,
     pub outs: usize,
 }
 
-#[derive(Drop)]
+#[derive(Clone, Copy)]
 pub enum Next {
     Case(Case),
     End,

@@ -1,4 +1,6 @@
 // What the programs that replay lists of the Rust's answers share: reading a case, comparing it, counting and printing, and the slices of a case (docs/LISTS.md).
+#![tactic(auto)]
+
 pub mod case;
 mod print;
 pub mod pushes;

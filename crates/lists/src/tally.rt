@@ -8,7 +8,7 @@ use crate::print::{print_damage, print_difference, print_operation, print_sum};
 use crate::words::first_difference;
 
 // What came of a case: so many words of output; a call that said no, by its number; inputs that are not what the operation takes; an operation that the program does not have.
-#[derive(Drop)]
+#[derive(Clone, Copy)]
 pub enum Replayed {
     Words(usize),
     Refused(u8),
@@ -16,7 +16,7 @@ pub enum Replayed {
     Unknown,
 }
 
-#[derive(Drop)]
+#[derive(Clone, Copy)]
 pub enum Verdict {
     Agrees,
     Differs(usize),

@@ -7,20 +7,20 @@ ghost use Rattle.numbers.specs.laws.Arr.{four_from};
 use crate::mv::rows_into;
 use crate::refusal::Refusal;
 
-#[derive(Drop)]
+#[derive(Clone, Copy)]
 pub enum Number {
     Value(f64),
     Refused(Refusal),
 }
 
-#[derive(Drop)]
+#[derive(Clone, Copy)]
 pub enum Written {
     Done,
     Refused(Refusal),
 }
 
 // A number for each of four rows.
-#[derive(Drop)]
+#[derive(Clone, Copy)]
 pub struct Four {
     pub a: f64,
     pub b: f64,

@@ -3,13 +3,13 @@ ghost use Rattle.std.specs.Prelude.{◌≡◌};
 ghost use Rattle.numbers.specs.Cut.{status_number};
 
 // The bounds of a cut: one number or two.
-#[derive(Drop)]
+#[derive(Clone, Copy)]
 pub enum CutChoice {
     Single(f64),
     Parallel(f64, f64),
 }
 
-#[derive(Drop)]
+#[derive(Clone, Copy)]
 pub enum CutStatus {
     Success,
     NoSoln,
@@ -29,14 +29,14 @@ impl CutStatus {
 }
 
 // The step, the weight of the rank-one update and the factor of kappa.
-#[derive(Drop)]
+#[derive(Clone, Copy)]
 pub struct Params {
     pub rho: f64,
     pub sigma: f64,
     pub delta: f64,
 }
 
-#[derive(Drop)]
+#[derive(Clone, Copy)]
 pub struct CutAnswer {
     pub status: CutStatus,
     pub params: Params,

@@ -30,14 +30,14 @@ const NO_EFFECT: CutAnswer = CutAnswer {
 
 // The calculators of a search space of dimension n. Where `use_parallel_cut` is false a second bound is only tested, against the first or, in the central
 // form, against zero, and otherwise ignored.
-#[derive(Drop)]
+#[derive(Clone, Copy)]
 pub struct EllCalc {
     pub n_f: f64,
     pub helper: EllCalcCore,
     pub use_parallel_cut: bool,
 }
 
-#[derive(Drop)]
+#[derive(Clone, Copy)]
 pub enum NewEllCalc {
     Made(EllCalc),
     Refused(Refusal),

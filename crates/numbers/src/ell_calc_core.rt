@@ -6,7 +6,7 @@ use crate::cut::Params;
 use crate::sqrt::sqrt;
 
 // Six numbers, worked out once from n.
-#[derive(Drop)]
+#[derive(Clone, Copy)]
 pub struct EllCalcCore {
     pub n_f: f64,
     pub n_plus_1: f64,

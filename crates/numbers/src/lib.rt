@@ -1,4 +1,6 @@
 // The first layer: numbers and cut calculators. Names and order of operations are those of the Rust in docs/src.
+#![tactic(auto)]
+
 pub mod arr;
 pub mod bits;
 pub mod cut;

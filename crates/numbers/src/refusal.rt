@@ -2,7 +2,7 @@
 ghost use Rattle.std.specs.Prelude.{◌≡◌};
 ghost use Rattle.numbers.specs.Refusal.{refusal_number, is_fault};
 
-#[derive(Drop)]
+#[derive(Clone, Copy)]
 pub enum Refusal {
     Dimension,
     Length,
@@ -40,7 +40,7 @@ impl Refusal {
 }
 
 // What tests found: nothing, or the first refusal and its place in a record, 0 outside of one.
-#[derive(Drop)]
+#[derive(Clone, Copy)]
 pub enum Fault {
     Sound,
     At(Refusal, usize),

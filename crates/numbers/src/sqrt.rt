@@ -16,14 +16,14 @@ const INFINITY: u64 = 0x7ff0_0000_0000_0000;
 const HIDDEN: u64 = 0x0010_0000_0000_0000;
 
 // The square of a root in units, as m × 2 ^ 54 × 4 ^ g.
-#[derive(Drop)]
+#[derive(Clone, Copy)]
 struct Square {
     m: u64,
     g: u64,
 }
 
 // A significand of 53 digits, and how many places it was shifted up.
-#[derive(Drop)]
+#[derive(Clone, Copy)]
 struct Normal {
     m: u64,
     shift: u64,

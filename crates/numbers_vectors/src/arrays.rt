@@ -8,7 +8,7 @@ use numbers::bits::to_bits;
 use std::num::wrapping_add_usize;
 
 // n, where the slices begin, and the length of each; the last is the output, which the case gives only where lengths are any.
-#[derive(Drop)]
+#[derive(Clone, Copy)]
 struct Places {
     n: usize,
     from: usize,

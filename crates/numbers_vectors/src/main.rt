@@ -1,4 +1,6 @@
 // Replays a list of the Rust's answers (docs/LISTS.md) through the public functions of `numbers`, case by case from standard input.
+#![tactic(auto)]
+
 mod arrays;
 mod cuts;
 

@@ -17,7 +17,7 @@ use numbers::ell_calc::{EllCalc, NewEllCalc};
 use numbers::refusal::Refusal;
 
 // What is kept beside the matrix mq and the centre xc.
-#[derive(Drop)]
+#[derive(Clone, Copy)]
 pub struct Ell {
     pub ndim: usize,
     pub kappa: f64,
@@ -25,21 +25,21 @@ pub struct Ell {
     pub tsq: f64,
 }
 
-#[derive(Drop)]
+#[derive(Clone, Copy)]
 pub enum NewEll {
     Made(Ell),
     Refused(Refusal),
 }
 
 // What an update changes beside the slices, and what it came to. The outcome lies between the numbers: read as a pair by one load of 16 bytes they would wait for both stores of 8.
-#[derive(Drop)]
+#[derive(Clone, Copy)]
 pub struct EllChange {
     pub kappa: f64,
     pub outcome: Outcome,
     pub tsq: f64,
 }
 
-#[derive(Drop)]
+#[derive(Clone, Copy)]
 pub struct EllUpdate {
     pub ell: Ell,
     pub answer: Update,

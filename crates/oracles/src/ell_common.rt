@@ -8,7 +8,7 @@ use numbers::ell_calc::EllCalc;
 use numbers::refusal::Refusal;
 
 // Which calculator of `EllCalc` an update uses.
-#[derive(Drop)]
+#[derive(Clone, Copy)]
 pub enum CutStrategy {
     BiasCut,
     CentralCut,
@@ -16,14 +16,14 @@ pub enum CutStrategy {
 }
 
 // A status, where the call is not refused.
-#[derive(Drop)]
+#[derive(Clone, Copy)]
 pub enum Update {
     Status(CutStatus),
     Refused(Refusal),
 }
 
 // The same in one byte, which the machine hands on in a register.
-#[derive(Drop)]
+#[derive(Clone, Copy)]
 pub enum Outcome {
     Success,
     NoSoln,

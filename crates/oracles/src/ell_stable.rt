@@ -16,7 +16,7 @@ use numbers::ell_calc::{EllCalc, NewEllCalc};
 use numbers::refusal::Refusal;
 
 // What is kept beside the factors mq and the centre xc.
-#[derive(Drop)]
+#[derive(Clone, Copy)]
 pub struct EllStable {
     ndim: usize,
     pub kappa: f64,
@@ -24,13 +24,13 @@ pub struct EllStable {
     pub tsq: f64,
 }
 
-#[derive(Drop)]
+#[derive(Clone, Copy)]
 pub enum NewEllStable {
     Made(EllStable),
     Refused(Refusal),
 }
 
-#[derive(Drop)]
+#[derive(Clone, Copy)]
 pub struct EllStableUpdate {
     pub ell: EllStable,
     pub answer: Update,

@@ -10,14 +10,14 @@ use numbers::arr::Number;
 use numbers::refusal::Refusal;
 
 // The rows of a leading block that is not positive definite: start to end − 1.
-#[derive(Drop)]
+#[derive(Clone, Copy)]
 pub struct Pos {
     pub start: usize,
     pub end: usize,
 }
 
 // Positive definite, or where the factorization stopped.
-#[derive(Drop)]
+#[derive(Clone, Copy)]
 pub enum Factored {
     Definite,
     Stopped(Pos),

@@ -1,4 +1,6 @@
 // The second layer: oracles and ellipsoids. Names and order of operations are those of the Rust in docs/src.
+#![tactic(auto)]
+
 pub mod assess;
 pub mod band_cut;
 pub mod ell;

@@ -9,7 +9,7 @@ use numbers::cut::CutChoice;
 use numbers::refusal::Refusal;
 
 // A cut has the place where the factorization stopped, and one beta: the negated last pivot.
-#[derive(Drop)]
+#[derive(Clone, Copy)]
 pub enum LmiVerdict {
     Feasible,
     Cut(Pos, CutChoice),

@@ -14,7 +14,7 @@ use numbers::cut::CutChoice;
 use numbers::refusal::{Fault, Refusal};
 
 // The state of an oracle over a row table that the caller lends: pass rows are 0 to nwpass − 1, middle rows reach nwstop − 1, stop rows the end.
-#[derive(Drop)]
+#[derive(Clone, Copy)]
 pub struct LowpassOracle {
     pub more_alt: bool,
     pub idx1: i32,
@@ -33,7 +33,7 @@ pub struct LowpassOracle {
 }
 
 // The group of constraints that a point breaks: of a band with the row that breaks it and whether it lies above its limit (a middle row has no upper one).
-#[derive(Drop)]
+#[derive(Clone, Copy)]
 pub enum Group {
     Pass(usize, bool),
     Stop(usize, bool),
@@ -68,7 +68,7 @@ impl Group {
 }
 
 // What `assess_feas` says of a point: nothing is broken, or the first broken group and the betas of its cut.
-#[derive(Drop)]
+#[derive(Clone, Copy)]
 pub enum Verdict {
     Feasible,
     Cut(Group, CutChoice),
@@ -76,14 +76,14 @@ pub enum Verdict {
 }
 
 // The oracle after an assessment; as it came where the call is refused.
-#[derive(Drop)]
+#[derive(Clone, Copy)]
 pub struct Assessed {
     pub oracle: LowpassOracle,
     pub verdict: Verdict,
 }
 
 // What `assess_optim` says: the betas of the improving cut of a feasible point, or of the broken group's cut.
-#[derive(Drop)]
+#[derive(Clone, Copy)]
 pub enum OptimVerdict {
     Improved(CutChoice),
     Cut(Group, CutChoice),
@@ -91,7 +91,7 @@ pub enum OptimVerdict {
 }
 
 // `gamma` is the caller's sp_sq, after the call.
-#[derive(Drop)]
+#[derive(Clone, Copy)]
 pub struct AssessedOptim {
     pub oracle: LowpassOracle,
     pub gamma: f64,

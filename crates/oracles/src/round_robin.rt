@@ -6,14 +6,14 @@ ghost use Rattle.oracles.specs.laws.RoundRobin.{Legal};
 use numbers::refusal::Refusal;
 
 // Row numbers of the band lo .. hi − 1, each in turn; cur is the last one given, lo − 1 at first.
-#[derive(Drop)]
+#[derive(Clone, Copy)]
 pub struct RoundRobin {
     pub cur: i32,
     pub lo: i32,
     pub hi: i32,
 }
 
-#[derive(Drop)]
+#[derive(Clone, Copy)]
 pub enum CursorAnswer {
     Accepted(RoundRobin),
     Refused(Refusal),

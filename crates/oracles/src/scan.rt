@@ -12,21 +12,21 @@ use crate::table::{four_values, row_value};
 use numbers::refusal::Refusal;
 
 // The upper limit of a band, where it has one.
-#[derive(Drop)]
+#[derive(Clone, Copy)]
 pub enum Upper {
     Absent,
     Limit(f64),
 }
 
 // The first row that breaks a limit: its number, its value, and whether the value lies above the upper limit.
-#[derive(Drop)]
+#[derive(Clone, Copy)]
 pub enum Violation {
     Nothing,
     Broken(usize, f64, bool),
 }
 
 // What a scan found: the violation, the largest value before it and its row (minus infinity and −1 where there is none), and where cur was left.
-#[derive(Drop)]
+#[derive(Clone, Copy)]
 pub struct Scan {
     pub viol: Violation,
     pub fmax: f64,
@@ -34,21 +34,21 @@ pub struct Scan {
     pub last: i32,
 }
 
-#[derive(Drop)]
+#[derive(Clone, Copy)]
 pub enum ScanAnswer {
     Scanned(Scan),
     Refused(Refusal),
 }
 
 // An answer, and the cursor after it.
-#[derive(Drop)]
+#[derive(Clone, Copy)]
 pub struct ScanEnd {
     pub answer: ScanAnswer,
     pub cursor: RoundRobin,
 }
 
 // A scan, and the cursor after it.
-#[derive(Drop)]
+#[derive(Clone, Copy)]
 pub(crate) struct Swept {
     pub(crate) scan: Scan,
     pub(crate) cursor: RoundRobin,

@@ -6,7 +6,7 @@ use numbers::bits::{of_bits, to_bits};
 use numbers::cut::CutChoice;
 
 // What a call answered: 0 or a refusal's number, and the first `len` of the words.
-#[derive(Drop)]
+#[derive(Clone, Copy)]
 pub(crate) struct Answered {
     pub(crate) number: u8,
     pub(crate) words: [u64; 7],

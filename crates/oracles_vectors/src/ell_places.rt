@@ -3,7 +3,7 @@ use lists::rooms::{plus, times};
 use lists::words::word;
 
 // Of each slice where it begins and how long it is; an ellipsoid that is not stable has one vector of scratch. Then where kappa and tsq, and the betas, stand, and where the case ends.
-#[derive(Drop)]
+#[derive(Clone, Copy)]
 pub(crate) struct Places {
     pub(crate) xc: usize,
     pub(crate) xc_len: usize,

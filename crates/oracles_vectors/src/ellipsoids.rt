@@ -15,7 +15,7 @@ use oracles::ell_stable::{EllStable, NewEllStable};
 use std::num::wrapping_add_usize;
 
 // An update's answer, and the numbers of the ellipsoid after it.
-#[derive(Drop)]
+#[derive(Clone, Copy)]
 struct Outcome {
     answered: Answered,
     kappa: f64,

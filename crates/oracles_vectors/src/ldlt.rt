@@ -9,7 +9,7 @@ use numbers::bits::to_bits;
 use oracles::ldlt_mgr::{Factored, Pos, factor, sym_quad, witness};
 
 // Two slices, one after the other, and the words of the case up to their end.
-#[derive(Drop)]
+#[derive(Clone, Copy)]
 struct Places {
     first: usize,
     first_len: usize,

@@ -6,7 +6,7 @@ use lists::tally::Replayed;
 use lists::words::word;
 use oracles::lmi_oracle::{LmiVerdict, assess_feas};
 
-#[derive(Drop)]
+#[derive(Clone, Copy)]
 struct Lengths {
     mat_b: usize,
     mat_f: usize,
@@ -17,7 +17,7 @@ struct Lengths {
 }
 
 // Where the slices begin, and where the last one ends.
-#[derive(Drop)]
+#[derive(Clone, Copy)]
 struct Places {
     mat_b: usize,
     mat_f: usize,

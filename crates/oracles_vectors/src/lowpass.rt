@@ -12,7 +12,7 @@ use numbers::cut::CutChoice;
 use oracles::lowpass_oracle::{Group, LowpassOracle, OptimVerdict, Verdict};
 
 // The outcome of a call: its verdict, and gamma and the state.
-#[derive(Drop)]
+#[derive(Clone, Copy)]
 struct Outcome {
     answered: Answered,
     rest: [u64; 17],

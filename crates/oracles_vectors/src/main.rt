@@ -1,4 +1,6 @@
 // Replays a list of the Rust's answers (docs/LISTS.md) through the public functions of `oracles`, case by case from standard input.
+#![tactic(auto)]
+
 mod answers;
 mod cursors;
 mod ell_places;

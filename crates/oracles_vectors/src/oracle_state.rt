@@ -9,7 +9,7 @@ use oracles::round_robin::RoundRobin;
 use std::num::wrapping_add_usize;
 
 // Where the slices begin and how long they are, where gamma stands if there is one, where the cursors and, of what is given apart from them, the rest of the state begin, and where the case ends.
-#[derive(Drop)]
+#[derive(Clone, Copy)]
 pub(crate) struct Places {
     pub(crate) table: usize,
     pub(crate) table_len: usize,

@@ -13,14 +13,14 @@ use oracles::round_robin::RoundRobin;
 use std::num::{wrapping_add_u64, wrapping_sub_u64};
 
 // A group's number, 4 for feasible, or 16 and a refusal's number; the largest stop value where there is one.
-#[derive(Drop)]
+#[derive(Clone, Copy)]
 struct Seen {
     verdict: u64,
     has_peak: bool,
     peak: f64,
 }
 
-#[derive(Drop)]
+#[derive(Clone, Copy)]
 struct Agreeing {
     feas: u64,
     optim: u64,

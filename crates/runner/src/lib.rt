@@ -1,4 +1,6 @@
 // What a program of this repository does with a job: reads it from standard input, runs it, and hands each line to standard output as it comes.
+#![tactic(auto)]
+
 mod run;
 
 pub use run::{run_input, run_stdin};

@@ -7,14 +7,14 @@ ghost use Rattle.streams.specs.Output.{handed};
 use crate::mark::mark_on;
 use libc::{STDERR_FILENO, STDOUT_FILENO};
 
-#[derive(Drop)]
+#[derive(Clone, Copy)]
 pub enum Stream {
     Stdout,
     Stderr,
 }
 
 // A text that was handed over: to which stream, and its mark.
-#[derive(Drop)]
+#[derive(Clone, Copy)]
 pub struct Handed {
     pub to: Stream,
     pub mark: u64,

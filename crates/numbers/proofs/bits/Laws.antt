@@ -17,15 +17,15 @@ use Rattle.numbers.specs.laws.Bits.{length_bytes, shift, shift_more, bytes_more,
 use Rattle.numbers.specs.Over.{over}
 use Rattle.numbers.specs.laws.Over.{over_none, store_on}
 
-is_nan : (x : Float) → is_nan x ≡ true → x ≡ nan
+nan_of_is_nan : (x : Float) → is_nan x ≡ true → x ≡ nan
 unfolding is_nan
-is_nan nan h = refl
-is_nan (inf s) h = absurd (subst T (sym h) tt)
-is_nan (fin s m e) h = absurd (subst T (sym h) tt)
+nan_of_is_nan nan h = refl
+nan_of_is_nan (inf s) h = absurd (subst T (sym h) tt)
+nan_of_is_nan (fin s m e) h = absurd (subst T (sym h) tt)
 
 pub above_nan : (w : ℕ) → 0x7ff0_0000_0000_0000 < w % 0x8000_0000_0000_0000 → nan ≡ of_bits binary64 w
 above_nan w h =
-    sym (is_nan (of_bits binary64 w) (sym (nan_bits_is binary64 w) ∙ nan_bits_above binary64 w ∙ lt-ltb 0x7ff0_0000_0000_0000 (w % 0x8000_0000_0000_0000) h))
+    sym (nan_of_is_nan (of_bits binary64 w) (sym (nan_bits_is binary64 w) ∙ nan_bits_above binary64 w ∙ lt-ltb 0x7ff0_0000_0000_0000 (w % 0x8000_0000_0000_0000) h))
 
 pub below_number : (w : ℕ) → w % 0x8000_0000_0000_0000 ≤ 0x7ff0_0000_0000_0000 → nan_bits binary64 w ≡ false
 below_number w h = nan_bits_above binary64 w ∙ le-ltb 0x7ff0_0000_0000_0000 (w % 0x8000_0000_0000_0000) h

@@ -1,0 +1,10 @@
+-- `numbers::bits::le_number` meets its contract: w is the number of the bytes passed, from the last one down.
+use Prim.Native.Nat.{◌-◌}
+use Rattle.numbers.proofs.bits.Laws.{Read}
+use Rattle.numbers.proofs.bits.le_number.Given as goal
+
+abbrev pub invariant-loop-i : goal.invariant-loop-i
+invariant-loop-i l = Read l.bytes l.w l.i
+
+abbrev pub decreases-loop-i : goal.decreases-loop-i
+decreases-loop-i l = l.i

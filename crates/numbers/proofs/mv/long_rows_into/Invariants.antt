@@ -1,0 +1,12 @@
+-- `numbers::mv::long_rows_into` meets its contract. The invariant: the loop has written the elements below i, each from its row. Assumes nothing.
+use Prim.Native.Nat.{◌-◌}
+use Rattle.numbers.specs.F64.{0ᶠ}
+use Rattle.numbers.specs.Arr.{dot_from, row_of}
+use Rattle.numbers.specs.laws.Arr.{FilledTo}
+use Rattle.numbers.proofs.mv.long_rows_into.Given as goal
+
+abbrev pub invariant-loop-i : goal.invariant-loop-i
+invariant-loop-i l = FilledTo (λ k. dot_from 0ᶠ (row_of l.n l.mat k) l.x) l.initial.out l.out l.i
+
+abbrev pub decreases-loop-i : goal.decreases-loop-i
+decreases-loop-i l = l.n - l.i

@@ -1,0 +1,10 @@
+-- `numbers::sqrt::root_digits` meets its contract. Assumes nothing.
+use Prim.Native.Nat.{◌-◌}
+use Rattle.numbers.proofs.sqrt.Laws.{Digits}
+use Rattle.numbers.proofs.sqrt.root_digits.Given as goal
+
+abbrev pub invariant-loop-i : goal.invariant-loop-i
+invariant-loop-i l = Digits l.m l.a l.rest l.d l.i
+
+abbrev pub decreases-loop-i : goal.decreases-loop-i
+decreases-loop-i l = 54 - l.i
