@@ -1,0 +1,18 @@
+-- `oracles::ell_common::Outcome::answer` meets its contract. Assumes nothing.
+use mathlib.Core.Path.{refl}
+use Rattle.oracles.proofs.ell_common.Outcome.answer.Goals as goal
+
+pub returns-in-Success : goal.returns-in-Success
+returns-in-Success c = rw c.in-Success.is refl
+
+pub returns-in-NoSoln : goal.returns-in-NoSoln
+returns-in-NoSoln c = rw c.in-NoSoln.is refl
+
+pub returns-in-NoEffect : goal.returns-in-NoEffect
+returns-in-NoEffect c = rw c.in-NoEffect.is refl
+
+pub returns-in-Dimension : goal.returns-in-Dimension
+returns-in-Dimension c = rw c.in-Dimension.is refl
+
+pub returns-in-Length : goal.returns-in-Length
+returns-in-Length c = rw c.in-Length.is refl

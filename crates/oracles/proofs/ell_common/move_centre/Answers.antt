@@ -1,0 +1,22 @@
+-- `oracles::ell_common::move_centre` meets its contract. The invariant: the entries below i are moved, the others as they were. Assumes nothing.
+use mathlib.Core.Path.{refl}
+use Prim.Native.Nat.{◌-◌}
+use native.Mathlib.Omega.{arith}
+use borrow.Author.Rules.{rules}
+use Rattle.oracles.specs.EllCommon.{centre_of}
+use Rattle.oracles.specs.laws.Loop.{sweep_zero, sweep_turn, sweep_left, sweep_done}
+use Rattle.oracles.proofs.ell_common.move_centre.Goals as goal
+
+pub loop-i-init : goal.loop-i-init
+loop-i-init c = (search rules, sweep_zero _ _ _ refl)
+
+pub loop-i-preserved : goal.loop-i-preserved
+loop-i-preserved c =
+    let l = c.loop-i in
+    (search rules, sweep_turn _ _ _ l.i l.xc l.invariant.1 _ (search rules) (rw (sweep_left _ _ _ l.i l.xc l.invariant.1 l.i (omega arith) (search rules))))
+
+pub returns : goal.returns
+unfolding centre_of
+returns c =
+    let l = c.loop-i in
+    sweep_done _ _ _ l.i l.xc l.invariant.1 (λ k b g. absurd (omega arith))

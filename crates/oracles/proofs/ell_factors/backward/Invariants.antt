@@ -1,0 +1,13 @@
+-- `oracles::ell_factors::backward` meets its contract. The invariant: the entries from i on are solved. Assumes nothing.
+use mathlib.Core.Path.{◌≡◌}
+use mathlib.Core.List.{◌++◌}
+use Prim.Native.Nat.{◌-◌, ◌<◌}
+use lib.ListN.{length, take}
+use Rattle.oracles.specs.EllStable.{backward}
+use Rattle.oracles.proofs.ell_factors.backward.Given as goal
+
+abbrev pub invariant-loop-i : goal.invariant-loop-i
+invariant-loop-i l = (l.i < l.n) × (length l.q ≡ l.n) × (l.q ≡ take l.i l.initial.q ++ backward l.n l.mq l.initial.q (l.n - l.i))
+
+abbrev pub decreases-loop-i : goal.decreases-loop-i
+decreases-loop-i l = l.i

@@ -1,0 +1,15 @@
+-- `oracles::ell_factors::omega_into` meets its contract. The invariant: the products below i are written, and added. Assumes nothing.
+use mathlib.Core.Path.{◌≡◌}
+use Prim.Native.Nat.{◌-◌, ◌≤◌}
+use lib.ListN.{length}
+use Rattle.numbers.specs.F64.{◌⊕◌, 0ᶠ}
+use Rattle.oracles.specs.Matrix.{nth, total}
+use Rattle.oracles.specs.laws.Matrix.{product_at}
+use Rattle.oracles.specs.laws.Loop.{VectorOf, swept}
+use Rattle.oracles.proofs.ell_factors.omega_into.Given as goal
+
+abbrev pub invariant-loop-i : goal.invariant-loop-i
+invariant-loop-i l = (l.i ≤ length l.w) × VectorOf (length l.initial.gg) (swept (product_at l.z l.w) (λ k. nth l.initial.gg k) l.i) l.gg × (l.omega ≡ total ◌⊕◌ 0ᶠ (product_at l.z l.w) l.i)
+
+abbrev pub decreases-loop-i : goal.decreases-loop-i
+decreases-loop-i l = length l.w - l.i

@@ -1,0 +1,12 @@
+-- `oracles::ell_factors::scale_into` meets its contract. The invariant: the entries below i are written. Assumes nothing.
+use Prim.Native.Nat.{◌-◌}
+use Rattle.numbers.specs.F64.{◌⊗◌}
+use Rattle.oracles.specs.Matrix.{nth, at}
+use Rattle.oracles.specs.laws.Loop.{VectorOf, swept}
+use Rattle.oracles.proofs.ell_factors.scale_into.Given as goal
+
+abbrev pub invariant-loop-i : goal.invariant-loop-i
+invariant-loop-i l = VectorOf l.n (swept (λ k. nth l.w k ⊗ at l.n l.mq k k) (λ k. nth l.initial.z k) l.i) l.z
+
+abbrev pub decreases-loop-i : goal.decreases-loop-i
+decreases-loop-i l = l.n - l.i

@@ -1,0 +1,42 @@
+-- `oracles::ell_stable::EllStable::update` meets its contract. Assumes nothing.
+use mathlib.Core.Path.{◌∙◌}
+use Rattle.oracles.specs.EllStable.{stable_buffers}
+use Rattle.oracles.proofs.ell_stable.Laws.{stable_no_effect, stable_fails, stable_succeeds}
+use Rattle.std.proofs.Math.Path.{ap}
+use Rattle.std.proofs.Math.Bool.{not}
+use Rattle.oracles.proofs.ell_stable.EllStable.update.Goals as goal
+
+pub returns-then-is_tiny : goal.returns-then-is_tiny
+returns-then-is_tiny c =
+    let a = c.args in
+    let p = c.prepare-omega in
+    stable_no_effect a.self a.strategy a.grad.now a.beta
+    (stable_buffers a.mq.now a.xc.now a.inv_ml_g.now a.inv_md_inv_ml_g.now a.gg_t.now a.g_t.now)
+    c.with_status.result p.result _ _ _ _ _ p.ensures c.is_tiny.ensures
+    c.if-is_tiny.true c.with_status.ensures
+
+pub returns-then-not-is_success : goal.returns-then-not-is_success
+returns-then-not-is_success c =
+    let a = c.args in
+    let p = c.prepare-omega in
+    stable_fails a.self a.strategy a.grad.now a.beta
+    (stable_buffers a.mq.now a.xc.now a.inv_ml_g.now a.inv_md_inv_ml_g.now a.gg_t.now a.g_t.now)
+    c.with_status-then-not-is_success.result p.result _ _ _ _ _ p.ensures c.is_tiny.ensures
+    c.calc-answer.result _ c.calc-answer.ensures c.is_success.ensures c.if-is_tiny.false
+    (ap not c.if-not-is_success.true) c.with_status-then-not-is_success.ensures
+
+pub succeed-requires : goal.succeed-requires
+succeed-requires c =
+    let p = c.prepare-omega in
+    (c.requires.0, c.requires.1, p.auto.mq ∙ c.requires.2.mq_long, c.requires.2.xc_long, p.auto.inv_md_inv_ml_g ∙ c.requires.2.inv_md_inv_ml_g_long, c.requires.2.g_t_long)
+
+pub returns : goal.returns
+returns c =
+    let a = c.args in
+    let p = c.prepare-omega in
+    let k = c.calc-answer in
+    stable_succeeds a.self a.strategy a.grad.now a.beta
+    (stable_buffers a.mq.now a.xc.now a.inv_ml_g.now a.inv_md_inv_ml_g.now a.gg_t.now a.g_t.now)
+    c.with_status-2.result p.result _ _ _ _ _ p.ensures c.is_tiny.ensures
+    k.result _ k.ensures c.is_success.ensures c.if-is_tiny.false
+    _ _ _ (ap not c.if-not-is_success.false) c.succeed.ensures c.with_status-2.ensures

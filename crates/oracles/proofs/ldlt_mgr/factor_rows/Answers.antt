@@ -1,0 +1,26 @@
+-- `oracles::ldlt_mgr::factor_rows` meets its contract. The invariant: the rows below i are written, and none of their pivots stopped it. Assumes nothing.
+use Prim.Native.Nat.{◌-◌}
+use borrow.Author.Rules.{rules}
+use Rattle.oracles.proofs.ldlt_mgr.Laws.{rows_start, rows_long, rows_factored, rows_turn, rows_stop, rows_done}
+use Rattle.oracles.proofs.ldlt_mgr.factor_rows.Goals as goal
+
+pub loop-i-init : goal.loop-i-init
+loop-i-init c = rows_start _ _ _ (search rules)
+
+pub factor_row-diag-requires : goal.factor_row-diag-requires
+factor_row-diag-requires c =
+    let l = c.loop-i in
+    (search rules, search rules, rows_long _ _ _ _ _ l.invariant, rows_factored _ _ _ _ _ l.invariant (search rules))
+
+pub returns-then-diag : goal.returns-then-diag
+returns-then-diag c =
+    let f = c.factor_row-diag in
+    rows_stop _ _ _ _ _ c.loop-i.invariant _ _ (search rules) f.ensures.1 f.ensures.0 c.if-diag.true
+
+pub loop-i-preserved : goal.loop-i-preserved
+loop-i-preserved c =
+    let f = c.factor_row-diag in
+    rows_turn _ _ _ _ _ c.loop-i.invariant _ _ (search rules) f.ensures.1 f.ensures.0 c.if-diag.false
+
+pub returns : goal.returns
+returns c = rows_done _ _ _ _ _ c.loop-i.invariant (search rules)

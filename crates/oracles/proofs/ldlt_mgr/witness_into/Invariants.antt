@@ -1,0 +1,10 @@
+-- `oracles::ldlt_mgr::witness_into` meets its contract. The invariant: the entries from i on are written. Assumes nothing.
+use Prim.Native.Nat.{◌≤◌, ◌-◌}
+use Rattle.oracles.proofs.ldlt_mgr.WitnessLaws.{WitnessTo}
+use Rattle.oracles.proofs.ldlt_mgr.witness_into.Given as goal
+
+abbrev pub invariant-loop-i : goal.invariant-loop-i
+invariant-loop-i l = (l.start ≤ l.i) × WitnessTo l.m l.storage l.end l.initial.wit l.wit l.i
+
+abbrev pub decreases-loop-i : goal.decreases-loop-i
+decreases-loop-i l = l.i

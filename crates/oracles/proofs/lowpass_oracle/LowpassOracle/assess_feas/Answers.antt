@@ -1,0 +1,22 @@
+-- `oracles::lowpass_oracle::LowpassOracle::assess_feas` meets its contract. Assumes nothing.
+use Rattle.oracles.specs.laws.Assess.{assessable_of, accepted_of}
+use Rattle.oracles.proofs.Faults.{sound_of}
+use Rattle.oracles.proofs.lowpass_oracle.Answers.{tests_found, tests_refuse, tests_accept, assessed}
+use Rattle.oracles.proofs.lowpass_oracle.LowpassOracle.assess_feas.Goals as goal
+
+pub assess-requires : goal.assess-requires
+assess-requires c =
+    let a = c.args in
+    assessable_of a.self a.n a.rows a.table.now a.x.now a.grad.now (accepted_of a.self a.n a.rows a.table.now a.x.now a.grad.now (tests_accept a.self a.n a.rows a.table.now a.x.now a.grad.now c.in-Sound.is (tests_found a.self a.n a.rows a.table.now a.x.now a.grad.now c.first_fault-fault.ensures c.is_dimension.ensures c.table_fits.ensures c.bands_fit.ensures c.cursors_fit.ensures)))
+
+pub returns-in-Sound : goal.returns-in-Sound
+returns-in-Sound c =
+    let a = c.args in
+    let p = assessed a.self a.n a.rows a.table.now a.x.now a.grad.now _ _ (tests_accept a.self a.n a.rows a.table.now a.x.now a.grad.now c.in-Sound.is (tests_found a.self a.n a.rows a.table.now a.x.now a.grad.now c.first_fault-fault.ensures c.is_dimension.ensures c.table_fits.ensures c.bands_fit.ensures c.cursors_fit.ensures)) c.assess.ensures in
+    record { grad_after = p.0; by_feas_rule = p.1 }
+
+pub returns-in-At : goal.returns-in-At
+returns-in-At c =
+    let a = c.args in
+    let p = tests_refuse a.self a.n a.rows a.table.now a.x.now a.grad.now c.in-At.is (tests_found a.self a.n a.rows a.table.now a.x.now a.grad.now c.first_fault-fault.ensures c.is_dimension.ensures c.table_fits.ensures c.bands_fit.ensures c.cursors_fit.ensures) in
+    record { grad_after = p.0; by_feas_rule = p.1 }

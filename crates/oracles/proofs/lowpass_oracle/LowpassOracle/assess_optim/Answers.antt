@@ -1,0 +1,39 @@
+-- `oracles::lowpass_oracle::LowpassOracle::assess_optim` meets its contract. Assumes nothing.
+use mathlib.Core.Path.{◌≡◌, refl, ap, ◌∙◌}
+use mathlib.Core.List.{List}
+use Prim.Native.Nat.{ℕ}
+use lib.Ieee.{Float}
+use Rattle.oracles.specs.LowpassOracle.{offered, assess_feas_answer}
+use Rattle.oracles.specs.declared.lowpass_oracle.LowpassOracle.{LowpassOracle}
+use Rattle.oracles.specs.declared.lowpass_oracle.Assessed.{Assessed}
+use Rattle.oracles.proofs.lowpass_oracle.Answers.{feasible_leaves, optim_as, feasible_of}
+use Rattle.oracles.proofs.lowpass_oracle.LowpassOracle.assess_optim.Goals as goal
+
+-- the answer of the oracle with the offered number
+of_offered : (o : LowpassOracle) (gamma : Float) (n rows : ℕ) (table x grad : List Float) (o' : LowpassOracle) → o' ≡ offered o gamma → (p : Assessed × List Float)
+    → p ≡ assess_feas_answer o' n rows table x grad → p ≡ assess_feas_answer (offered o gamma) n rows table x grad
+of_offered o gamma n rows table x grad o' eo p e = e ∙ ap (λ (z : LowpassOracle). assess_feas_answer z n rows table x grad) eo
+
+pub improved-requires : goal.improved-requires
+improved-requires c =
+    let a = c.args in
+    feasible_leaves _ a.n a.rows a.table.now a.x.now a.grad.now c.assess_feas-assessed.result _
+    (of_offered a.self a.gamma a.n a.rows a.table.now a.x.now a.grad.now _ c.offered-after.ensures _ c.assess_feas-assessed.ensures.grad_after) c.in-Feasible.is
+
+pub returns-in-Feasible : goal.returns-in-Feasible
+returns-in-Feasible c =
+    let a = c.args in
+    let p = optim_as a.self a.gamma a.n a.rows a.table.now a.x.now a.grad.now _ _ (of_offered a.self a.gamma a.n a.rows a.table.now a.x.now a.grad.now _ c.offered-after.ensures _ c.assess_feas-assessed.ensures.grad_after) _ c.in-Feasible.is _ _ c.improved.ensures in
+    record { grad_after = p.0; by_optim_rule = p.1 }
+
+pub returns-in-Cut : goal.returns-in-Cut
+returns-in-Cut c =
+    let a = c.args in
+    let p = optim_as a.self a.gamma a.n a.rows a.table.now a.x.now a.grad.now _ _ (of_offered a.self a.gamma a.n a.rows a.table.now a.x.now a.grad.now _ c.offered-after.ensures _ c.assess_feas-assessed.ensures.grad_after) _ c.in-Cut.is _ _ refl in
+    record { grad_after = p.0; by_optim_rule = p.1 }
+
+pub returns-in-Refused : goal.returns-in-Refused
+returns-in-Refused c =
+    let a = c.args in
+    let p = optim_as a.self a.gamma a.n a.rows a.table.now a.x.now a.grad.now _ _ (of_offered a.self a.gamma a.n a.rows a.table.now a.x.now a.grad.now _ c.offered-after.ensures _ c.assess_feas-assessed.ensures.grad_after) _ c.in-Refused.is _ _ refl in
+    record { grad_after = p.0; by_optim_rule = p.1 }

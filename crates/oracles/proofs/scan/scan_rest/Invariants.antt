@@ -1,0 +1,15 @@
+-- `oracles::scan::scan_rest` meets its contract: at each turn what is left computes the answer. Assumes nothing.
+use mathlib.Core.Path.{◌≡◌}
+use mir.Syntax.{w32}
+use mir.Val.{to_z}
+use Rattle.oracles.specs.Scan.{scan_from}
+use Rattle.oracles.specs.laws.ScanRun.{RowsLeft}
+use Rattle.oracles.specs.declared.scan.Upper.TheVariants.{Limit}
+use Rattle.oracles.proofs.scan.scan_rest.Given as goal
+
+abbrev pub invariant-loop-left : goal.invariant-loop-left
+invariant-loop-left l =
+    RowsLeft l.n l.table l.rr l.left × (scan_from l.n l.table l.x l.lower (Limit l.limit) l.left l.rr l.fmax l.kmax ≡ scan_from l.n l.table l.x l.lower (Limit l.limit) l.initial.left l.initial.rr l.initial.fmax l.initial.kmax)
+
+abbrev pub decreases-loop-left : goal.decreases-loop-left
+decreases-loop-left l = l.left
