@@ -1,1 +1,2 @@
 pub mod Signs
+mod Filling

@@ -184,9 +184,9 @@ pub fn cutting_plane_feas(
     grad_t: &mut [f64],
     x_best: &mut [f64],
 ) -> FeasRun
-    ensures x_best_after { (result.answer, state_of result.oracle result.ell mq.new xc.new grad.new grad_t.new, x_best.new)
+    ensures answer_and_state { (result.answer, state_of result.oracle result.ell mq.new xc.new grad.new grad_t.new, x_best.new)
         ≡ feas_answer options rows table.now (state_of oracle ell mq.old xc.old grad.old grad_t.old) x_best.old }
-    ensures fact { (why : Refusal) → result.answer ≡ NotRun why →
+    ensures refused_writes_nothing { (why : Refusal) → result.answer ≡ NotRun why →
         ◌≡◌ {A = State × List Float}
         (state_of result.oracle result.ell mq.new xc.new grad.new grad_t.new, x_best.new)
         (state_of oracle ell mq.old xc.old grad.old grad_t.old, x_best.old) }

@@ -193,10 +193,10 @@ pub fn cutting_plane_optim(
     grad_t: &mut [f64],
     x_best: &mut [f64],
 ) -> OptimRun
-    ensures x_best_after { optim_end result.answer result.oracle result.ell result.gamma mq.new xc.new grad.new grad_t.new x_best.new
+    ensures answer_and_state { optim_end result.answer result.oracle result.ell result.gamma mq.new xc.new grad.new grad_t.new x_best.new
         ≡ optim_answer options rows table.now
         (optim_state_of oracle ell gamma false mq.old xc.old grad.old grad_t.old x_best.old) }
-    ensures x_best_after_2 { (why : Refusal) → result.answer ≡ NotRunOptim why →
+    ensures refused_writes_nothing { (why : Refusal) → result.answer ≡ NotRunOptim why →
         optim_end result.answer result.oracle result.ell result.gamma mq.new xc.new grad.new grad_t.new x_best.new
         ≡ optim_end result.answer oracle ell gamma mq.old xc.old grad.old grad_t.old x_best.old }
 {

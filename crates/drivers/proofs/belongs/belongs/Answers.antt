@@ -1,0 +1,40 @@
+-- `drivers::belongs::belongs` meets its contract. Assumes nothing.
+use mathlib.Core.Path.{◌≡◌, refl, sym, ap, ◌∙◌}
+use mathlib.Core.List.{List}
+use Prim.Native.Nat.{ℕ}
+use lib.Ieee.{Float}
+use Rattle.oracles.specs.LowpassOracle.{assess_feas_answer}
+use Rattle.oracles.specs.declared.lowpass_oracle.LowpassOracle.{LowpassOracle}
+use Rattle.oracles.specs.declared.lowpass_oracle.Assessed.{Assessed}
+use Rattle.drivers.specs.laws.Belongs.{no_dimension, no_length, belongs_by, belonging_of}
+use Rattle.numbers.specs.laws.Pick.{hit, skip, says_no, says_yes}
+use Rattle.std.proofs.Math.Bool.{not}
+use Rattle.drivers.proofs.belongs.belongs.Goals as goal
+
+-- the oracle of a job assesses as what it starts with
+by_oracle : (o o' : LowpassOracle) (n rows : ℕ) (table x grad : List Float) {r : Assessed × List Float} → o ≡ o' → r ≡ assess_feas_answer o n rows table x grad → r ≡ assess_feas_answer o' n rows table x grad
+by_oracle o o' n rows table x grad h e = e ∙ ap (λ (q : LowpassOracle). assess_feas_answer q n rows table x grad) h
+
+pub returns-then-not-is_dimension : goal.returns-then-not-is_dimension
+returns-then-not-is_dimension c = let a = c.args in no_dimension a.job a.table.now a.x.now a.answer a.point.now a.grad.now (says_no _ _ c.is_dimension.ensures (ap not c.if-not-is_dimension.true))
+
+pub returns-then-not-x-n : goal.returns-then-not-x-n
+returns-then-not-x-n c =
+    let a = c.args in
+    no_length a.job a.table.now a.x.now a.answer a.point.now a.grad.now (says_yes _ _ c.is_dimension.ensures (ap not c.if-not-is_dimension.false)) (says_no _ _ refl (ap not c.if-not-x-n.true))
+
+pub returns-then-answer : goal.returns-then-answer
+returns-then-answer c =
+    let f = c.assess_feas-assessed in
+    let a = c.args in
+    let t = c.if-answer.true in
+    belongs_by a.job a.table.now a.x.now a.answer a.point.now a.grad.now (says_yes _ _ refl (ap not c.if-not-x-n.false)) _ (hit _ _ _ _ t refl)
+    f.result _ (by_oracle _ _ _ _ _ _ _ c.oracle-oracle.ensures f.ensures.grad_after) _ (c.belonging_of.ensures ∙ ap (belonging_of f.result.verdict) (sym t))
+
+pub returns : goal.returns
+returns c =
+    let f = c.assess_feas-assessed-2 in
+    let a = c.args in
+    let t = c.if-answer.false in
+    belongs_by a.job a.table.now a.x.now a.answer a.point.now a.grad.now (says_yes _ _ refl (ap not c.if-not-x-n.false)) _ (skip _ _ _ _ t refl)
+    f.result _ (by_oracle _ _ _ _ _ _ _ c.oracle-oracle.ensures f.ensures.grad_after) _ (c.belonging_of-2.ensures ∙ ap (belonging_of f.result.verdict) (sym t))

@@ -1,0 +1,12 @@
+-- `drivers::cutting_plane::keep` meets its contract. The invariant: the loop has written the numbers below i. Assumes nothing.
+use Prim.Native.Nat.{◌≤◌, ◌-◌}
+use lib.ListN.{length, get_or}
+use lib.Ieee.{nan}
+use Rattle.numbers.specs.laws.Arr.{FilledTo}
+use Rattle.drivers.proofs.cutting_plane.keep.Given as goal
+
+abbrev pub invariant-loop-i : goal.invariant-loop-i
+invariant-loop-i l = FilledTo (λ k. get_or l.xc k nan) l.initial.x_best l.x_best l.i × (l.i ≤ length l.xc)
+
+abbrev pub decreases-loop-i : goal.decreases-loop-i
+decreases-loop-i l = length l.xc - l.i

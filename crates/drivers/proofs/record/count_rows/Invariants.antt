@@ -1,0 +1,13 @@
+-- `drivers::record::count_rows` meets its contract: at each turn the rows so far and those that are left make the answer. Assumes nothing.
+use mathlib.Core.Path.{◌≡◌}
+use Prim.Native.Nat.{◌≤◌, ◌+◌, ◌-◌}
+use lib.ListN.{length}
+use Rattle.drivers.specs.Record.{fields_of, row_count}
+use Rattle.drivers.specs.laws.Record.{fields_after}
+use Rattle.drivers.proofs.record.count_rows.Given as goal
+
+abbrev pub invariant-loop-at : goal.invariant-loop-at
+invariant-loop-at l = (l.rows ≤ l.at) × (l.rows + row_count l.bytes (fields_after l.bytes l.at) ≡ row_count l.bytes (fields_of l.bytes))
+
+abbrev pub decreases-loop-at : goal.decreases-loop-at
+decreases-loop-at l = length l.bytes - l.at

@@ -1,0 +1,13 @@
+-- `drivers::record::missing_fault` meets its contract. The invariant: no tag below i is missing. Assumes nothing.
+use mathlib.Core.Path.{◌≡◌}
+use mathlib.Core.Bool.{false}
+use Prim.Native.Nat.{ℕ, ◌<◌, ◌≤◌, ◌-◌}
+use Rattle.drivers.specs.Record.{is_missing}
+use Rattle.drivers.specs.Rules.{tags}
+use Rattle.drivers.proofs.record.missing_fault.Given as goal
+
+abbrev pub invariant-loop-i : goal.invariant-loop-i
+invariant-loop-i l = (l.i ≤ tags) × ((j : ℕ) → j < l.i → is_missing l.form l.places j ≡ false)
+
+abbrev pub decreases-loop-i : goal.decreases-loop-i
+decreases-loop-i l = tags - l.i

@@ -1,0 +1,22 @@
+-- `drivers::run::Run::next` meets its contract. Assumes nothing.
+use mathlib.Core.Path.{sym, ◌∙◌}
+use Rattle.oracles.specs.Ell.{ell_buffers}
+use Rattle.drivers.proofs.run.Steps.{roomy, next_faulty, next_step, next_limit}
+use Rattle.drivers.proofs.run.Run.next.Goals as goal
+
+pub step-requires : goal.step-requires
+step-requires c =
+    let a = c.args in
+    (c.if-self-options.true, roomy a.self a.table.now (ell_buffers a.mq.now a.xc.now a.grad_t.now) a.grad.now a.out.now (sym c.in-Sound.is ∙ c.check-fault.ensures))
+
+pub returns-then-self-options : goal.returns-then-self-options
+returns-then-self-options c =
+    next_step _ _ _ _ _ (sym c.in-Sound.is ∙ c.check-fault.ensures) _ c.if-self-options.true c.step.ensures
+
+pub returns-in-At : goal.returns-in-At
+returns-in-At c =
+    next_faulty _ _ _ _ _ _ _ _ (sym c.in-At.is ∙ c.check-fault.ensures) c.refused.ensures
+
+pub returns-else-self-options : goal.returns-else-self-options
+returns-else-self-options c =
+    next_limit _ _ _ _ _ (sym c.in-Sound.is ∙ c.check-fault.ensures) _ c.if-self-options.false c.put_last.ensures

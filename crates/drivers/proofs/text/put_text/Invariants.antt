@@ -1,0 +1,11 @@
+-- `drivers::text::put_text` meets its contract. The invariant: i bytes are copied. Assumes nothing.
+use Prim.Native.Nat.{◌-◌}
+use lib.ListN.{length}
+use Rattle.drivers.proofs.text.Turns.{Copied}
+use Rattle.drivers.proofs.text.put_text.Given as goal
+
+abbrev pub invariant-loop-i : goal.invariant-loop-i
+invariant-loop-i l = Copied l.initial.out l.out l.at l.text l.i
+
+abbrev pub decreases-loop-i : goal.decreases-loop-i
+decreases-loop-i l = length l.text - l.i
