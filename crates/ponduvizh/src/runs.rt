@@ -120,13 +120,13 @@ pub extern "C" fn ponduvizh_cutting_plane_feas(
     grad_t: &mut [f64],
     x_best: &mut [f64],
 ) -> u64
-    ensures x_best_after { run_end result (run_numbers answer.new marks.new values.new)
+    ensures answer_and_state { run_end result (run_numbers answer.new marks.new values.new)
         (ell_buffers mq.new xc.new grad_t.new) grad.new x_best.new
         ≡ feas_exported (new_ell_answer n kappa) (start_oracle nwpass nwstop mdim cur1 cur2 cur3 lp_sq up_sq sp_sq)
         (record { max_iters = max_iters; tolerance = tolerance }) rows table.now
         (run_end 0 (run_numbers answer.old marks.old values.old)
         (ell_buffers mq.old xc.old grad_t.old) grad.old x_best.old) }
-    ensures fact { eqb result 0 ≡ false → ◌≡◌ {A = RunEnd}
+    ensures refused_writes_nothing { eqb result 0 ≡ false → ◌≡◌ {A = RunEnd}
         (run_end result (run_numbers answer.new marks.new values.new)
         (ell_buffers mq.new xc.new grad_t.new) grad.new x_best.new)
         (run_end result (run_numbers answer.old marks.old values.old)
@@ -169,7 +169,7 @@ pub extern "C" fn ponduvizh_cutting_plane_optim(
     grad_t: &mut [f64],
     x_best: &mut [f64],
 ) -> u64
-    ensures gamma_after { (
+    ensures answer_and_state { (
       run_end result (run_numbers answer.new marks.new values.new)
           (ell_buffers mq.new xc.new grad_t.new) grad.new x_best.new,
       gamma.new,
@@ -178,7 +178,7 @@ pub extern "C" fn ponduvizh_cutting_plane_optim(
         (record { max_iters = max_iters; tolerance = tolerance }) rows table.now gamma.old
         (run_end 0 (run_numbers answer.old marks.old values.old)
         (ell_buffers mq.old xc.old grad_t.old) grad.old x_best.old) }
-    ensures fact { eqb result 0 ≡ false → eqb result 6 ≡ false → ◌≡◌ {A = RunEnd × Float} (
+    ensures refused_writes_nothing { eqb result 0 ≡ false → eqb result 6 ≡ false → ◌≡◌ {A = RunEnd × Float} (
       run_end result (run_numbers answer.new marks.new values.new)
           (ell_buffers mq.new xc.new grad_t.new) grad.new x_best.new,
       gamma.new,
