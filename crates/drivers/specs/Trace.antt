@@ -1,5 +1,5 @@
 -- The text of a run (document 01, "The program `filterrun`"): a line for each cut, then the answer, or one line that refuses the job. Definitions only.
-use Rattle.std.specs.Prelude.{ℕ, ◌-◌, Bool, true, false, List, [], ◌∷◌, ◌++◌, length}
+use Rattle.std.specs.Prelude.{ℕ, Bool, true, false, List, [], ◌∷◌, ◌++◌, length}
 use Rattle.numbers.specs.Pick.{pick}
 use Rattle.numbers.specs.Bits.{bits_of}
 use Rattle.numbers.specs.Refusal.{refusal_number, unless}

@@ -1,7 +1,7 @@
 -- Signed numbers of 32 bits: which sums fit, and what is read back from the bits. Assumes nothing.
 use mathlib.Core.Path.{◌≡◌, refl, sym, ap, ◌∙◌, subst}
 use mathlib.Core.Bool.{Bool, true, false, true≢false}
-use Prim.Native.Nat.{ℕ, zero, suc, ◌≤◌, ◌+◌}
+use Prim.Native.Nat.{ℕ, zero, suc, ◌≤◌}
 use native.Mathlib.Omega.{arith}
 use borrow.Author.Tests.{ltb-true, eqb-true, eqb-false}
 use lib.IntN.{ℤ, pos, negsuc, pred_ℤ, suc_ℤ, nat_abs, ◌+ℤ◌, ◌-ℤ◌, +ℤ_one, -ℤ_one, suc-pred}

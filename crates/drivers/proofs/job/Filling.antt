@@ -2,7 +2,7 @@
 use mathlib.Core.Path.{◌≡◌, refl, sym, ap, ◌∙◌}
 use mathlib.Core.Bool.{true, false}
 use mathlib.Core.List.{List, [], ◌++◌, append_assoc, append-nil}
-use Prim.Native.Nat.{ℕ, ◌<◌, ◌≤◌, ◌+◌, ◌-◌, ◌*◌}
+use Prim.Native.Nat.{ℕ, ◌<◌, ◌≤◌, ◌+◌, ◌*◌}
 use native.Mathlib.Omega.{arith}
 use lib.ListN.{length, take, drop, length-append, length-drop, take-append-drop}
 use lib.Seq.{length-take-le, take_at, drop_at, drop-drop}
@@ -11,8 +11,7 @@ use Rattle.numbers.specs.Pick.{pick}
 use Rattle.numbers.specs.laws.Arr.{length_tab}
 use Rattle.numbers.specs.laws.Pick.{is_hit, is_skip, by_test}
 use Rattle.drivers.specs.Record.{content_of, number_at, numbers_at, after, fields_of, is_row, rows_in, row_count, rows_of, fronted}
-use Rattle.drivers.specs.laws.Record.{fields_after, fields_start, fields_turn, fields_end, left_less, row_filled}
-use borrow.Author.Rules.{rules}
+use Rattle.drivers.specs.laws.Record.{fields_after, fields_start, fields_turn, fields_end, row_filled}
 use Rattle.numbers.specs.laws.Over.{over_front}
 
 -- the fields before `at` have filled the table up to k

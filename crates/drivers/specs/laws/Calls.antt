@@ -153,7 +153,7 @@ module _ (table : List Float) (r : CallEnd) (e : r.0.more ≡ true) where
 pub all_from : (run : Run) (table : List Float) (b : EllBuffers) (grad : List Float) (out : List ℕ) (r : CallEnd) → r ≡ next_answer run table b grad out
     → last_of (calls_after r.0) table r ≡ run_all_answer run table b grad out
 unfolding run_all_answer
-all_from run table b grad out r e = ap (λ (q : CallEnd). last_of (calls_after q.0) table q) e
+all_from run₀ table b grad out r e = ap (λ (q : CallEnd). last_of (calls_after q.0) table q) e
 
 pub texts_from : (run : Run) (table : List Float) (b : EllBuffers) (grad : List Float) (out : List ℕ) (r : CallEnd) → r ≡ next_answer run table b grad out
     → text_of r ++ texts_after table r ≡ run_all_text run table b grad out

@@ -22,7 +22,7 @@ use Rattle.drivers.specs.laws.Trace.{calls_print, text_in, printed_by}
 use Rattle.drivers.specs.laws.Calls.{calls_enough, run_all_text}
 use Rattle.drivers.specs.laws.JobRuns.{JobHeld, FullLong, full_long, room_held, tests_held, held_slices, job_run, job_run_sound, run_made, front_is}
 use Rattle.drivers.specs.Program.{first_state, job_text, program_text}
-use Rattle.numbers.specs.declared.refusal.Fault.TheVariants.{Sound, At}
+use Rattle.numbers.specs.declared.refusal.Fault.TheVariants.{Sound}
 use Rattle.drivers.specs.declared.trace.Source.TheVariants.{Only}
 use Rattle.drivers.specs.declared.input.TakenJob.{TakenJob}
 use Rattle.drivers.specs.declared.run.Run.{Run}

@@ -1,5 +1,5 @@
 -- Laws of the table of tags. Assumes nothing.
-use Rattle.std.specs.Prelude.{◌≡◌, refl, Bool, true, false, ◌&&◌, List, [], ◌∷◌, ℕ, zero, suc, ◌≤◌, ◌<◌, ◌+◌, ◌-◌, ◌/◌, ◌%◌, leb, ltb, eqb, drop, get_or}
+use Rattle.std.specs.Prelude.{◌≡◌, refl, Bool, true, false, ◌&&◌, List, [], ◌∷◌, ℕ, zero, suc, ◌≤◌, ◌<◌, ◌+◌, ◌/◌, ◌%◌, leb, ltb, eqb, drop, get_or}
 use Rattle.std.proofs.Common.{sym, ap, ◌∙◌, true≢false, add-one, ltb-true, ltb-false, leb-true, eq-eqb, ne_eqb, drop-cons}
 use Rattle.std.proofs.Math.Bool.{and-eq-true_iff}
 use Rattle.std.proofs.Math.Nat.{zero-div}

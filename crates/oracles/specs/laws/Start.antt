@@ -1,5 +1,5 @@
 -- Laws of an oracle at its start. Assumes nothing.
-use Rattle.std.specs.Prelude.{◌≡◌, refl, true, false, ℕ, ◌≤◌, leb, ℤ, pos, negsuc, ◌-ℤ◌, Float}
+use Rattle.std.specs.Prelude.{◌≡◌, refl, true, ℕ, ◌≤◌, leb, ℤ, pos, negsuc, ◌-ℤ◌, Float}
 use Rattle.std.proofs.Common.{sym, ap, true≢false, arith, leb-true, le-leb}
 use Rattle.std.specs.Int.Signed.{le_z}
 use Rattle.numbers.specs.laws.Pick.{and_parts}

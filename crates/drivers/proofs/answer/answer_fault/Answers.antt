@@ -50,7 +50,7 @@ pub returns-then-is_fault : goal.returns-then-is_fault
 returns-then-is_fault c =
     let a = c.args in
     let p = at_walk a.n a.bytes.now a.room (says_yes _ _ c.is_dimension.ensures (ap not c.if-not-is_dimension.false)) _ c.requires _ _ c.record_fault-fault.ensures
-        (sym c.is_fault.ensures ∙ c.if-is_fault.true) in
+    (sym c.is_fault.ensures ∙ c.if-is_fault.true) in
     record { value = p.0; places_after = p.1 }
 
 pub content_fault-requires : goal.content_fault-requires
@@ -61,5 +61,5 @@ pub returns : goal.returns
 returns c =
     let a = c.args in
     let p = behind a.n a.bytes.now a.room (says_yes _ _ c.is_dimension.ensures (ap not c.if-not-is_dimension.false)) _ c.requires _ _ c.record_fault-fault.ensures
-        (sym c.is_fault.ensures ∙ c.if-is_fault.false) _ c.content_fault.ensures in
+    (sym c.is_fault.ensures ∙ c.if-is_fault.false) _ c.content_fault.ensures in
     record { value = p.0; places_after = p.1 }

@@ -65,7 +65,7 @@ returns c =
     let a = c.args in
     let z = c.if-places-eq0.false in
     let p = found a.n a.bytes.now a.places.now a.point.now _ c.half_at-steps.ensures z _ c.numbers_into.ensures
-        (roomy a.places.now c.requires.1 z) in
+    (roomy a.places.now c.requires.1 z) in
     record { value = p.0; point_after = p.1 }
 
 pub overflow_cast-steps : goal.overflow_cast-steps

@@ -1,8 +1,6 @@
 -- `drivers::answer::put_answer` meets its contract. Assumes nothing.
 use borrow.Author.Tests.{not-true, not-false}
 use Rattle.drivers.proofs.answer.Writes.{none_put, found_put}
-use Rattle.std.proofs.Math.Path.{ap}
-use Rattle.std.proofs.Math.Bool.{not}
 use Rattle.drivers.proofs.answer.put_answer.Goals as goal
 
 pub returns-then-not-answer : goal.returns-then-not-answer

@@ -16,5 +16,5 @@ returns-in-Sound c =
     let k = c.check-fault in
     let r = c.run_feas-run in
     let p = feas_done a.options a.rows a.table.now (state_of a.oracle a.ell a.mq.now a.xc.now a.grad.now a.grad_t.now) a.x_best.now k.result k.ensures c.in-Sound.is
-        r.result.answer _ r.ensures c.is_found.result c.is_found.ensures _ c.keep.ensures in
+    r.result.answer _ r.ensures c.is_found.result c.is_found.ensures _ c.keep.ensures in
     record { answer_and_state = p.0; refused_writes_nothing = p.1 }

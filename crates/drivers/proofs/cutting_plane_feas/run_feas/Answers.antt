@@ -1,6 +1,5 @@
 -- `drivers::cutting_plane_feas::run_feas` meets its contract. The invariant: the steps that are left compute the answer. Assumes nothing.
 use mathlib.Core.Path.{refl, sym, ◌∙◌}
-use Prim.Native.Nat.{◌-◌}
 use native.Mathlib.Omega.{arith}
 use Rattle.drivers.specs.CuttingPlane.{state_of}
 use Rattle.drivers.specs.CuttingPlaneFeas.{feas_run}

@@ -1,7 +1,6 @@
 -- `drivers::cutting_plane_optim::run_optim` meets its contract. The invariant: the steps that are left compute the answer. Assumes nothing.
 use mathlib.Core.Path.{refl, sym, ◌∙◌}
 use mathlib.Core.Bool.{false}
-use Prim.Native.Nat.{◌-◌}
 use native.Mathlib.Omega.{arith}
 use Rattle.drivers.specs.CuttingPlaneOptim.{optim_state_of, optim_run}
 use Rattle.drivers.proofs.cutting_plane.Left.{all_left}

@@ -1,5 +1,4 @@
 -- `drivers::fields::put_numbers` meets its contract. The invariant: the numbers that are left make the answer. Assumes nothing.
-use Prim.Native.Nat.{◌-◌}
 use mathlib.Core.Path.{refl, ◌∙◌}
 use native.Mathlib.Omega.{arith}
 use Rattle.drivers.proofs.fields.Puts.{numbers_turn, numbers_done}

@@ -1,7 +1,7 @@
 -- `drivers::record::count_rows` meets its contract: at each turn the rows so far and those that are left make the answer. Assumes nothing.
 use mathlib.Core.Path.{◌≡◌, ap}
 use mathlib.Core.List.{List}
-use Prim.Native.Nat.{ℕ, ◌<◌, ◌≤◌, ◌+◌, ◌-◌}
+use Prim.Native.Nat.{ℕ, ◌<◌, ◌≤◌, ◌+◌}
 use native.Mathlib.Omega.{arith}
 use lib.ListN.{length}
 use Rattle.drivers.specs.Record.{is_row, rows_in, after, row_count}

@@ -1,7 +1,5 @@
 -- `drivers::record::numbers_into` meets its contract. The invariant: the numbers below i are written. Assumes nothing.
-use Prim.Native.Nat.{◌-◌}
 use Rattle.numbers.specs.laws.Arr.{filled_start, filled_turn, filled_done}
-use Rattle.drivers.specs.Record.{number_at}
 use borrow.Author.Rules.{rules}
 use Rattle.drivers.proofs.record.numbers_into.Goals as goal
 

@@ -1,5 +1,5 @@
 -- `numbers::arr::add_products` meets its contract. The invariant: what is left to add, begun at the sum so far, gives the answer. Assumes nothing.
-use Prim.Native.Nat.{◌+◌, ◌-◌}
+use Prim.Native.Nat.{◌+◌}
 use borrow.Author.Rules.{rules}
 use Rattle.numbers.proofs.arr.Laws.{sum_again, sum_two, sum_done}
 use Rattle.numbers.proofs.arr.add_products.Goals as goal

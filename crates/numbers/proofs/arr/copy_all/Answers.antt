@@ -1,6 +1,5 @@
 -- `numbers::arr::copy_all` meets its contract. The invariant: the loop has written the elements below i. Assumes nothing.
 use mathlib.Core.Path.{refl, ◌∙◌}
-use Prim.Native.Nat.{◌-◌}
 use borrow.Author.Rules.{rules}
 use Rattle.numbers.specs.laws.Arr.{filled_start, filled_turn, filled_done}
 use Rattle.numbers.proofs.arr.Laws.{copied}

@@ -1,6 +1,5 @@
 -- `numbers::arr::fill_zero` meets its contract. The invariant: the loop has written the elements below i. Assumes nothing.
 use mathlib.Core.Path.{refl, ◌∙◌}
-use Prim.Native.Nat.{◌-◌}
 use borrow.Author.Rules.{rules}
 use Rattle.numbers.specs.F64.{0ᶠ}
 use Rattle.numbers.specs.laws.Arr.{filled_start, filled_turn, filled_done, tab_replicate}

@@ -1,6 +1,5 @@
 -- `numbers::arr::set_diagonal` meets its contract. The invariant: the entries (k, k) with k below i are set. Assumes nothing.
 use mathlib.Core.Path.{refl}
-use Prim.Native.Nat.{◌-◌}
 use native.Mathlib.Omega.{arith}
 use borrow.Author.Rules.{rules}
 use Rattle.numbers.specs.laws.Arr.{row_in}

@@ -1,5 +1,4 @@
 -- `numbers::bits::le_number` meets its contract: w is the number of the bytes passed, from the last one down.
-use Prim.Native.Nat.{◌-◌}
 use Rattle.numbers.proofs.bits.Laws.{Read}
 use Rattle.numbers.proofs.bits.le_number.Given as goal
 

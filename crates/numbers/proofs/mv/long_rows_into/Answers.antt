@@ -1,6 +1,5 @@
 -- `numbers::mv::long_rows_into` meets its contract. The invariant: the loop has written the elements below i, each from its row. Assumes nothing.
 use mathlib.Core.Path.{ap, ◌∙◌}
-use Prim.Native.Nat.{◌-◌}
 use native.Mathlib.Omega.{arith}
 use lib.ListN.{length-set}
 use Rattle.numbers.specs.laws.Arr.{row_in, filled_start, filled_turn, filled_four, filled_done}

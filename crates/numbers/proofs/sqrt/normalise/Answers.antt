@@ -1,5 +1,4 @@
 -- `numbers::sqrt::normalise` meets its contract. Assumes nothing.
-use Prim.Native.Nat.{◌-◌}
 use Rattle.numbers.proofs.sqrt.Laws.{up_start, up_more, up_few, up_pos}
 use borrow.Author.Rules.{rules}
 use Rattle.numbers.proofs.sqrt.normalise.Goals as goal

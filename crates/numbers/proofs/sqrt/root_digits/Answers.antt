@@ -1,5 +1,4 @@
 -- `numbers::sqrt::root_digits` meets its contract. Assumes nothing.
-use Prim.Native.Nat.{◌-◌}
 use Rattle.numbers.proofs.sqrt.Laws.{digits_start, digit_one, digit_zero, digits_done}
 use borrow.Author.Rules.{rules}
 use Rattle.numbers.proofs.sqrt.root_digits.Goals as goal

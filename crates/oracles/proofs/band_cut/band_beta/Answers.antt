@@ -1,18 +1,6 @@
 -- `oracles::band_cut::band_beta` meets its contract. Assumes nothing.
-use mathlib.Core.Path.{◌≡◌, refl, sym, ap, ◌∙◌}
-use mathlib.Core.Bool.{Bool}
-use mathlib.Core.List.{[], ◌∷◌}
-use Prim.Native.Nat.{ℕ}
-use native.Mathlib.Omega.{arith}
-use lib.Ieee.{Float}
-use types.Run.{OneOf}
-use denote.Enum.Declared.{tag_of}
-use Rattle.numbers.specs.F64.{◌⊖◌}
-use Rattle.numbers.specs.declared.cut.CutChoice.TheVariants.{Single}
+use mathlib.Core.Path.{refl, sym, ap, ◌∙◌}
 use Rattle.numbers.specs.laws.Pick.{hit, skip}
-use Rattle.oracles.specs.declared.scan.Upper.{Upper}
-use Rattle.oracles.specs.declared.scan.Upper.TheVariants.{Absent, Limit}
-use Rattle.oracles.specs.contracts.scan.Upper as B
 use Rattle.oracles.specs.Scan.{band_beta}
 use Rattle.oracles.proofs.band_cut.band_beta.Goals as goal
 

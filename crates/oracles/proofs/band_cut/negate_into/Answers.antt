@@ -1,7 +1,7 @@
 -- `oracles::band_cut::negate_into` meets its contract. The invariant: the loop has written the entries below i. Assumes nothing.
 use mathlib.Core.Path.{◌≡◌, refl, sym, ◌∙◌}
 use mathlib.Core.List.{List, map}
-use Prim.Native.Nat.{ℕ, ◌-◌}
+use Prim.Native.Nat.{ℕ}
 use lib.ListN.{length, get_or, length-map, get_or-map}
 use lib.Ieee.{Float, nan, neg}
 use Rattle.numbers.specs.Arr.{tab}

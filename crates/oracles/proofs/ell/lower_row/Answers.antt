@@ -1,6 +1,5 @@
 -- `oracles::ell::lower_row` meets its contract. The invariant: the entries below j are lowered, the others as they were. Assumes nothing.
 use mathlib.Core.Path.{refl}
-use Prim.Native.Nat.{◌-◌}
 use native.Mathlib.Omega.{arith}
 use borrow.Author.Rules.{rules}
 use borrow.Author.Tests.{le-leb, lt-leb}

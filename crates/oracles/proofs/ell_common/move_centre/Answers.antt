@@ -1,6 +1,5 @@
 -- `oracles::ell_common::move_centre` meets its contract. The invariant: the entries below i are moved, the others as they were. Assumes nothing.
 use mathlib.Core.Path.{refl}
-use Prim.Native.Nat.{◌-◌}
 use native.Mathlib.Omega.{arith}
 use borrow.Author.Rules.{rules}
 use Rattle.oracles.specs.EllCommon.{centre_of}

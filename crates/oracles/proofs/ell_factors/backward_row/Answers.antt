@@ -1,9 +1,7 @@
 -- `oracles::ell_factors::backward_row` meets its contract. The invariant: the products of row i before column j are subtracted. Assumes nothing.
 use mathlib.Core.Path.{ap}
-use Prim.Native.Nat.{◌-◌}
 use borrow.Author.Rules.{rules}
 use lib.ListN.{set}
-use Rattle.oracles.specs.Matrix.{at}
 use Rattle.oracles.specs.laws.Matrix.{from_start, from_turn, from_done}
 use Rattle.oracles.proofs.ell_factors.backward_row.Goals as goal
 

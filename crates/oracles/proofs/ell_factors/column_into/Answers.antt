@@ -1,10 +1,9 @@
 -- `oracles::ell_factors::column_into` meets its contract. The invariant: the entries below j are written. Assumes nothing.
-use Prim.Native.Nat.{◌-◌, ◌+◌}
+use Prim.Native.Nat.{◌+◌}
 use native.Mathlib.Omega.{arith}
 use borrow.Author.Rules.{rules}
 use lib.ListN.{length-set}
 use Rattle.numbers.specs.laws.Arr.{filled_start, filled_turn}
-use Rattle.oracles.specs.Matrix.{at}
 use Rattle.oracles.proofs.ell_factors.Laws.{column_two, column_done}
 use Rattle.oracles.proofs.ell_factors.column_into.Goals as goal
 

@@ -1,6 +1,5 @@
 -- `oracles::ell_factors::forward_row` meets its contract. The invariant: the first j products are stored in the row, and taken from the start. Assumes nothing.
 use mathlib.Core.Path.{refl}
-use Prim.Native.Nat.{◌-◌}
 use native.Mathlib.Omega.{arith}
 use Rattle.numbers.specs.F64.{◌⊖◌}
 use Rattle.oracles.specs.Matrix.{total}

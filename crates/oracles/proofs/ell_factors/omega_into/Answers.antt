@@ -1,6 +1,5 @@
 -- `oracles::ell_factors::omega_into` meets its contract. The invariant: the products below i are written, and added. Assumes nothing.
 use mathlib.Core.Path.{refl}
-use Prim.Native.Nat.{◌-◌}
 use native.Mathlib.Omega.{arith}
 use borrow.Author.Rules.{rules}
 use Rattle.numbers.specs.F64.{◌⊕◌, 0ᶠ}

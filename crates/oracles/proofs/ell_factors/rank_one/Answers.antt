@@ -1,6 +1,5 @@
 -- `oracles::ell_factors::rank_one` meets its contract. The invariant: the rows below j are done, and their columns taken from v. Row j is lent from its diagonal on.
 use mathlib.Core.Path.{refl}
-use Prim.Native.Nat.{◌-◌}
 use native.Mathlib.Omega.{arith}
 use borrow.Author.Rules.{rules}
 use Rattle.numbers.specs.laws.Arr.{row_in}

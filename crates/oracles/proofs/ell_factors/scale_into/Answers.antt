@@ -1,8 +1,6 @@
 -- `oracles::ell_factors::scale_into` meets its contract. The invariant: the entries below i are written. Assumes nothing.
-use Prim.Native.Nat.{◌-◌}
 use native.Mathlib.Omega.{arith}
 use borrow.Author.Rules.{rules}
-use Rattle.oracles.specs.Matrix.{at}
 use Rattle.oracles.specs.laws.Loop.{sweep_zero, sweep_turn, sweep_done}
 use Rattle.oracles.proofs.ell_factors.scale_into.Goals as goal
 

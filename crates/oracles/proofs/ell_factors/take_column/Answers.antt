@@ -1,12 +1,10 @@
 -- `oracles::ell_factors::take_column` meets its contract. The invariant: the column is taken from the entries below l. Assumes nothing.
 use mathlib.Core.Path.{refl}
-use Prim.Native.Nat.{◌-◌}
 use native.Mathlib.Omega.{arith}
 use borrow.Author.Rules.{rules}
 use borrow.Author.Tests.{lt-ltb, le-ltb}
 use lib.Dec.{ltb}
 use Rattle.numbers.specs.laws.Pick.{hit, skip}
-use Rattle.oracles.specs.Matrix.{at}
 use Rattle.oracles.specs.laws.Loop.{sweep_start, sweep_turn, sweep_left, sweep_done}
 use Rattle.oracles.specs.laws.EllStable.{column_taken}
 use Rattle.oracles.proofs.ell_factors.take_column.Goals as goal

@@ -1,6 +1,5 @@
 -- `oracles::ell_factors::update_row` meets its contract. The invariant: the entries below l are written. Assumes nothing.
 use mathlib.Core.Path.{refl, ◌∙◌}
-use Prim.Native.Nat.{◌-◌}
 use native.Mathlib.Omega.{arith}
 use borrow.Author.Rules.{rules}
 use borrow.Author.Tests.{eq-eqb, ne_eqb}

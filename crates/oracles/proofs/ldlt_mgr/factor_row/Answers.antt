@@ -1,10 +1,8 @@
 -- `oracles::ldlt_mgr::factor_row` meets its contract. The invariant: the columns below j of row i, and the rows below j of column i, are written. Assumes nothing.
-use Prim.Native.Nat.{◌-◌}
 use mathlib.Core.Path.{◌∙◌}
 use native.Mathlib.Omega.{arith}
 use borrow.Author.Rules.{rules}
 use lib.ListN.{length-set}
-use Rattle.oracles.specs.LdltMgr.{get_elem}
 use Rattle.oracles.specs.laws.Matrix.{row_small, place_in}
 use Rattle.oracles.proofs.ldlt_mgr.Laws.{row_start, row_turn, pivot_done, row_done}
 use Rattle.oracles.proofs.ldlt_mgr.factor_row.Goals as goal

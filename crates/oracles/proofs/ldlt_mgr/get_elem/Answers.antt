@@ -1,6 +1,5 @@
 -- `oracles::ldlt_mgr::get_elem` meets its contract. The invariant: the matrices below k are subtracted. Assumes nothing.
 use mathlib.Core.Path.{refl}
-use Prim.Native.Nat.{◌-◌}
 use native.Mathlib.Omega.{arith}
 use borrow.Author.Rules.{rules}
 use Rattle.numbers.specs.F64.{◌⊖◌}

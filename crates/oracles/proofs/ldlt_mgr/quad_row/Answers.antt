@@ -1,7 +1,5 @@
 -- `oracles::ldlt_mgr::quad_row` meets its contract. The invariant: the columns below j are added. Assumes nothing.
-use Prim.Native.Nat.{◌-◌}
 use borrow.Author.Rules.{rules}
-use Rattle.oracles.specs.Matrix.{at}
 use Rattle.oracles.specs.LdltMgr.{quad_term}
 use Rattle.oracles.specs.laws.Matrix.{from_start, from_turn, from_done}
 use Rattle.oracles.proofs.ldlt_mgr.quad_row.Goals as goal

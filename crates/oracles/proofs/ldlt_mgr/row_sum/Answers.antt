@@ -1,9 +1,8 @@
 -- `oracles::ldlt_mgr::row_sum` meets its contract. The invariant: the columns below k are added. Assumes nothing.
 use mathlib.Core.Path.{refl}
-use Prim.Native.Nat.{◌-◌}
 use borrow.Author.Rules.{rules}
 use Rattle.numbers.specs.F64.{◌⊕◌, 0ᶠ}
-use Rattle.oracles.specs.Matrix.{at, total}
+use Rattle.oracles.specs.Matrix.{total}
 use Rattle.oracles.specs.laws.Matrix.{total_turn, total_at}
 use Rattle.oracles.proofs.ldlt_mgr.row_sum.Goals as goal
 

@@ -1,5 +1,5 @@
 -- `oracles::ldlt_mgr::witness_into` meets its contract. The invariant: the entries from i on are written. Assumes nothing.
-use Prim.Native.Nat.{◌≤◌, ◌-◌}
+use Prim.Native.Nat.{◌≤◌}
 use Rattle.oracles.proofs.ldlt_mgr.WitnessLaws.{WitnessTo}
 use Rattle.oracles.proofs.ldlt_mgr.witness_into.Given as goal
 

@@ -1,7 +1,5 @@
 -- `oracles::scan::scan_rest` meets its contract: at each turn what is left computes the answer. Assumes nothing.
 use mathlib.Core.Path.{◌≡◌}
-use mir.Syntax.{w32}
-use mir.Val.{to_z}
 use Rattle.oracles.specs.Scan.{scan_from}
 use Rattle.oracles.specs.laws.ScanRun.{RowsLeft}
 use Rattle.oracles.specs.declared.scan.Upper.TheVariants.{Limit}

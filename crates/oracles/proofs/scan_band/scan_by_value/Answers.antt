@@ -20,7 +20,6 @@ use Rattle.oracles.specs.declared.round_robin.RoundRobin.{RoundRobin}
 use Rattle.oracles.specs.declared.scan.Upper.{Upper}
 use Rattle.oracles.specs.declared.scan.Scan.{Scan}
 use Rattle.oracles.specs.declared.scan.ScanAnswer.TheVariants.{Scanned, Refused}
-use Rattle.oracles.proofs.Faults.{sound_of}
 use Rattle.oracles.proofs.Signed.{read}
 use Rattle.oracles.proofs.scan_band.scan_by_value.Goals as goal
 use borrow.Author.Rules.{rules}

@@ -1,10 +1,8 @@
 -- `numbers::ell_calc::EllCalc::calc_parallel_central_cut` meets its contract.
 use mathlib.Core.Path.{refl, ap}
-use mathlib.Core.Logic.{⊎_elim}
 use Rattle.numbers.specs.Cut.{success}
 use Rattle.numbers.specs.EllCalc.{calc_parallel_central_cut}
 use Rattle.numbers.specs.laws.Pick.{hit, skip}
-use Rattle.std.proofs.Math.Bool.{not}
 use Rattle.numbers.proofs.ell_calc.EllCalc.calc_parallel_central_cut.Goals as goal
 use Rattle.numbers.proofs.ell_calc.EllCalc.calc_parallel_central_cut.Goals.{then-tsq-beta1-via-then-tsq-beta1, then-tsq-beta1-via-else-tsq-beta1+then-not-self}
 
@@ -17,9 +15,10 @@ unfolding calc_parallel_central_cut
 returns-then-tsq-beta1 c =
     skip _ _ _ _ c.if-beta1.false
     (hit _ _ _ _
-    (elim c.then-tsq-beta1.branch
-    [ then-tsq-beta1-via-then-tsq-beta1 w ↦ rw w.if-tsq-beta1.true
-    | then-tsq-beta1-via-else-tsq-beta1+then-not-self w ↦ rw (w.if-tsq-beta1.false, w.if-not-self.true) ])
+    (elim c.then-tsq-beta1.branch [
+      | then-tsq-beta1-via-then-tsq-beta1 w ↦ rw w.if-tsq-beta1.true
+      | then-tsq-beta1-via-else-tsq-beta1+then-not-self w ↦ rw (w.if-tsq-beta1.false, w.if-not-self.true)
+    ])
     c.calc_central_cut.ensures)
 
 pub returns : goal.returns

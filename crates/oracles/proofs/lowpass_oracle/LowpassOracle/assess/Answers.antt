@@ -1,6 +1,6 @@
 -- `oracles::lowpass_oracle::LowpassOracle::assess` meets its contract. Assumes nothing.
 use Rattle.oracles.specs.declared.scan.Upper.TheVariants.{Limit}
-use Rattle.oracles.proofs.lowpass_oracle.Steps.{nothing_of, cut_fits, pass_assessable, pass_passes, pass_breaks}
+use Rattle.oracles.proofs.lowpass_oracle.Steps.{cut_fits, pass_assessable, pass_passes, pass_breaks}
 use Rattle.oracles.proofs.lowpass_oracle.LowpassOracle.assess.Goals as goal
 use borrow.Author.Rules.{rules}
 

@@ -1,6 +1,5 @@
 -- `oracles::lowpass_oracle::LowpassOracle::assess_feas` meets its contract. Assumes nothing.
 use Rattle.oracles.specs.laws.Assess.{assessable_of, accepted_of}
-use Rattle.oracles.proofs.Faults.{sound_of}
 use Rattle.oracles.proofs.lowpass_oracle.Answers.{tests_found, tests_refuse, tests_accept, assessed}
 use Rattle.oracles.proofs.lowpass_oracle.LowpassOracle.assess_feas.Goals as goal
 

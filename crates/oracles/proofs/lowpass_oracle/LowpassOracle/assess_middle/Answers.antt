@@ -2,7 +2,7 @@
 use native.Mathlib.Omega.{arith}
 use Rattle.numbers.specs.F64.{0ᶠ}
 use Rattle.oracles.specs.declared.scan.Upper.TheVariants.{Absent}
-use Rattle.oracles.proofs.lowpass_oracle.Steps.{nothing_of, cut_fits, middle_passes, middle_breaks}
+use Rattle.oracles.proofs.lowpass_oracle.Steps.{cut_fits, middle_passes, middle_breaks}
 use Rattle.oracles.proofs.lowpass_oracle.LowpassOracle.assess_middle.Goals as goal
 use borrow.Author.Rules.{rules}
 

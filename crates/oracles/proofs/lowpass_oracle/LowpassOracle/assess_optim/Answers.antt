@@ -6,7 +6,7 @@ use lib.Ieee.{Float}
 use Rattle.oracles.specs.LowpassOracle.{offered, assess_feas_answer}
 use Rattle.oracles.specs.declared.lowpass_oracle.LowpassOracle.{LowpassOracle}
 use Rattle.oracles.specs.declared.lowpass_oracle.Assessed.{Assessed}
-use Rattle.oracles.proofs.lowpass_oracle.Answers.{feasible_leaves, optim_as, feasible_of}
+use Rattle.oracles.proofs.lowpass_oracle.Answers.{feasible_leaves, optim_as}
 use Rattle.oracles.proofs.lowpass_oracle.LowpassOracle.assess_optim.Goals as goal
 
 -- the answer of the oracle with the offered number

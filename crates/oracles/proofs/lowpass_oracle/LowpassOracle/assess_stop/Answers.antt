@@ -2,7 +2,7 @@
 use lib.Ieee
 use Rattle.numbers.specs.F64.{0ᶠ}
 use Rattle.oracles.specs.declared.scan.Upper.TheVariants.{Limit}
-use Rattle.oracles.proofs.lowpass_oracle.Steps.{nothing_of, cut_fits, stop_assessable, stop_passes, stop_breaks}
+use Rattle.oracles.proofs.lowpass_oracle.Steps.{cut_fits, stop_assessable, stop_passes, stop_breaks}
 use Rattle.oracles.proofs.lowpass_oracle.LowpassOracle.assess_stop.Goals as goal
 use borrow.Author.Rules.{rules}
 

@@ -1,7 +1,7 @@
 -- `oracles::round_robin::RoundRobin::is_at` meets its contract. Assumes nothing.
 use mathlib.Core.Path.{◌≡◌}
 use mathlib.Core.Bool.{true, false, ◌&&◌}
-use lib.IntN.{ℤ, pos, ◌+ℤ◌}
+use lib.IntN.{pos, ◌+ℤ◌}
 use lib.Signed.{lt_z, le_z}
 use mir.Syntax.{w32}
 use Rattle.oracles.specs.declared.round_robin.RoundRobin.{RoundRobin}
