@@ -1,8 +1,9 @@
-// A list's cases, one after the other, from standard input.
-ghost use Rattle.std.specs.Prelude.{◌≤◌};
+// A list's cases, one after the other, as they are read.
+ghost use Rattle.std.specs.Prelude.{◌≤◌, length};
 ghost use Rattle.lists.specs.Case.{Whole};
 
 use crate::words::word;
+use std::io::Read;
 
 // A case that stands whole in the two buffers: its operation, and how many words of input and of output it has.
 #[derive(Clone, Copy)]
@@ -20,28 +21,56 @@ pub enum Next {
     TooLong,
 }
 
+// One read, to the front of `part`; a read that fails gives nothing.
+fn read_some<R: Read>(input: &mut R, part: &mut [u8]) -> usize
+    ensures { result ≤ length part.old }
+{
+    match input.read(part) {
+        Ok(count) => count,
+        Err(_) => 0,
+    }
+}
+
+// Reads until the slice is full, the input ends or a read fails; how many bytes came.
+fn read_full<R: Read>(input: &mut R, bytes: &mut [u8]) -> usize
+    ensures { result ≤ length bytes.old }
+{
+    let mut done = 0;
+    while done < bytes.len() {
+        let count = read_some(input, &mut bytes[done..]);
+        if count == 0 {
+            return done;
+        }
+        done += count;
+    }
+    done
+}
+
 // Reads n words to the front of `bytes`; whether they all came.
-fn read_words(bytes: &mut [u8], n: usize) -> bool {
+fn read_words<R: Read>(input: &mut R, bytes: &mut [u8], n: usize) -> bool {
     if bytes.len() / 8 < n {
         return false;
     }
     let end = 8 * n;
-    io::read_full(0, &mut bytes[..end]) == end
+    read_full(input, &mut bytes[..end]) == end
 }
 
 // After a read that gave nothing: whether the input has ended, and no read has failed.
-fn has_ended() -> bool {
+fn has_ended<R: Read>(input: &mut R) -> bool {
     let mut byte = [0u8; 1];
-    libc::read(0, &mut byte) == 0
+    match input.read(&mut byte) {
+        Ok(count) => count == 0,
+        Err(_) => false,
+    }
 }
 
 // A case's output words, their count first.
-fn read_outputs(op: u64, ins: usize, expected: &mut [u8]) -> Next
+fn read_outputs<R: Read>(input: &mut R, op: u64, ins: usize, expected: &mut [u8]) -> Next
     requires { ins ≤ 65533 }
     ensures { Whole result }
 {
     let mut count = [0u8; 8];
-    let n = io::read_full(0, &mut count);
+    let n = read_full(input, &mut count);
     if n < 8 {
         return Next::CutShort;
     }
@@ -49,20 +78,20 @@ fn read_outputs(op: u64, ins: usize, expected: &mut [u8]) -> Next
     if 65533 - ins < outs {
         return Next::TooLong;
     }
-    if !read_words(expected, outs) {
+    if !read_words(input, expected, outs) {
         return Next::CutShort;
     }
     Next::Case(Case { op, ins, outs })
 }
 
 // Reads the next case: its input words to the front of `inputs`, its output words to the front of `expected`. Two buffers of 65,536 words hold every case.
-pub fn next_case(inputs: &mut [u8], expected: &mut [u8]) -> Next
+pub fn next_case<R: Read>(input: &mut R, inputs: &mut [u8], expected: &mut [u8]) -> Next
     ensures { Whole result }
 {
     let mut head = [0u8; 16];
-    let n = io::read_full(0, &mut head);
+    let n = read_full(input, &mut head);
     if n == 0 {
-        return if has_ended() {
+        return if has_ended(input) {
             Next::End
         } else {
             Next::CutShort
@@ -76,8 +105,8 @@ pub fn next_case(inputs: &mut [u8], expected: &mut [u8]) -> Next
     if 65533 < ins {
         return Next::TooLong;
     }
-    if !read_words(inputs, ins) {
+    if !read_words(input, inputs, ins) {
         return Next::CutShort;
     }
-    read_outputs(op, ins, expected)
+    read_outputs(input, op, ins, expected)
 }

@@ -1,104 +1,97 @@
-// The lines that a replay prints. Cases and words are counted from 1.
+// The lines that a replay prints. Cases and words are counted from 1. A line that cannot be written is lost, and the replay goes on.
 use crate::case::Case;
 use crate::tally::Replayed;
 use crate::words::word;
-use std::num::wrapping_add_usize;
+use std::io;
+use std::io::Write;
 
 // Sixteen digits.
-fn print_hex(w: u64) {
-    let digits = b"0123456789ABCDEF";
-    let mut text = [0u8; 16];
-    let mut rest = w;
-    let mut i = 16;
-    while i > 0 {
-        i -= 1;
-        let d = (rest % 16) as usize;
-        text[i] = digits[d];
-        rest /= 16;
-    }
-    io::write_all(1, &text);
+fn print_hex<W: Write>(output: &mut W, w: u64) -> io::Result<()> {
+    write!(output, "{w:016X}")
 }
 
 // Word k of `count` words.
-fn print_word(bytes: &[u8], k: usize, count: usize) {
+fn print_word<W: Write>(output: &mut W, bytes: &[u8], k: usize, count: usize) -> io::Result<()> {
     if k < count {
-        print_hex(word(bytes, k));
+        print_hex(output, word(bytes, k))
     } else {
-        io::write_all(1, b"none");
+        write!(output, "none")
     }
 }
 
-fn print_got(replayed: Replayed, got: &[u8], k: usize) {
+fn print_got<W: Write>(output: &mut W, replayed: Replayed, got: &[u8], k: usize) -> io::Result<()> {
     match replayed {
-        Replayed::Words(n) => {
-            print_word(got, k, n);
-        }
-        Replayed::Refused(number) => {
-            io::write_all(1, b"refusal ");
-            io::print_decimal(1, number as u64);
-        }
-        Replayed::Unfit => {
-            io::write_all(1, b"unfit inputs");
-        }
-        Replayed::Unknown => {
-            io::write_all(1, b"nothing");
-        }
+        Replayed::Words(n) => print_word(output, got, k, n),
+        Replayed::Refused(number) => write!(output, "refusal {number}"),
+        Replayed::Unfit => write!(output, "unfit inputs"),
+        Replayed::Unknown => write!(output, "nothing"),
     }
 }
 
-pub(crate) fn print_difference(
+fn print_words<W: Write>(
+    output: &mut W,
+    case: Case,
+    k: usize,
+    expected: &[u8],
+    replayed: Replayed,
+    got: &[u8],
+) -> io::Result<()> {
+    write!(output, ": expected ")?;
+    print_word(output, expected, k, case.outs)?;
+    write!(output, ", got ")?;
+    print_got(output, replayed, got, k)?;
+    writeln!(output)
+}
+
+pub(crate) fn print_difference<W: Write>(
+    output: &mut W,
     position: u64,
     case: Case,
     k: usize,
     expected: &[u8],
     replayed: Replayed,
     got: &[u8],
-) {
-    io::write_all(1, b"case ");
-    io::print_decimal(1, position);
-    io::write_all(1, b", operation ");
-    io::print_decimal(1, case.op);
-    io::write_all(1, b", word ");
-    io::print_decimal(1, wrapping_add_usize(k, 1) as u64);
-    io::write_all(1, b": expected ");
-    print_word(expected, k, case.outs);
-    io::write_all(1, b", got ");
-    print_got(replayed, got, k);
-    io::write_all(1, b"\n");
+) -> io::Result<()> {
+    let op = case.op;
+    let number = k.wrapping_add(1);
+    write!(output, "case {position}, operation {op}, word {number}")?;
+    print_words(output, case, k, expected, replayed, got)
 }
 
-pub(crate) fn print_damage(position: u64, long: bool) {
-    io::write_all(1, b"case ");
-    io::print_decimal(1, position);
+pub(crate) fn print_damage<W: Write>(output: &mut W, position: u64, long: bool) -> io::Result<()> {
     if long {
-        io::write_all(1, b": more than 65536 words\n");
+        writeln!(output, "case {position}: more than 65536 words")
     } else {
-        io::write_all(1, b": cut short\n");
+        writeln!(output, "case {position}: cut short")
     }
 }
 
-fn print_counts(agree: u64, differ: u64) {
-    io::print_decimal(1, agree);
-    io::write_all(1, b" agree, ");
-    io::print_decimal(1, differ);
-    io::write_all(1, b" differ\n");
+fn print_counts<W: Write>(output: &mut W, agree: u64, differ: u64) -> io::Result<()> {
+    writeln!(output, "{agree} agree, {differ} differ")
 }
 
 // A line for an operation that was met.
-pub(crate) fn print_operation(op: u64, agree: u64, differ: u64) {
+pub(crate) fn print_operation<W: Write>(
+    output: &mut W,
+    op: u64,
+    agree: u64,
+    differ: u64,
+) -> io::Result<()> {
     if agree == 0 && differ == 0 {
-        return;
+        return Ok(());
     }
-    io::print_decimal(1, op);
-    io::write_all(1, b": ");
-    print_counts(agree, differ);
+    write!(output, "{op}: ")?;
+    print_counts(output, agree, differ)
 }
 
-pub(crate) fn print_sum(agree: u64, differ: u64, unknown: u64) {
+pub(crate) fn print_sum<W: Write>(
+    output: &mut W,
+    agree: u64,
+    differ: u64,
+    unknown: u64,
+) -> io::Result<()> {
     if unknown > 0 {
-        io::write_all(1, b"unknown: ");
-        io::print_decimal(1, unknown);
-        io::write_all(1, b"\n");
+        writeln!(output, "unknown: {unknown}")?;
     }
-    print_counts(agree, differ);
+    print_counts(output, agree, differ)
 }

@@ -6,6 +6,7 @@ ghost use Rattle.lists.specs.Case.{Whole};
 use crate::case::{Case, Next, next_case};
 use crate::print::{print_damage, print_difference, print_operation, print_sum};
 use crate::words::first_difference;
+use std::io::{Read, Write};
 
 // What came of a case: so many words of output; a call that said no, by its number; inputs that are not what the operation takes; an operation that the program does not have.
 #[derive(Clone, Copy)]
@@ -111,7 +112,8 @@ fn place_of(v: Verdict) -> usize {
 }
 
 // Compares what came of a case with what is expected, prints an operation's first difference, and counts.
-pub fn judge(
+pub fn judge<W: Write>(
+    output: &mut W,
     table: &mut [u64; 515],
     position: u64,
     case: Case,
@@ -124,13 +126,15 @@ pub fn judge(
     let v = compare(case.outs, expected, replayed, got);
     let first = is_first(table, case.op, v);
     if first {
-        print_difference(position, case, place_of(v), expected, replayed, got);
+        let _ = print_difference(output, position, case, place_of(v), expected, replayed, got);
     }
     count(table, case.op, v);
 }
 
 // Reads the next case; a list that breaks off, or has too long a case, is counted as damaged.
-pub fn take_case(
+pub fn take_case<R: Read, W: Write>(
+    input: &mut R,
+    output: &mut W,
     table: &mut [u64; 515],
     position: u64,
     inputs: &mut [u8],
@@ -138,42 +142,42 @@ pub fn take_case(
 ) -> Next
     ensures { (table.new ≡ taken_of result table.old) × Whole result }
 {
-    let next = next_case(inputs, expected);
+    let next = next_case(input, inputs, expected);
     match next {
         Next::Case(_) => {}
         Next::End => {}
         Next::CutShort => {
-            damaged(table, position, false);
+            damaged(output, table, position, false);
         }
         Next::TooLong => {
-            damaged(table, position, true);
+            damaged(output, table, position, true);
         }
     }
     next
 }
 
 // A list that breaks off, or has too long a case, there: counted as one case that differs, of no operation.
-pub fn damaged(table: &mut [u64; 515], position: u64, long: bool)
+pub fn damaged<W: Write>(output: &mut W, table: &mut [u64; 515], position: u64, long: bool)
     ensures { table.new ≡ damaged_of table.old }
 {
-    print_damage(position, long);
+    let _ = print_damage(output, position, long);
     bump(table, 513);
 }
 
-fn print_operations(table: &[u64; 515]) {
+fn print_operations<W: Write>(output: &mut W, table: &[u64; 515]) {
     let mut op = 0;
     while op < 256 {
         let at = 2 * op;
-        print_operation(op as u64, table[at], table[at + 1]);
+        let _ = print_operation(output, op as u64, table[at], table[at + 1]);
         op += 1;
     }
 }
 
 // Prints the numbers of each operation that was met, and of all; whether no case differs.
-pub fn print_totals(table: &[u64; 515]) -> bool
+pub fn print_totals<W: Write>(output: &mut W, table: &[u64; 515]) -> bool
     ensures { result ≡ none_differ table.now }
 {
-    print_operations(table);
-    print_sum(table[512], table[513], table[514]);
+    print_operations(output, table);
+    let _ = print_sum(output, table[512], table[513], table[514]);
     table[513] == 0
 }

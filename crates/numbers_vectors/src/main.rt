@@ -7,7 +7,10 @@ mod cuts;
 use crate::arrays::replay_array;
 use crate::cuts::{replay_calc, replay_core, replay_new, replay_root};
 use lists::case::{Case, Next};
+use lists::pushes::Bytes;
+use lists::rooms::Room;
 use lists::tally::{Replayed, judge, print_totals, take_case};
+use std::io::{Read, Write};
 
 // Makes the case's call, and puts its answer's words to the front of `got`.
 fn replay(
@@ -31,42 +34,50 @@ fn replay(
 }
 
 // Replays the next case; whether there was one.
-fn replay_next(
+fn replay_next<R: Read, W: Write>(
+    input: &mut R,
+    output: &mut W,
     position: u64,
-    inputs: &mut [u8],
-    expected: &mut [u8],
-    got: &mut [u8],
-    a: &mut [f64],
-    b: &mut [f64],
-    c: &mut [f64],
+    inputs: &mut Bytes,
+    expected: &mut Bytes,
+    got: &mut Bytes,
+    a: &mut Room,
+    b: &mut Room,
+    c: &mut Room,
     table: &mut [u64; 515],
 ) -> bool {
-    let next = take_case(table, position, inputs, expected);
+    let next = take_case(input, output, table, position, inputs, expected);
     let Next::Case(case) = next else {
         return false;
     };
     let replayed = replay(case, inputs, got, a, b, c);
-    judge(table, position, case, expected, replayed, got);
+    judge(output, table, position, case, expected, replayed, got);
     true
 }
 
 // A proved loop has to end, so the position bounds it.
-fn replay_all(
-    inputs: &mut [u8],
-    expected: &mut [u8],
-    got: &mut [u8],
-    a: &mut [f64],
-    b: &mut [f64],
-    c: &mut [f64],
+fn replay_all<R: Read, W: Write>(
+    input: &mut R,
+    output: &mut W,
+    inputs: &mut Bytes,
+    expected: &mut Bytes,
+    got: &mut Bytes,
+    a: &mut Room,
+    b: &mut Room,
+    c: &mut Room,
     table: &mut [u64; 515],
 ) {
     let mut position = 1;
-    while position < u64::MAX && replay_next(position, inputs, expected, got, a, b, c, table) {
+    while position < u64::MAX
+        && replay_next(
+            input, output, position, inputs, expected, got, a, b, c, table,
+        )
+    {
         position += 1;
     }
 }
 
-fn main() {
+fn main(rt: HostRuntime) {
     let mut inputs = [0u8; 524288];
     let mut expected = [0u8; 524288];
     let mut got = [0u8; 524288];
@@ -74,7 +85,10 @@ fn main() {
     let mut b = [0.0f64; 65536];
     let mut c = [0.0f64; 65536];
     let mut table = [0u64; 515];
+    let mut output = rt.stdout();
     replay_all(
+        &mut rt.stdin(),
+        &mut output,
         &mut inputs,
         &mut expected,
         &mut got,
@@ -83,5 +97,5 @@ fn main() {
         &mut c,
         &mut table,
     );
-    print_totals(&table);
+    print_totals(&mut output, &table);
 }

@@ -2,6 +2,17 @@
 ghost use Rattle.std.specs.Prelude.{length};
 ghost use Rattle.streams.specs.Input.{Within};
 
+use crate::failure::tell;
+use std::env::FillError;
+use std::fs::File;
+use std::io::{Error, ErrorKind, Read, Write};
+use std::rt::{Env, Files};
+
+// Linux's numbers for a name that is too long and for an argument that is missing.
+const ENAMETOOLONG: i32 = 36;
+
+const EINVAL: i32 = 22;
+
 // How many bytes were read; or a read failed.
 #[derive(Clone, Copy)]
 pub enum Input {
@@ -9,63 +20,98 @@ pub enum Input {
     Failed,
 }
 
-// One read, to the front of `part`.
-fn read_once(fd: i32, part: &mut [u8]) -> Input
+// One read, to the front of `part`. A read that fails is told on standard error, under the input's name.
+fn read_once<R: Read, E: Write>(
+    input: &mut R,
+    errors: &mut E,
+    name: &[u8],
+    part: &mut [u8],
+) -> Input
     ensures { Within result (length part.old) }
 {
-    let got = libc::read(fd, part);
-    if got < 0 {
-        return Input::Failed;
+    match input.read(part) {
+        Ok(count) => Input::Bytes(count),
+        Err(error) => {
+            tell(errors, name, error);
+            Input::Failed
+        }
     }
-    Input::Bytes(io::count(got, part))
 }
 
 // Reads until the slice is full or the input ends. A read that fails is said on standard error, under the input's name.
-pub fn read_all(fd: i32, name: &[u8], bytes: &mut [u8]) -> Input
+pub fn read_all<R: Read, E: Write>(
+    input: &mut R,
+    errors: &mut E,
+    name: &[u8],
+    bytes: &mut [u8],
+) -> Input
     ensures { Within result (length bytes.old) }
 {
     let mut done = 0;
     while done < bytes.len() {
-        let got = read_once(fd, &mut bytes[done..]);
-        match got {
+        match read_once(input, errors, name, &mut bytes[done..]) {
             Input::Bytes(count) => {
                 if count == 0 {
                     return Input::Bytes(done);
                 }
                 done += count;
             }
-            Input::Failed => {
-                os::fail(name);
-                return Input::Failed;
-            }
+            Input::Failed => return Input::Failed,
         }
     }
     Input::Bytes(done)
 }
 
-// Reads the file of this name.
-pub fn read_file(name: &[u8], bytes: &mut [u8]) -> Input
+// Reads the file of this name, which is text.
+fn read_named<R: Files, E: Write>(rt: &R, errors: &mut E, name: &str, bytes: &mut [u8]) -> Input
     ensures { Within result (length bytes.old) }
 {
-    let fd = os::open_read(name);
-    if fd < 0 {
-        os::fail(name);
-        return Input::Failed;
+    match File::open(rt, name) {
+        Ok(mut file) => read_all(&mut file, errors, name.as_bytes(), bytes),
+        Err(error) => {
+            tell(errors, name.as_bytes(), error);
+            Input::Failed
+        }
     }
-    let read = read_all(fd, name, bytes);
-    libc::close(fd);
-    read
+}
+
+// Reads the file of this name. A name that is not UTF-8 names no file that can be opened.
+pub fn read_file<R: Files, E: Write>(rt: &R, errors: &mut E, name: &[u8], bytes: &mut [u8]) -> Input
+    ensures { Within result (length bytes.old) }
+{
+    match str::from_utf8(name) {
+        Ok(text) => read_named(rt, errors, text, bytes),
+        Err(_) => {
+            let error = Error::new(ErrorKind::InvalidFilename, "the name is not UTF-8");
+            tell(errors, name, error);
+            Input::Failed
+        }
+    }
+}
+
+// Why an argument could not be had, by the system's numbers.
+fn reason(error: FillError) -> Error {
+    match error {
+        FillError::TooLong => Error::from_raw_os_error(ENAMETOOLONG),
+        FillError::NotPresent => Error::from_raw_os_error(EINVAL),
+    }
 }
 
 // Reads the file that argument i names.
-pub fn read_argument(i: usize, bytes: &mut [u8]) -> Input
+pub fn read_argument<R: Files + Env, E: Write>(
+    rt: &R,
+    errors: &mut E,
+    i: usize,
+    bytes: &mut [u8],
+) -> Input
     ensures { Within result (length bytes.old) }
 {
-    let mut name = io::buffer();
-    let length = os::arg(i, &mut name);
-    if os::errno() != 0 {
-        os::fail(b"argument");
-        return Input::Failed;
+    let mut name = [0u8; 4096];
+    match rt.arg(i, &mut name) {
+        Ok(length) => read_file(rt, errors, &name[..length], bytes),
+        Err(error) => {
+            tell(errors, b"argument", reason(error));
+            Input::Failed
+        }
     }
-    read_file(&name[..length], bytes)
 }

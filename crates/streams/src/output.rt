@@ -1,11 +1,12 @@
-// Handing texts over. No contract can say what io writes, so each byte that is handed over is also taken into a number, the mark, which contracts name. That nothing else calls io to write, that no second mark is made and that no `Handed` is dropped, is read and not proved.
-// There is no exit status in the language: a write to standard output that fails is said on standard error.
+// Handing texts over. No contract can say what the system writes, so each byte that is handed over is also taken into a number, the mark, which contracts name. That nothing else writes, that no second mark is made and that no `Handed` is dropped, is read and not proved.
+// The programs have no exit status of their own: a write to standard output that fails is said on standard error.
 ghost use Rattle.std.specs.Prelude.{◌≡◌};
 ghost use Rattle.streams.specs.Mark.{marked};
 ghost use Rattle.streams.specs.Output.{handed};
 
+use crate::failure::tell;
 use crate::mark::mark_on;
-use libc::{STDERR_FILENO, STDOUT_FILENO};
+use std::io::Write;
 
 #[derive(Clone, Copy)]
 pub enum Stream {
@@ -21,33 +22,41 @@ pub struct Handed {
 }
 
 // Writes a text to standard output, unless a write has failed before, so that what arrives is the front of the whole; whether one has failed.
-fn write_on(has_failed: bool, text: &[u8]) -> bool {
+fn write_on<W: Write, E: Write>(
+    output: &mut W,
+    errors: &mut E,
+    has_failed: bool,
+    text: &[u8],
+) -> bool {
     if has_failed {
         return true;
     }
-    if io::write_all(STDOUT_FILENO, text) {
-        return false;
+    match output.write_all(text) {
+        Ok(()) => false,
+        Err(error) => {
+            tell(errors, b"standard output", error);
+            true
+        }
     }
-    os::fail(b"standard output");
-    true
 }
 
-fn write_to(to: Stream, text: &[u8]) {
+// What cannot be written to standard error can be told nowhere.
+fn write_to<W: Write, E: Write>(output: &mut W, errors: &mut E, to: Stream, text: &[u8]) {
     match to {
         Stream::Stdout => {
-            write_on(false, text);
+            write_on(output, errors, false, text);
         }
         Stream::Stderr => {
-            io::write_all(STDERR_FILENO, text);
+            let _ = errors.write_all(text);
         }
     }
 }
 
 // Hands one text over, and no other.
-pub fn hand(to: Stream, text: &[u8]) -> Handed
+pub fn hand<W: Write, E: Write>(output: &mut W, errors: &mut E, to: Stream, text: &[u8]) -> Handed
     ensures { result ≡ handed to text.now }
 {
-    write_to(to, text);
+    write_to(output, errors, to, text);
     Handed {
         to,
         mark: mark_on(1, text),
@@ -55,9 +64,15 @@ pub fn hand(to: Stream, text: &[u8]) -> Handed
 }
 
 // Hands a text to standard output after those that the mark is of.
-pub fn hand_next(mark: &mut u64, has_failed: &mut bool, text: &[u8])
+pub fn hand_next<W: Write, E: Write>(
+    output: &mut W,
+    errors: &mut E,
+    mark: &mut u64,
+    has_failed: &mut bool,
+    text: &[u8],
+)
     ensures { mark.new ≡ marked mark.old text.now }
 {
-    *has_failed = write_on(*has_failed, text);
+    *has_failed = write_on(output, errors, *has_failed, text);
     *mark = mark_on(*mark, text);
 }
