@@ -18,6 +18,7 @@ use lists::case::{Case, Next};
 use lists::pushes::Bytes;
 use lists::rooms::{Room, fill};
 use lists::tally::{Replayed, judge, print_totals, take_case};
+use std::io::{Read, Write};
 
 // Makes the case's call, and puts its answer's words to the front of `got`. `floats` has the inputs as floats; the other rooms are for slices that a call writes.
 fn replay(
@@ -46,7 +47,9 @@ fn replay(
 }
 
 // Replays the next case; whether there was one.
-fn replay_next(
+fn replay_next<R: Read, W: Write>(
+    input: &mut R,
+    output: &mut W,
     position: u64,
     inputs: &mut Bytes,
     expected: &mut Bytes,
@@ -59,18 +62,20 @@ fn replay_next(
     e: &mut Room,
     table: &mut [u64; 515],
 ) -> bool {
-    let next = take_case(table, position, inputs, expected);
+    let next = take_case(input, output, table, position, inputs, expected);
     let Next::Case(case) = next else {
         return false;
     };
     fill(floats, inputs, true, 0, case.ins);
     let replayed = replay(case, inputs, floats, got, a, b, c, d, e);
-    judge(table, position, case, expected, replayed, got);
+    judge(output, table, position, case, expected, replayed, got);
     true
 }
 
 // A proved loop has to end, so the position bounds it.
-fn replay_all(
+fn replay_all<R: Read, W: Write>(
+    input: &mut R,
+    output: &mut W,
     inputs: &mut Bytes,
     expected: &mut Bytes,
     got: &mut Bytes,
@@ -85,14 +90,14 @@ fn replay_all(
     let mut position = 1;
     while position < u64::MAX
         && replay_next(
-            position, inputs, expected, got, floats, a, b, c, d, e, table,
+            input, output, position, inputs, expected, got, floats, a, b, c, d, e, table,
         )
     {
         position += 1;
     }
 }
 
-fn main() {
+fn main(rt: HostRuntime) {
     let mut inputs = [0u8; 524288];
     let mut expected = [0u8; 524288];
     let mut got = [0u8; 524288];
@@ -103,7 +108,10 @@ fn main() {
     let mut d = [0.0f64; 65536];
     let mut e = [0.0f64; 65536];
     let mut table = [0u64; 515];
+    let mut output = rt.stdout();
     replay_all(
+        &mut rt.stdin(),
+        &mut output,
         &mut inputs,
         &mut expected,
         &mut got,
@@ -115,5 +123,5 @@ fn main() {
         &mut e,
         &mut table,
     );
-    print_totals(&table);
+    print_totals(&mut output, &table);
 }

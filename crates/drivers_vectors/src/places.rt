@@ -3,7 +3,6 @@ use crate::state::{State, is_state, state_any, state_legal};
 use drivers::cutting_plane::Options;
 use lists::rooms::{plus, times};
 use lists::words::{float, word};
-use std::num::wrapping_add_usize;
 
 // Of each slice where it begins and how long it is; where the state, gamma if there is one, kappa and tsq, and the options stand, and where the case ends.
 #[derive(Clone, Copy)]
@@ -115,6 +114,6 @@ pub(crate) fn are_numbers(inputs: &[u8], p: Places) -> bool {
 }
 
 pub(crate) fn options_of(inputs: &[u8], p: Places) -> Options {
-    let tolerance = float(inputs, wrapping_add_usize(p.options, 1));
+    let tolerance = float(inputs, p.options.wrapping_add(1));
     Options::new(half_of(word(inputs, p.options)), tolerance)
 }

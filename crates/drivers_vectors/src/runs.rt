@@ -11,7 +11,6 @@ use lists::rooms::{Room, fill, front, part};
 use lists::tally::Replayed;
 use lists::words::{float, word};
 use oracles::ell::{Ell, NewEll};
-use std::num::wrapping_add_usize;
 
 // The slices are at the fronts of the rooms.
 fn run_feas(
@@ -94,7 +93,7 @@ fn call(
     match Ell::new_with_matrix(word(inputs, 0) as usize, kappa) {
         NewEll::Made(made) => {
             let mut ell = made;
-            ell.tsq = float(inputs, wrapping_add_usize(p.kappa, 1));
+            ell.tsq = float(inputs, p.kappa.wrapping_add(1));
             if p.is_optim {
                 return run_optim(ell, p, inputs, table, a, b, c, d, e);
             }

@@ -6,7 +6,6 @@ use lists::words::{float, word};
 use numbers::bits::to_bits;
 use oracles::lowpass_oracle::LowpassOracle;
 use oracles::round_robin::RoundRobin;
-use std::num::wrapping_add_usize;
 
 // Where nwpass and the limits begin, the cursors, and what follows them; where sp_sq stands. Cursors that are given have a lo and a hi of their own.
 #[derive(Clone, Copy)]
@@ -42,12 +41,12 @@ pub(crate) fn state_any(limits: usize) -> State {
 
 // Whether the words that should be are signed, and more_alt is a flag.
 pub(crate) fn is_state(inputs: &[u8], p: State) -> bool {
-    let kmax = wrapping_add_usize(p.rest, 4);
-    let flag = wrapping_add_usize(p.rest, 5);
-    if !all_signed(inputs, p.limits, wrapping_add_usize(p.limits, 2)) {
+    let kmax = p.rest.wrapping_add(4);
+    let flag = p.rest.wrapping_add(5);
+    if !all_signed(inputs, p.limits, p.limits.wrapping_add(2)) {
         return false;
     }
-    if !all_signed(inputs, p.cursors, wrapping_add_usize(p.rest, 3)) {
+    if !all_signed(inputs, p.cursors, p.rest.wrapping_add(3)) {
         return false;
     }
     if !all_signed(inputs, kmax, flag) {
@@ -60,35 +59,35 @@ pub(crate) fn is_state(inputs: &[u8], p: State) -> bool {
 fn cursor_of(inputs: &[u8], p: State, i: usize, lo: i32, hi: i32) -> RoundRobin {
     if !p.any {
         return RoundRobin {
-            cur: signed_at(inputs, wrapping_add_usize(p.cursors, i)),
+            cur: signed_at(inputs, p.cursors.wrapping_add(i)),
             lo,
             hi,
         };
     }
-    let k = wrapping_add_usize(p.cursors, wrapping_add_usize(i, wrapping_add_usize(i, i)));
+    let k = p.cursors.wrapping_add(i.wrapping_add(i.wrapping_add(i)));
     RoundRobin {
         cur: signed_at(inputs, k),
-        lo: signed_at(inputs, wrapping_add_usize(k, 1)),
-        hi: signed_at(inputs, wrapping_add_usize(k, 2)),
+        lo: signed_at(inputs, k.wrapping_add(1)),
+        hi: signed_at(inputs, k.wrapping_add(2)),
     }
 }
 
 // Word 1 has the count of rows.
 pub(crate) fn oracle_of(inputs: &[u8], p: State) -> LowpassOracle {
     let nwpass = signed_at(inputs, p.limits);
-    let nwstop = signed_at(inputs, wrapping_add_usize(p.limits, 1));
+    let nwstop = signed_at(inputs, p.limits.wrapping_add(1));
     LowpassOracle {
-        more_alt: word(inputs, wrapping_add_usize(p.rest, 5)) == 1,
+        more_alt: word(inputs, p.rest.wrapping_add(5)) == 1,
         idx1: signed_at(inputs, p.rest),
         nwpass,
         nwstop,
-        lp_sq: float(inputs, wrapping_add_usize(p.limits, 2)),
-        up_sq: float(inputs, wrapping_add_usize(p.limits, 3)),
+        lp_sq: float(inputs, p.limits.wrapping_add(2)),
+        up_sq: float(inputs, p.limits.wrapping_add(3)),
         sp_sq: float(inputs, p.sp_sq),
-        idx2: signed_at(inputs, wrapping_add_usize(p.rest, 1)),
-        idx3: signed_at(inputs, wrapping_add_usize(p.rest, 2)),
-        fmax: float(inputs, wrapping_add_usize(p.rest, 3)),
-        kmax: signed_at(inputs, wrapping_add_usize(p.rest, 4)),
+        idx2: signed_at(inputs, p.rest.wrapping_add(1)),
+        idx3: signed_at(inputs, p.rest.wrapping_add(2)),
+        fmax: float(inputs, p.rest.wrapping_add(3)),
+        kmax: signed_at(inputs, p.rest.wrapping_add(4)),
         rr1: cursor_of(inputs, p, 0, 0, nwpass),
         rr2: cursor_of(inputs, p, 1, nwpass, nwstop),
         rr3: cursor_of(inputs, p, 2, nwstop, signed_at(inputs, 1)),

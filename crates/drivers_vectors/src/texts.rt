@@ -6,7 +6,6 @@ use lists::pushes::{Bytes, push};
 use lists::rooms::{Room, front, part, plus, times};
 use lists::tally::Replayed;
 use lists::words::word;
-use std::num::wrapping_sub_usize;
 
 // A run whose text so far ends at byte `at`.
 #[derive(Clone, Copy)]
@@ -113,6 +112,6 @@ pub(crate) fn replay_text(
         Opened::Refused(text) => put_text(got, 8, &out, text),
     };
     pad(got, end);
-    push(got, 0, wrapping_sub_usize(end, 8) as u64);
+    push(got, 0, end.wrapping_sub(8) as u64);
     Replayed::Words(words_of(end))
 }

@@ -4,14 +4,13 @@ use lists::pushes::Bytes;
 use lists::signed::{all_signed, signed_at, word_of};
 use lists::tally::Replayed;
 use oracles::round_robin::{CursorAnswer, RoundRobin};
-use std::num::wrapping_add_usize;
 
 // The cursor of three words from place k on.
 pub(crate) fn cursor_at(inputs: &[u8], k: usize) -> RoundRobin {
     RoundRobin {
         cur: signed_at(inputs, k),
-        lo: signed_at(inputs, wrapping_add_usize(k, 1)),
-        hi: signed_at(inputs, wrapping_add_usize(k, 2)),
+        lo: signed_at(inputs, k.wrapping_add(1)),
+        hi: signed_at(inputs, k.wrapping_add(2)),
     }
 }
 

@@ -12,7 +12,6 @@ use numbers::cut::CutChoice;
 use oracles::ell::{Ell, NewEll};
 use oracles::ell_common::{CutStrategy, Update};
 use oracles::ell_stable::{EllStable, NewEllStable};
-use std::num::wrapping_add_usize;
 
 // An update's answer, and the numbers of the ellipsoid after it.
 #[derive(Clone, Copy)]
@@ -31,7 +30,7 @@ fn strategy(how: u64) -> CutStrategy {
 }
 
 fn betas_at(inputs: &[u8], k: usize) -> CutChoice {
-    choice_of(float(inputs, k), word(inputs, wrapping_add_usize(k, 1)))
+    choice_of(float(inputs, k), word(inputs, k.wrapping_add(1)))
 }
 
 fn outcome_of(answer: Update, kappa: f64, tsq: f64) -> Outcome {
@@ -56,7 +55,7 @@ fn update_ell(
     c: &mut [f64],
 ) -> Outcome {
     let kappa = float(inputs, p.numbers);
-    let tsq = float(inputs, wrapping_add_usize(p.numbers, 1));
+    let tsq = float(inputs, p.numbers.wrapping_add(1));
     match Ell::new_with_matrix(word(inputs, 1) as usize, kappa) {
         NewEll::Made(made) => {
             let mut ell = made;
@@ -112,7 +111,7 @@ fn update_stable(
     f: &mut Room,
 ) -> Outcome {
     let kappa = float(inputs, p.numbers);
-    let tsq = float(inputs, wrapping_add_usize(p.numbers, 1));
+    let tsq = float(inputs, p.numbers.wrapping_add(1));
     match EllStable::new_with_matrix(word(inputs, 1) as usize, kappa) {
         NewEllStable::Made(made) => {
             let mut ell = made;

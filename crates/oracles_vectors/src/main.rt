@@ -23,6 +23,7 @@ use lists::case::{Case, Next};
 use lists::pushes::Bytes;
 use lists::rooms::{Room, fill};
 use lists::tally::{Replayed, judge, print_totals, take_case};
+use std::io::{Read, Write};
 
 // Calls that write no slice.
 fn replay_plain(op: u64, ins: usize, inputs: &[u8], floats: &[f64], got: &mut Bytes) -> Replayed {
@@ -71,7 +72,9 @@ fn replay(
 }
 
 // Replays the next case; whether there was one.
-fn replay_next(
+fn replay_next<R: Read, W: Write>(
+    input: &mut R,
+    output: &mut W,
     position: u64,
     inputs: &mut Bytes,
     expected: &mut Bytes,
@@ -82,18 +85,20 @@ fn replay_next(
     c: &mut Room,
     table: &mut [u64; 515],
 ) -> bool {
-    let next = take_case(table, position, inputs, expected);
+    let next = take_case(input, output, table, position, inputs, expected);
     let Next::Case(case) = next else {
         return false;
     };
     fill(floats, inputs, true, 0, case.ins);
     let replayed = replay(case, inputs, floats, got, a, b, c);
-    judge(table, position, case, expected, replayed, got);
+    judge(output, table, position, case, expected, replayed, got);
     true
 }
 
 // A proved loop has to end, so the position bounds it.
-fn replay_all(
+fn replay_all<R: Read, W: Write>(
+    input: &mut R,
+    output: &mut W,
     inputs: &mut Bytes,
     expected: &mut Bytes,
     got: &mut Bytes,
@@ -105,13 +110,15 @@ fn replay_all(
 ) {
     let mut position = 1;
     while position < u64::MAX
-        && replay_next(position, inputs, expected, got, floats, a, b, c, table)
+        && replay_next(
+            input, output, position, inputs, expected, got, floats, a, b, c, table,
+        )
     {
         position += 1;
     }
 }
 
-fn main() {
+fn main(rt: HostRuntime) {
     let mut inputs = [0u8; 524288];
     let mut expected = [0u8; 524288];
     let mut got = [0u8; 524288];
@@ -120,7 +127,10 @@ fn main() {
     let mut b = [0.0f64; 65536];
     let mut c = [0.0f64; 65536];
     let mut table = [0u64; 515];
+    let mut output = rt.stdout();
     replay_all(
+        &mut rt.stdin(),
+        &mut output,
         &mut inputs,
         &mut expected,
         &mut got,
@@ -130,5 +140,5 @@ fn main() {
         &mut c,
         &mut table,
     );
-    print_totals(&table);
+    print_totals(&mut output, &table);
 }

@@ -6,7 +6,6 @@ use lists::words::{float, word};
 use numbers::bits::to_bits;
 use oracles::lowpass_oracle::LowpassOracle;
 use oracles::round_robin::RoundRobin;
-use std::num::wrapping_add_usize;
 
 // Where the slices begin and how long they are, where gamma stands if there is one, where the cursors and, of what is given apart from them, the rest of the state begin, and where the case ends.
 #[derive(Clone, Copy)]
@@ -74,10 +73,10 @@ pub(crate) fn places_any(inputs: &[u8], more: usize) -> Places {
 
 // Whether the words that should be are signed, and the last one of the state is a flag.
 pub(crate) fn is_state(inputs: &[u8], p: Places) -> bool {
-    let idx_end = wrapping_add_usize(p.rest, 3);
-    let kmax = wrapping_add_usize(p.rest, 4);
-    let flag = wrapping_add_usize(p.rest, 5);
-    if !all_signed(inputs, p.limits, wrapping_add_usize(p.limits, 2)) {
+    let idx_end = p.rest.wrapping_add(3);
+    let kmax = p.rest.wrapping_add(4);
+    let flag = p.rest.wrapping_add(5);
+    if !all_signed(inputs, p.limits, p.limits.wrapping_add(2)) {
         return false;
     }
     if !all_signed(inputs, p.cursors, idx_end) {
@@ -106,17 +105,17 @@ fn oracle_with(
     rr3: RoundRobin,
 ) -> LowpassOracle {
     LowpassOracle {
-        more_alt: word(inputs, wrapping_add_usize(p.rest, 5)) == 1,
+        more_alt: word(inputs, p.rest.wrapping_add(5)) == 1,
         idx1: signed_at(inputs, p.rest),
         nwpass: signed_at(inputs, p.limits),
-        nwstop: signed_at(inputs, wrapping_add_usize(p.limits, 1)),
-        lp_sq: float(inputs, wrapping_add_usize(p.limits, 2)),
-        up_sq: float(inputs, wrapping_add_usize(p.limits, 3)),
+        nwstop: signed_at(inputs, p.limits.wrapping_add(1)),
+        lp_sq: float(inputs, p.limits.wrapping_add(2)),
+        up_sq: float(inputs, p.limits.wrapping_add(3)),
         sp_sq: float(inputs, p.sp_sq),
-        idx2: signed_at(inputs, wrapping_add_usize(p.rest, 1)),
-        idx3: signed_at(inputs, wrapping_add_usize(p.rest, 2)),
-        fmax: float(inputs, wrapping_add_usize(p.rest, 3)),
-        kmax: signed_at(inputs, wrapping_add_usize(p.rest, 4)),
+        idx2: signed_at(inputs, p.rest.wrapping_add(1)),
+        idx3: signed_at(inputs, p.rest.wrapping_add(2)),
+        fmax: float(inputs, p.rest.wrapping_add(3)),
+        kmax: signed_at(inputs, p.rest.wrapping_add(4)),
         rr1,
         rr2,
         rr3,
@@ -133,8 +132,8 @@ pub(crate) fn oracle_of(any: bool, inputs: &[u8], p: Places) -> LowpassOracle {
     let lo = signed_at(inputs, 2);
     let hi = signed_at(inputs, 3);
     let rr1 = cursor_of(inputs, k, 0, lo);
-    let rr2 = cursor_of(inputs, wrapping_add_usize(k, 1), lo, hi);
-    let rr3 = cursor_of(inputs, wrapping_add_usize(k, 2), hi, signed_at(inputs, 1));
+    let rr2 = cursor_of(inputs, k.wrapping_add(1), lo, hi);
+    let rr3 = cursor_of(inputs, k.wrapping_add(2), hi, signed_at(inputs, 1));
     oracle_with(inputs, p, rr1, rr2, rr3)
 }
 

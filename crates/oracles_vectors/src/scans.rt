@@ -9,7 +9,6 @@ use lists::words::{float, word};
 use numbers::bits::{of_bits, to_bits};
 use oracles::scan::{Scan, ScanAnswer, Upper, Violation};
 use oracles::scan_band::scan_at;
-use std::num::wrapping_add_usize;
 
 // All ones stand for an absent upper limit.
 fn upper_of(w: u64) -> Upper {
@@ -53,8 +52,8 @@ fn scanned(number: u8, scan: Scan, cur: i32) -> Answered {
 fn scan_case(inputs: &[u8], k: usize, table: &[f64], x: &[f64]) -> Answered {
     let n = word(inputs, 0) as usize;
     let rows = word(inputs, 1) as usize;
-    let lower = float(inputs, wrapping_add_usize(k, 3));
-    let upper = upper_of(word(inputs, wrapping_add_usize(k, 4)));
+    let lower = float(inputs, k.wrapping_add(3));
+    let upper = upper_of(word(inputs, k.wrapping_add(4)));
     let end = scan_at(n, rows, table, x, cursor_at(inputs, k), lower, upper);
     let after = end.cursor;
     let answer = end.answer;
@@ -88,7 +87,7 @@ pub(crate) fn replay_scan(
     if (if any { end } else { plus(end, 5) }) != ins {
         return Replayed::Unfit;
     }
-    if !all_signed(inputs, k, wrapping_add_usize(k, 3)) {
+    if !all_signed(inputs, k, k.wrapping_add(3)) {
         return Replayed::Unfit;
     }
     let answered = scan_case(inputs, k, part(floats, from, lt), part(floats, x_at, lx));

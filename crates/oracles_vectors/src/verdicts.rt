@@ -10,7 +10,6 @@ use numbers::bits::of_bits;
 use numbers::refusal::Refusal;
 use oracles::lowpass_oracle::{Group, LowpassOracle, OptimVerdict, Verdict};
 use oracles::round_robin::RoundRobin;
-use std::num::{wrapping_add_u64, wrapping_sub_u64};
 
 // A group's number, 4 for feasible, or 16 and a refusal's number; the largest stop value where there is one.
 #[derive(Clone, Copy)]
@@ -41,7 +40,7 @@ fn refused(why: Refusal) -> Seen {
         verdict: if number == 6 {
             4
         } else {
-            wrapping_add_u64(16, number)
+            16u64.wrapping_add(number)
         },
         has_peak: false,
         peak: 0.0,
@@ -92,7 +91,7 @@ fn positions(inputs: &[u8]) -> u64 {
 // A cursor that has given `i` rows of its band.
 fn cursor_after(lo: u64, hi: u64, i: u64) -> RoundRobin {
     RoundRobin {
-        cur: signed(wrapping_sub_u64(wrapping_add_u64(lo, i), 1)),
+        cur: signed(lo.wrapping_add(i).wrapping_sub(1)),
         lo: signed(lo),
         hi: signed(hi),
     }
@@ -113,10 +112,10 @@ fn oracle_at(inputs: &[u8], p: u64) -> LowpassOracle {
         lp_sq: float(inputs, 4),
         up_sq: float(inputs, 5),
         sp_sq: float(inputs, 6),
-        idx2: signed(wrapping_sub_u64(3, p)),
-        idx3: signed(wrapping_sub_u64(p, 5)),
-        fmax: of_bits(wrapping_sub_u64(0x7FF0_0000_0000_0001, p)),
-        kmax: signed(wrapping_sub_u64(p, 2)),
+        idx2: signed(3u64.wrapping_sub(p)),
+        idx3: signed(p.wrapping_sub(5)),
+        fmax: of_bits(0x7FF0_0000_0000_0001_u64.wrapping_sub(p)),
+        kmax: signed(p.wrapping_sub(2)),
         rr1: cursor_after(0, nwpass, p / c / b),
         rr2: cursor_after(nwpass, nwstop, p / c % b),
         rr3: cursor_after(nwstop, rows, p % c),
@@ -168,14 +167,14 @@ fn count_agreeing(
     x: &[f64],
     grad: &mut [f64],
 ) -> Agreeing {
-    let mut by_f = 0;
-    let mut by_o = 0;
+    let mut by_f = 0u64;
+    let mut by_o = 0u64;
     let mut p = 0;
     while p < count {
         let f = by_feas(p, inputs, table, x, grad);
         let o = by_optim(p, inputs, table, x, grad);
-        by_f = wrapping_add_u64(by_f, one_if(same(f, feas)));
-        by_o = wrapping_add_u64(by_o, one_if(same(o, optim)));
+        by_f = by_f.wrapping_add(one_if(same(f, feas)));
+        by_o = by_o.wrapping_add(one_if(same(o, optim)));
         p += 1;
     }
     Agreeing {
