@@ -1,6 +1,6 @@
 // The program `filterrun` again, so that the gate runs it on a file of 65,537 bytes, one too many: a crate has one standard input.
 #![tactic(auto)]
 
-fn main() {
-    runner::run_stdin();
+fn main(rt: HostRuntime) {
+    runner::run_stdin(&mut rt.stdin(), &mut rt.stdout(), &mut rt.stderr());
 }

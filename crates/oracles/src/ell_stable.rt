@@ -168,7 +168,8 @@ impl EllStable {
         let helper = self.helper;
         let answer = strategy.calc(helper, beta, tsq);
         let status = answer.status;
-        if !is_success(status) {
+        let failed = !is_success(status);
+        if failed {
             return self.with_status(self.kappa, tsq, status);
         }
         let params = answer.params;

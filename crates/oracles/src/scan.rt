@@ -103,7 +103,8 @@ fn test_row(row: usize, value: f64, lower: f64, limit: f64, fmax: f64, kmax: i32
     ensures { result ≡ judged_of lower limit row value fmax kmax }
 {
     let last = row as i32;
-    if value > limit {
+    let over = value > limit;
+    if over {
         return Scan {
             viol: Violation::Broken(row, value, true),
             fmax,

@@ -14,28 +14,37 @@ ghost use Rattle.runner.specs.Run.{Ran};
 use drivers::input::INPUT_ROOM;
 use drivers::run::{Opened, Printed, Run, open};
 use drivers::trace::Text;
-use libc::STDIN_FILENO;
+use std::io::{Read, Write};
 use streams::input::{Input, read_all};
 use streams::output::hand_next;
 
 // Writes the text at the front of `out`.
-fn write_text(mark: &mut u64, has_failed: &mut bool, out: &[u8], text: Text)
+fn write_text<W: Write, E: Write>(
+    output: &mut W,
+    errors: &mut E,
+    mark: &mut u64,
+    has_failed: &mut bool,
+    out: &[u8],
+    text: Text,
+)
     ensures { mark.new ≡ marked mark.old (text_in text out.now) }
 {
     match text {
         Text::Bytes(count) => {
             if out.len() < count {
-                hand_next(mark, has_failed, out);
+                hand_next(output, errors, mark, has_failed, out);
                 return;
             }
-            hand_next(mark, has_failed, &out[..count]);
+            hand_next(output, errors, mark, has_failed, &out[..count]);
         }
         Text::Refused(_) => {}
     }
 }
 
 // The next step, whose text is written.
-fn step(
+fn step<W: Write, E: Write>(
+    output: &mut W,
+    errors: &mut E,
     mark: &mut u64,
     has_failed: &mut bool,
     run: Run,
@@ -52,12 +61,14 @@ fn step(
 {
     let printed = run.next(table, mq, xc, grad, grad_t, out);
     let text = printed.text;
-    write_text(mark, has_failed, out, text);
+    write_text(output, errors, mark, has_failed, out, text);
     printed
 }
 
 // Takes steps until there is no more to come, each text written; what the last one left.
-fn run_all(
+fn run_all<W: Write, E: Write>(
+    output: &mut W,
+    errors: &mut E,
     mark: &mut u64,
     has_failed: &mut bool,
     first: Run,
@@ -73,16 +84,22 @@ fn run_all(
     ensures mark_after { mark.new ≡ marked mark.old
         (run_all_text first table.now (ell_buffers mq.old xc.old grad_t.old) grad.old out.old) }
 {
-    let mut printed = step(mark, has_failed, first, table, mq, xc, grad, grad_t, out);
+    let mut printed = step(
+        output, errors, mark, has_failed, first, table, mq, xc, grad, grad_t, out,
+    );
     while printed.more {
         let run = printed.run;
-        printed = step(mark, has_failed, run, table, mq, xc, grad, grad_t, out);
+        printed = step(
+            output, errors, mark, has_failed, run, table, mq, xc, grad, grad_t, out,
+        );
     }
     printed
 }
 
 // The run on the fronts of the slices that its job fills: rows × n, n × n and n numbers.
-fn run_sized(
+fn run_sized<W: Write, E: Write>(
+    output: &mut W,
+    errors: &mut E,
     mark: &mut u64,
     has_failed: &mut bool,
     run: Run,
@@ -103,6 +120,8 @@ fn run_sized(
     let numbers = run.rows() * n;
     let square = n * n;
     run_all(
+        output,
+        errors,
         mark,
         has_failed,
         run,
@@ -116,7 +135,9 @@ fn run_sized(
 }
 
 // A job's run, in slices that are long enough for every job.
-fn run_lent(
+fn run_lent<W: Write, E: Write>(
+    output: &mut W,
+    errors: &mut E,
     mark: &mut u64,
     has_failed: &mut bool,
     bytes: &[u8],
@@ -133,14 +154,16 @@ fn run_lent(
     let opened = open(bytes, table, xc, mq, out);
     match opened {
         Opened::Started(run) => {
-            run_sized(mark, has_failed, run, table, mq, xc, grad, grad_t, out)
+            run_sized(
+                output, errors, mark, has_failed, run, table, mq, xc, grad, grad_t, out,
+            )
         }
-        Opened::Refused(text) => write_text(mark, has_failed, out, text),
+        Opened::Refused(text) => write_text(output, errors, mark, has_failed, out, text),
     }
 }
 
 // Runs the job; the mark of what is written is that of the program's text of these bytes.
-pub fn run_input(bytes: &[u8]) -> u64
+pub fn run_input<W: Write, E: Write>(output: &mut W, errors: &mut E, bytes: &[u8]) -> u64
     ensures { result ≡ mark_of (program_text bytes.now) }
 {
     let mut mark = 1;
@@ -152,6 +175,8 @@ pub fn run_input(bytes: &[u8]) -> u64
     let mut grad_t = [0.0f64; 32];
     let mut out = [0u8; 128];
     run_lent(
+        output,
+        errors,
         &mut mark,
         &mut has_failed,
         bytes,
@@ -166,21 +191,21 @@ pub fn run_input(bytes: &[u8]) -> u64
 }
 
 // Runs the job that was read, if the input could be read.
-fn run_read(bytes: &[u8], read: Input) -> u64
+fn run_read<W: Write, E: Write>(output: &mut W, errors: &mut E, bytes: &[u8], read: Input) -> u64
     requires { Within read (length bytes.now) }
     ensures { result ≡ mark_of (of_read read bytes.now program_text []) }
 {
     match read {
-        Input::Bytes(count) => run_input(&bytes[..count]),
+        Input::Bytes(count) => run_input(output, errors, &bytes[..count]),
         Input::Failed => 1,
     }
 }
 
 // Runs the job that stands on standard input.
-pub fn run_stdin() -> u64
+pub fn run_stdin<R: Read, W: Write, E: Write>(input: &mut R, output: &mut W, errors: &mut E) -> u64
     ensures { Ran result }
 {
     let mut bytes = [0u8; INPUT_ROOM];
-    let read = read_all(STDIN_FILENO, b"standard input", &mut bytes);
-    run_read(&bytes, read)
+    let read = read_all(input, errors, b"standard input", &mut bytes);
+    run_read(output, errors, &bytes, read)
 }

@@ -14,20 +14,20 @@ use Rattle.oracles.proofs.scan.test_row.Goals as goal
 row_fits : (row : ℕ) → row < 1024 → SFits w32 (pos row)
 row_fits row h = pos_fits row (omega arith)
 
-pub returns-then-value-limit : goal.returns-then-value-limit
-returns-then-value-limit c =
-    rw (to_z-of_z c.ranges.kmax, to_z-of_z (row_fits c.args.row c.requires)) (hit _ _ _ _ c.if-value-limit.true refl)
+pub returns-then-over : goal.returns-then-over
+returns-then-over c =
+    rw (to_z-of_z c.ranges.kmax, to_z-of_z (row_fits c.args.row c.requires)) (hit _ _ _ _ c.if-over.true refl)
 
 pub returns-then-value-lower : goal.returns-then-value-lower
 returns-then-value-lower c =
-    rw (to_z-of_z c.ranges.kmax, to_z-of_z (row_fits c.args.row c.requires)) (skip _ _ _ _ c.if-value-limit.false (hit _ _ _ _ c.if-value-lower.true refl))
+    rw (to_z-of_z c.ranges.kmax, to_z-of_z (row_fits c.args.row c.requires)) (skip _ _ _ _ c.if-over.false (hit _ _ _ _ c.if-value-lower.true refl))
 
 pub returns-then-value-fmax : goal.returns-then-value-fmax
 unfolding pick
 returns-then-value-fmax c =
-    rw (to_z-of_z (row_fits c.args.row c.requires)) (skip _ _ _ _ c.if-value-limit.false (skip _ _ _ _ c.if-value-lower.false (rw c.if-value-fmax.true)))
+    rw (to_z-of_z (row_fits c.args.row c.requires)) (skip _ _ _ _ c.if-over.false (skip _ _ _ _ c.if-value-lower.false (rw c.if-value-fmax.true)))
 
 pub returns : goal.returns
 unfolding pick
 returns c =
-    rw (to_z-of_z c.ranges.kmax, to_z-of_z (row_fits c.args.row c.requires)) (skip _ _ _ _ c.if-value-limit.false (skip _ _ _ _ c.if-value-lower.false (rw c.if-value-fmax.false)))
+    rw (to_z-of_z c.ranges.kmax, to_z-of_z (row_fits c.args.row c.requires)) (skip _ _ _ _ c.if-over.false (skip _ _ _ _ c.if-value-lower.false (rw c.if-value-fmax.false)))
