@@ -168,7 +168,8 @@ impl EllStable {
         let helper = self.helper;
         let answer = strategy.calc(helper, beta, tsq);
         let status = answer.status;
-        let failed = !is_success(status);
+        let success = is_success(status);
+        let failed = !success;
         if failed {
             return self.with_status(self.kappa, tsq, status);
         }

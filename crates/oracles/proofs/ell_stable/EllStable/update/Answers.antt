@@ -22,7 +22,7 @@ returns-then-failed c =
     stable_fails a.self a.strategy a.grad.now a.beta
     (stable_buffers a.mq.now a.xc.now a.inv_ml_g.now a.inv_md_inv_ml_g.now a.gg_t.now a.g_t.now)
     c.with_status-then-failed.result p.result _ _ _ _ _ p.ensures c.is_tiny.ensures
-    c.calc-answer.result _ c.calc-answer.ensures c.is_success-failed.ensures c.if-is_tiny.false
+    c.calc-answer.result _ c.calc-answer.ensures c.is_success-success.ensures c.if-is_tiny.false
     (ap not c.if-failed.true) c.with_status-then-failed.ensures
 
 pub succeed-requires : goal.succeed-requires
@@ -38,5 +38,5 @@ returns c =
     stable_succeeds a.self a.strategy a.grad.now a.beta
     (stable_buffers a.mq.now a.xc.now a.inv_ml_g.now a.inv_md_inv_ml_g.now a.gg_t.now a.g_t.now)
     c.with_status-2.result p.result _ _ _ _ _ p.ensures c.is_tiny.ensures
-    k.result _ k.ensures c.is_success-failed.ensures c.if-is_tiny.false
+    k.result _ k.ensures c.is_success-success.ensures c.if-is_tiny.false
     _ _ _ (ap not c.if-failed.false) c.succeed.ensures c.with_status-2.ensures
