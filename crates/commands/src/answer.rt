@@ -17,24 +17,34 @@ use drivers::input::{TakenJob, take_job};
 use drivers::job::Job;
 use drivers::trace::Source;
 use oracles::ell::{Ell, NewEll};
+use std::io::Write;
 use streams::output::{Handed, Stream, hand};
 
 // The longest answer's record: three headers, an outcome, steps and 32 numbers.
 const LONGEST_ANSWER: usize = 268;
 
-fn hand_record(n: usize, answer: Answer, point: &[f64], out: &mut [u8]) -> Handed
+fn hand_record<W: Write, E: Write>(
+    output: &mut W,
+    errors: &mut E,
+    n: usize,
+    answer: Answer,
+    point: &[f64],
+    out: &mut [u8],
+) -> Handed
     requires { (is_dimension n ≡ true) × (n ≤ 32) × (length point.now ≡ n) × (268 ≤ length out.old) }
     ensures { result ≡ handed_over (Stdout, answer_bytes answer point.now) }
 {
     let written = write_answer(n, answer, point, out);
     match written {
-        AnswerWritten::Bytes(count) => hand_front(Stream::Stdout, out, count),
-        AnswerWritten::Refused(_) => hand(Stream::Stdout, b""),
+        AnswerWritten::Bytes(count) => hand_front(output, errors, Stream::Stdout, out, count),
+        AnswerWritten::Refused(_) => hand(output, errors, Stream::Stdout, b""),
     }
 }
 
 // The run in slices of the job's own lengths.
-fn run_sized(
+fn run_sized<W: Write, E: Write>(
+    output: &mut W,
+    errors: &mut E,
     job: Job,
     ell: Ell,
     table: &[f64],
@@ -56,13 +66,15 @@ fn run_sized(
     );
     let answer = run.answer;
     match answer {
-        FeasAnswer::Ended(ended) => hand_record(job.n, ended, best, out),
-        FeasAnswer::Refused(_) => hand(Stream::Stdout, b""),
+        FeasAnswer::Ended(ended) => hand_record(output, errors, job.n, ended, best, out),
+        FeasAnswer::Refused(_) => hand(output, errors, Stream::Stdout, b""),
     }
 }
 
 // The run in the fronts, which the job fills, of slices that hold every job, and scratch of zeros.
-fn run_fronts(
+fn run_fronts<W: Write, E: Write>(
+    output: &mut W,
+    errors: &mut E,
     job: Job,
     ell: Ell,
     table: &[f64],
@@ -80,6 +92,8 @@ fn run_fronts(
     let mut grad_t = [0.0f64; 32];
     let mut best = [0.0f64; 32];
     run_sized(
+        output,
+        errors,
         job,
         ell,
         &table[..numbers],
@@ -92,18 +106,28 @@ fn run_fronts(
     )
 }
 
-fn run_job(job: Job, table: &[f64], mq: &mut [f64], xc: &mut [f64], out: &mut [u8]) -> Handed
+fn run_job<W: Write, E: Write>(
+    output: &mut W,
+    errors: &mut E,
+    job: Job,
+    table: &[f64],
+    mq: &mut [f64],
+    xc: &mut [f64],
+    out: &mut [u8],
+) -> Handed
     requires { JobSound job × JobHeld job table.now xc.old mq.old × (268 ≤ length out.old) }
     ensures { result ≡ handed_over (fronts_written job table.now xc.old mq.old) }
 {
     let made = Ell::new_with_matrix(job.n, job.kappa);
     match made {
-        NewEll::Made(ell) => run_fronts(job, ell, table, mq, xc, out),
-        NewEll::Refused(_) => hand(Stream::Stdout, b""),
+        NewEll::Made(ell) => run_fronts(output, errors, job, ell, table, mq, xc, out),
+        NewEll::Refused(_) => hand(output, errors, Stream::Stdout, b""),
     }
 }
 
-fn answer_lent(
+fn answer_lent<W: Write, E: Write>(
+    output: &mut W,
+    errors: &mut E,
     bytes: &[u8],
     table: &mut [f64; 32768],
     xc: &mut [f64; 32],
@@ -114,18 +138,20 @@ fn answer_lent(
 {
     let taken = take_job(Source::Only, bytes, table, xc, mq, out);
     match taken {
-        TakenJob::Taken(job) => run_job(job, table, mq, xc, out),
-        TakenJob::Refused(text) => hand_text(Stream::Stderr, out, text),
+        TakenJob::Taken(job) => run_job(output, errors, job, table, mq, xc, out),
+        TakenJob::Refused(text) => hand_text(output, errors, Stream::Stderr, out, text),
     }
 }
 
 // Answers the job that these bytes record.
-pub fn answer_input(bytes: &[u8]) -> Handed
+pub fn answer_input<W: Write, E: Write>(output: &mut W, errors: &mut E, bytes: &[u8]) -> Handed
     ensures { result ≡ handed_over (answer_written bytes.now) }
 {
     let mut table = [0.0f64; 32768];
     let mut xc = [0.0f64; 32];
     let mut mq = [0.0f64; 1024];
     let mut out = [0u8; LONGEST_ANSWER];
-    answer_lent(bytes, &mut table, &mut xc, &mut mq, &mut out)
+    answer_lent(
+        output, errors, bytes, &mut table, &mut xc, &mut mq, &mut out,
+    )
 }

@@ -9,20 +9,23 @@ use crate::handing::hand_text;
 use drivers::belongs::{Belonging, belongs};
 use drivers::input::{TakenAnswer, take_answer};
 use drivers::job::Job;
+use std::io::Write;
 use streams::output::{Handed, Stream, hand};
 
-fn say(belonging: Belonging) -> Handed
+fn say<W: Write, E: Write>(output: &mut W, errors: &mut E, belonging: Belonging) -> Handed
     ensures { result ≡ handed_over (said belonging) }
 {
     match belonging {
-        Belonging::Yes => hand(Stream::Stdout, b"yes\n"),
-        Belonging::No => hand(Stream::Stdout, b"no\n"),
-        Belonging::Refused(_) => hand(Stream::Stdout, b""),
+        Belonging::Yes => hand(output, errors, Stream::Stdout, b"yes\n"),
+        Belonging::No => hand(output, errors, Stream::Stdout, b"no\n"),
+        Belonging::Refused(_) => hand(output, errors, Stream::Stdout, b""),
     }
 }
 
 // Whether the answer that these bytes record belongs to a job that was read, its table and its point at the fronts of two slices. `out` is for the line of a refusal.
-pub(crate) fn judge_answer(
+pub(crate) fn judge_answer<W: Write, E: Write>(
+    output: &mut W,
+    errors: &mut E,
     job: Job,
     table: &[f64],
     xc: &[f64],
@@ -38,14 +41,18 @@ pub(crate) fn judge_answer(
     let mut grad = [0.0f64; 32];
     let taken = take_answer(n, bytes, &mut point, out);
     match taken {
-        TakenAnswer::Taken(answer) => say(belongs(
-            job,
-            &table[..numbers],
-            &xc[..n],
-            answer,
-            &point[..n],
-            &mut grad[..n],
-        )),
-        TakenAnswer::Refused(text) => hand_text(Stream::Stderr, out, text),
+        TakenAnswer::Taken(answer) => say(
+            output,
+            errors,
+            belongs(
+                job,
+                &table[..numbers],
+                &xc[..n],
+                answer,
+                &point[..n],
+                &mut grad[..n],
+            ),
+        ),
+        TakenAnswer::Refused(text) => hand_text(output, errors, Stream::Stderr, out, text),
     }
 }

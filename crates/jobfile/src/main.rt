@@ -1,6 +1,6 @@
 // The program `jobfile`: commands for people with job files.
 #![tactic(auto)]
 
-fn main() {
-    commands::jobfile::run_arguments();
+fn main(rt: HostRuntime) {
+    commands::jobfile::run_arguments(&rt, &mut rt.stdin(), &mut rt.stdout(), &mut rt.stderr());
 }

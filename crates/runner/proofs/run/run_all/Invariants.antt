@@ -1,5 +1,5 @@
 -- What the loop of `runner::run::run_all` keeps: what is left of the calls computes the answer and the texts, and fewer are left at each turn.
-use Rattle.std.specs.Prelude.{◌≡◌, ℕ, List, Float, length}
+use Rattle.std.specs.Prelude.{◌≡◌, ℕ, List, Float}
 use Rattle.drivers.specs.declared.run.Printed.{Printed}
 use Rattle.drivers.specs.laws.Calls.{CallEnd, calls_after, last_of, texts_after}
 use Rattle.streams.specs.Mark.{marked}

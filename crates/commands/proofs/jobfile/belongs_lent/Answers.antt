@@ -1,10 +1,5 @@
--- `commands::jobfile::belongs_lent` meets its contract. Assumes nothing.
-use Prim.Native.Nat.{ℕ, ◌*◌, ◌≤◌}
-use mathlib.Core.Path.{◌≡◌, sym, subst}
-use mathlib.Core.List.{List}
-use native.Mathlib.Omega.{arith}
-use borrow.Author.Rules.{rules}
-use lib.ListN.{length, take}
+-- `commands::jobfile::belongs_lent` meets its contract.
+use Rattle.std.proofs.Common.{◌≡◌, ℕ, ◌*◌, ◌≤◌, List, length, take, sym, subst, arith, rules}
 use lib.Ieee.{Float}
 use Rattle.streams.specs.Input.{of_read}
 use Rattle.streams.specs.laws.Input.{input_room, read_none}
@@ -25,8 +20,7 @@ use Rattle.commands.specs.Output.{Written, nothing_written, handed_over}
 use Rattle.commands.specs.Belongs.{judged_written, belongs_written}
 use Rattle.commands.specs.laws.Taken.{JobIs, job_taken_is, job_refused_is, as_taken, taken_held}
 use Rattle.commands.specs.laws.Jobfile.{Judged, JobJudged, of_both, of_judged, fronts_judged}
-use Rattle.commands.proofs.jobfile.belongs_lent.Statement.{statement}
-use Rattle.commands.proofs.jobfile.belongs_lent.Tie as tie
+use Rattle.commands.proofs.jobfile.belongs_lent.Goals as goal
 
 -- what `take_job` answered, once a branch knows which it is
 module _ (bytes : List ℕ) (table xc mq : List Float) (out : List ℕ) (r : TakenJob) (table' xc' mq' : List Float) (out' : List ℕ)
@@ -49,52 +43,27 @@ module _ (bytes : List ℕ) (table xc mq : List Float) (out : List ℕ) (r : Tak
         let e' = job_refused_is TheJob bytes table xc mq out t x m room text table' xc' mq' out' (as_taken e h) (of_read Failed input_room (judged_written f.job f.table f.point) nothing_written) in
         subst (λ (w : Written). JobJudged bytes (handed_over w)) (sym e') (of_both Failed input_room read_none)
 
-judge-file-requires : tie.Need-judge-file-requires
-judge-file-requires c κs =
-    let branch = c.before.before.before.before.before.before in
-    let taking = branch.before.before in
-    let a = taking.before.before.before.before.before.before.args in
-    let o = taking.take-job in
-    let l = o.new.1.1 in
-    let known = branch.taken.given in
-    let h = job_fits a.bytes.now a.table.now a.xc.now a.mq.now a.out.now o.result l.0 l.1.0 l.1.1.0 l.1.1.1.0 o.ensures known.0.0 known.1 in
+pub judge_file-requires : goal.judge_file-requires
+judge_file-requires g c =
+    let a = c.args in
+    let o = c.take_job-taken in
+    let j = c.in-Taken.job in
+    let h : JobSound j × JobHeld j o.new.table o.new.xc o.new.mq =
+    job_fits a.bytes.now a.table.now a.xc.now a.mq.now a.out.now o.result o.new.table o.new.xc o.new.mq o.new.out o.ensures j c.in-Taken.is in
     (h.0, h.1.table_long, h.1.xc_long, search rules)
 
-returns : tie.Need-returns
-returns c =
-    let branch = c.before.before.before.before.before.before.before in
-    let taking = branch.before.before in
-    let a = taking.before.before.before.before.before.before.args in
-    let o = taking.take-job in
-    let l = o.new.1.1 in
-    let t = taking.before.before.before.before.take-job-arg.given.0.1 in
-    let x = taking.before.before.before.take-job-arg2.given.0.1 in
-    let m = taking.before.before.take-job-arg3.given.0.1 in
-    let known = branch.taken.given in
-    job_judged a.bytes.now a.table.now a.xc.now a.mq.now a.out.now o.result l.0 l.1.0 l.1.1.0 l.1.1.1.0 o.ensures t x m
-    known.0.0 known.1 c.judge-file.result c.judge-file.ensures
+pub returns-in-Taken : goal.returns-in-Taken
+returns-in-Taken g c =
+    let a = c.args in
+    let o = c.take_job-taken in
+    job_judged a.bytes.now a.table.now a.xc.now a.mq.now a.out.now o.result o.new.table o.new.xc o.new.mq o.new.out o.ensures (search rules) (search rules) (search rules)
+    c.in-Taken.job c.in-Taken.is c.judge_file.result c.judge_file.ensures
 
-returns-2 : tie.Need-returns-2
-returns-2 c =
-    let branch = c.before.before.before.before in
-    let taking = branch.before.before in
-    let a = taking.before.before.before.before.before.before.args in
-    let o = taking.take-job in
-    let l = o.new.1.1 in
-    let t = taking.before.before.before.before.take-job-arg.given.0.1 in
-    let x = taking.before.before.before.take-job-arg2.given.0.1 in
-    let m = taking.before.before.take-job-arg3.given.0.1 in
-    let room : 128 ≤ length a.out.now = omega (arith, taking.before.take-job-arg4.given.0.1) in
-    let known = branch.taken2.given in
-    subst (JobJudged a.bytes.now) (sym c.hand-text.ensures)
-    (job_refused a.bytes.now a.table.now a.xc.now a.mq.now a.out.now o.result l.0 l.1.0 l.1.1.0 l.1.1.1.0 o.ensures t x m room known.0.0 known.1)
-
-pub belongs-lent-spec : {M : Type 1} → statement M
-belongs-lent-spec =
-    tie.close
-    (tie.spec
-    (λ c κs. search rules) (λ c. search rules)
-    judge-file-requires
-    (λ c. search rules) (λ c κs. search rules)
-    returns
-    returns-2)
+pub returns-in-Refused : goal.returns-in-Refused
+returns-in-Refused g c =
+    let a = c.args in
+    let o = c.take_job-taken in
+    let long : length a.out.now ≡ 128 = search rules in
+    subst (JobJudged a.bytes.now) (sym c.hand_text.ensures)
+    (job_refused a.bytes.now a.table.now a.xc.now a.mq.now a.out.now o.result o.new.table o.new.xc o.new.mq o.new.out o.ensures (search rules) (search rules) (search rules)
+    (omega (arith, long)) c.in-Refused.text c.in-Refused.is)
