@@ -1,4 +1,4 @@
-//! Links the static library that `rt staticlib ponduvizh` writes, and notes the versions of both compilers.
+//! Links the static library that `tools/build ponduvizh` writes, and notes the versions of both compilers.
 
 use std::env;
 use std::path::Path;

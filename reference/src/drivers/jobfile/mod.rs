@@ -122,12 +122,16 @@ fn accepted_answer(n: usize, bytes: &[u8]) -> Result<Answer, No> {
 /// A name that is longer than any path is not handed to the program whole, and not said again.
 const LONGEST_NAME: usize = 4096;
 
+/// A file is opened by a name that is text, and by no other (docs/DIFFERENCES.md).
 fn read<'a>((name, held): File<'a>) -> Result<&'a [u8], Vec<u8>> {
     let said = if name.len() > LONGEST_NAME {
         b"argument"
     } else {
         name
     };
+    if std::str::from_utf8(said).is_err() {
+        return Err(reason(said, "the name is not UTF-8"));
+    }
     held.read().map_err(|why| reason(said, why))
 }
 

@@ -174,6 +174,7 @@ fn calls_meet_everything() {
         "No such file or directory",
         "Not a directory",
         "File name too long",
+        "the name is not UTF-8",
     ] {
         right.push(text.into());
     }
