@@ -75,7 +75,7 @@ fn read_named<R: Files, E: Write>(rt: &R, errors: &mut E, name: &str, bytes: &mu
     }
 }
 
-// Reads the file of this name. A name that is not UTF-8 names no file that can be opened.
+// Reads the file of this name. std opens none by a name that is not UTF-8.
 pub fn read_file<R: Files, E: Write>(rt: &R, errors: &mut E, name: &[u8], bytes: &mut [u8]) -> Input
     ensures { Within result (length bytes.old) }
 {

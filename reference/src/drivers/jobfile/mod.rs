@@ -122,7 +122,7 @@ fn accepted_answer(n: usize, bytes: &[u8]) -> Result<Answer, No> {
 /// A name that is longer than any path is not handed to the program whole, and not said again.
 const LONGEST_NAME: usize = 4096;
 
-/// A file is opened by a name that is text, and by no other (docs/DIFFERENCES.md).
+/// A file is opened by a name that is text, and by no other (docs/ARCHIVE.md).
 fn read<'a>((name, held): File<'a>) -> Result<&'a [u8], Vec<u8>> {
     let said = if name.len() > LONGEST_NAME {
         b"argument"

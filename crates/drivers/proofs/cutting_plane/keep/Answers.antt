@@ -1,4 +1,4 @@
--- `drivers::cutting_plane::keep` meets its contract. The invariant: the loop has written the numbers below i. Assumes nothing.
+-- `drivers::cutting_plane::keep` meets its contract. Assumes nothing.
 use mathlib.Core.Path.{◌≡◌, refl, ap, ◌∙◌, sym}
 use mathlib.Core.Bool.{Bool, false, not, ◌&&◌}
 use mathlib.Core.List.{List, ◌++◌}

@@ -1,4 +1,4 @@
--- `drivers::cutting_plane::keep` meets its contract. The invariant: the loop has written the numbers below i. Assumes nothing.
+-- What the loop of `drivers::cutting_plane::keep` keeps: the loop has written the numbers below i.
 use Prim.Native.Nat.{◌≤◌, ◌-◌}
 use lib.ListN.{length, get_or}
 use lib.Ieee.{nan}

@@ -1,4 +1,4 @@
--- `drivers::cutting_plane_feas::run_feas` meets its contract. The invariant: the steps that are left compute the answer. Assumes nothing.
+-- `drivers::cutting_plane_feas::run_feas` meets its contract. Assumes nothing.
 use mathlib.Core.Path.{refl, sym, ◌∙◌}
 use native.Mathlib.Omega.{arith}
 use Rattle.drivers.specs.CuttingPlane.{state_of}

@@ -1,4 +1,4 @@
--- `drivers::cutting_plane_optim::run_optim` meets its contract. The invariant: the steps that are left compute the answer. Assumes nothing.
+-- `drivers::cutting_plane_optim::run_optim` meets its contract. Assumes nothing.
 use mathlib.Core.Path.{refl, sym, ◌∙◌}
 use mathlib.Core.Bool.{false}
 use native.Mathlib.Omega.{arith}

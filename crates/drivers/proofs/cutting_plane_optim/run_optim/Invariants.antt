@@ -1,4 +1,4 @@
--- `drivers::cutting_plane_optim::run_optim` meets its contract. The invariant: the steps that are left compute the answer. Assumes nothing.
+-- What the loop of `drivers::cutting_plane_optim::run_optim` keeps: the steps that are left compute the answer.
 use mathlib.Core.Path.{◌≡◌}
 use Prim.Native.Nat.{◌≤◌, ◌-◌}
 use lib.ListN.{length}

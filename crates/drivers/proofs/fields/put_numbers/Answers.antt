@@ -1,4 +1,4 @@
--- `drivers::fields::put_numbers` meets its contract. The invariant: the numbers that are left make the answer. Assumes nothing.
+-- `drivers::fields::put_numbers` meets its contract. Assumes nothing.
 use mathlib.Core.Path.{refl, ◌∙◌}
 use native.Mathlib.Omega.{arith}
 use Rattle.drivers.proofs.fields.Puts.{numbers_turn, numbers_done}

@@ -1,4 +1,4 @@
--- `drivers::fields::put_numbers` meets its contract. The invariant: the numbers that are left make the answer. Assumes nothing.
+-- What the loop of `drivers::fields::put_numbers` keeps: the numbers that are left make the answer.
 use Prim.Native.Nat.{◌-◌, ◌≤◌}
 use mathlib.Core.Path.{◌≡◌}
 use lib.ListN.{length, drop}

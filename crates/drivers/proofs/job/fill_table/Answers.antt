@@ -1,4 +1,4 @@
--- `drivers::job::fill_table` meets its contract: at each turn the rows so far and those that are left make the table's front. Assumes nothing.
+-- `drivers::job::fill_table` meets its contract. Assumes nothing.
 use Rattle.drivers.specs.laws.Record.{left_less}
 use borrow.Author.Rules.{rules}
 use Rattle.drivers.proofs.job.Filling.{starts, fits, turn, done}

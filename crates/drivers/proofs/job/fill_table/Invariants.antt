@@ -1,4 +1,4 @@
--- `drivers::job::fill_table` meets its contract: at each turn the rows so far and those that are left make the table's front. Assumes nothing.
+-- What the loop of `drivers::job::fill_table` keeps: at each turn the rows so far and those that are left make the table's front.
 use Prim.Native.Nat.{◌-◌}
 use lib.ListN.{length}
 use Rattle.drivers.proofs.job.Filling.{Filling}

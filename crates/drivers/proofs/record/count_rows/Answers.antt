@@ -1,4 +1,4 @@
--- `drivers::record::count_rows` meets its contract: at each turn the rows so far and those that are left make the answer. Assumes nothing.
+-- `drivers::record::count_rows` meets its contract. Assumes nothing.
 use mathlib.Core.Path.{◌≡◌, ap}
 use mathlib.Core.List.{List}
 use Prim.Native.Nat.{ℕ, ◌<◌, ◌≤◌, ◌+◌}

@@ -1,4 +1,4 @@
--- `drivers::record::count_rows` meets its contract: at each turn the rows so far and those that are left make the answer. Assumes nothing.
+-- What the loop of `drivers::record::count_rows` keeps: at each turn the rows so far and those that are left make the answer.
 use mathlib.Core.Path.{◌≡◌}
 use Prim.Native.Nat.{◌≤◌, ◌+◌, ◌-◌}
 use lib.ListN.{length}

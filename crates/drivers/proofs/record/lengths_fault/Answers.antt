@@ -1,4 +1,4 @@
--- `drivers::record::lengths_fault` meets its contract: at each turn what is left computes the answer. Assumes nothing.
+-- `drivers::record::lengths_fault` meets its contract. Assumes nothing.
 use mathlib.Core.Path.{◌≡◌, refl, sym, ap, ◌∙◌}
 use mathlib.Core.List.{List}
 use Prim.Native.Nat.{ℕ, ◌<◌, ◌≤◌}

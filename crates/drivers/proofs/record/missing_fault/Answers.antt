@@ -1,4 +1,4 @@
--- `drivers::record::missing_fault` meets its contract. The invariant: no tag below i is missing. Assumes nothing.
+-- `drivers::record::missing_fault` meets its contract. Assumes nothing.
 use mathlib.Core.Path.{◌≡◌, sym, ap, ◌∙◌}
 use mathlib.Core.Bool.{Bool, true, false, not, ◌&&◌}
 use mathlib.Core.List.{List}

@@ -1,4 +1,4 @@
--- `drivers::record::missing_fault` meets its contract. The invariant: no tag below i is missing. Assumes nothing.
+-- What the loop of `drivers::record::missing_fault` keeps: no tag below i is missing.
 use mathlib.Core.Path.{◌≡◌}
 use mathlib.Core.Bool.{false}
 use Prim.Native.Nat.{ℕ, ◌<◌, ◌≤◌, ◌-◌}

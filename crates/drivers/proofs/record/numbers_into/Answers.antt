@@ -1,4 +1,4 @@
--- `drivers::record::numbers_into` meets its contract. The invariant: the numbers below i are written. Assumes nothing.
+-- `drivers::record::numbers_into` meets its contract. Assumes nothing.
 use Rattle.numbers.specs.laws.Arr.{filled_start, filled_turn, filled_done}
 use borrow.Author.Rules.{rules}
 use Rattle.drivers.proofs.record.numbers_into.Goals as goal

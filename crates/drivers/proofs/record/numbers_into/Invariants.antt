@@ -1,4 +1,4 @@
--- `drivers::record::numbers_into` meets its contract. The invariant: the numbers below i are written. Assumes nothing.
+-- What the loop of `drivers::record::numbers_into` keeps: the numbers below i are written.
 use Prim.Native.Nat.{◌-◌}
 use lib.ListN.{length}
 use Rattle.numbers.specs.laws.Arr.{FilledTo}

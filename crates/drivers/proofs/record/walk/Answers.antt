@@ -1,4 +1,4 @@
--- `drivers::record::walk` meets its contract: at each turn what is left computes the answer. Assumes nothing.
+-- `drivers::record::walk` meets its contract. Assumes nothing.
 use mathlib.Core.Path.{◌≡◌, sym, ap, ◌∙◌}
 use mathlib.Core.Bool.{true, false, not, ◌&&◌}
 use mathlib.Core.List.{List}

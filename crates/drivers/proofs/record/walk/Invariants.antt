@@ -1,4 +1,4 @@
--- `drivers::record::walk` meets its contract: at each turn what is left computes the answer. Assumes nothing.
+-- What the loop of `drivers::record::walk` keeps: at each turn what is left computes the answer.
 use mathlib.Core.Path.{◌≡◌}
 use Prim.Native.Nat.{◌-◌}
 use lib.ListN.{length}

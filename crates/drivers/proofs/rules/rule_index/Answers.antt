@@ -1,4 +1,4 @@
--- `drivers::rules::rule_index` meets its contract. The invariant: the tag is not among the first i rules. Assumes nothing.
+-- `drivers::rules::rule_index` meets its contract. Assumes nothing.
 use borrow.Author.Rules.{rules as lemmas}
 use Rattle.drivers.specs.Rules.{rules}
 use Rattle.drivers.specs.laws.Rules.{rule_within, index_start, index_found, index_turn, index_end}

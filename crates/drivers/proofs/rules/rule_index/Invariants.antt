@@ -1,4 +1,4 @@
--- `drivers::rules::rule_index` meets its contract. The invariant: the tag is not among the first i rules. Assumes nothing.
+-- What the loop of `drivers::rules::rule_index` keeps: the tag is not among the first i rules.
 use mathlib.Core.Path.{◌≡◌}
 use Prim.Native.Nat.{◌≤◌, ◌+◌, ◌-◌}
 use lib.ListN.{drop}

@@ -1,4 +1,4 @@
--- `drivers::text::digit_count` meets its contract. The invariant: the digits counted, and those that rest has, are those of w. Assumes nothing.
+-- `drivers::text::digit_count` meets its contract. Assumes nothing.
 use native.Mathlib.Omega.{arith}
 use borrow.Author.Rules.{rules}
 use Rattle.drivers.proofs.text.Turns.{counted_start, counted_turn, counted_done}

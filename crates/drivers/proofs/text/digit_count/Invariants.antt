@@ -1,4 +1,4 @@
--- `drivers::text::digit_count` meets its contract. The invariant: the digits counted, and those that rest has, are those of w. Assumes nothing.
+-- What the loop of `drivers::text::digit_count` keeps: the digits counted, and those that rest has, are those of w.
 use Prim.Native.Nat.{◌-◌}
 use Rattle.drivers.proofs.text.Turns.{Counted}
 use Rattle.drivers.proofs.text.digit_count.Given as goal

@@ -1,4 +1,4 @@
--- `drivers::text::put_digits` meets its contract. The invariant: the digits from i to the end stand. Assumes nothing.
+-- `drivers::text::put_digits` meets its contract. Assumes nothing.
 use native.Mathlib.Nat.{mod-lt}
 use native.Mathlib.Omega.{arith}
 use borrow.Author.Rules.{rules}

@@ -1,4 +1,4 @@
--- `drivers::text::put_digits` meets its contract. The invariant: the digits from i to the end stand. Assumes nothing.
+-- What the loop of `drivers::text::put_digits` keeps: the digits from i to the end stand.
 use Prim.Native.Nat.{◌≤◌}
 use Rattle.drivers.proofs.text.Turns.{Down}
 use Rattle.drivers.proofs.text.put_digits.Given as goal

@@ -1,4 +1,4 @@
--- `drivers::text::put_text` meets its contract. The invariant: i bytes are copied. Assumes nothing.
+-- `drivers::text::put_text` meets its contract. Assumes nothing.
 use native.Mathlib.Omega.{arith}
 use borrow.Author.Rules.{rules}
 use Rattle.drivers.specs.laws.Text.{put_not}

@@ -1,4 +1,4 @@
--- `drivers::text::put_text` meets its contract. The invariant: i bytes are copied. Assumes nothing.
+-- What the loop of `drivers::text::put_text` keeps: i bytes are copied.
 use Prim.Native.Nat.{◌-◌}
 use lib.ListN.{length}
 use Rattle.drivers.proofs.text.Turns.{Copied}

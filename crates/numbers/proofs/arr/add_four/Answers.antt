@@ -1,4 +1,4 @@
--- `numbers::arr::add_four` meets its contract. The invariant: of each row, what is left to add, begun at the sum so far, gives the answer. Assumes nothing.
+-- `numbers::arr::add_four` meets its contract. Assumes nothing.
 use Rattle.numbers.proofs.arr.Laws.{sum_again, sum_done}
 use borrow.Author.Rules.{rules}
 use Rattle.numbers.proofs.arr.add_four.Goals as goal

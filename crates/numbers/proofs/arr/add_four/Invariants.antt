@@ -1,4 +1,4 @@
--- `numbers::arr::add_four` meets its contract. The invariant: of each row, what is left to add, begun at the sum so far, gives the answer. Assumes nothing.
+-- What the loop of `numbers::arr::add_four` keeps: of each row, what is left to add, begun at the sum so far, gives the answer.
 use mathlib.Core.Path.{◌≡◌}
 use Prim.Native.Nat.{◌-◌}
 use lib.ListN.{length, drop}

@@ -1,4 +1,4 @@
--- `numbers::arr::add_products` meets its contract. The invariant: what is left to add, begun at the sum so far, gives the answer. Assumes nothing.
+-- `numbers::arr::add_products` meets its contract. Assumes nothing.
 use Prim.Native.Nat.{◌+◌}
 use borrow.Author.Rules.{rules}
 use Rattle.numbers.proofs.arr.Laws.{sum_again, sum_two, sum_done}

@@ -1,4 +1,4 @@
--- `numbers::arr::copy_all` meets its contract. The invariant: the loop has written the elements below i. Assumes nothing.
+-- `numbers::arr::copy_all` meets its contract. Assumes nothing.
 use mathlib.Core.Path.{refl, ◌∙◌}
 use borrow.Author.Rules.{rules}
 use Rattle.numbers.specs.laws.Arr.{filled_start, filled_turn, filled_done}

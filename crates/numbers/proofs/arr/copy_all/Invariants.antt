@@ -1,4 +1,4 @@
--- `numbers::arr::copy_all` meets its contract. The invariant: the loop has written the elements below i. Assumes nothing.
+-- What the loop of `numbers::arr::copy_all` keeps: the loop has written the elements below i.
 use Prim.Native.Nat.{◌-◌}
 use lib.ListN.{length, get_or}
 use lib.Ieee.{nan}

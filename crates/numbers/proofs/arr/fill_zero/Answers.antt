@@ -1,4 +1,4 @@
--- `numbers::arr::fill_zero` meets its contract. The invariant: the loop has written the elements below i. Assumes nothing.
+-- `numbers::arr::fill_zero` meets its contract. Assumes nothing.
 use mathlib.Core.Path.{refl, ◌∙◌}
 use borrow.Author.Rules.{rules}
 use Rattle.numbers.specs.F64.{0ᶠ}

@@ -1,4 +1,4 @@
--- `numbers::arr::fill_zero` meets its contract. The invariant: the loop has written the elements below i. Assumes nothing.
+-- What the loop of `numbers::arr::fill_zero` keeps: the loop has written the elements below i.
 use Prim.Native.Nat.{◌-◌}
 use lib.ListN.{length}
 use Rattle.numbers.specs.F64.{0ᶠ}

@@ -1,4 +1,4 @@
--- `numbers::arr::set_diagonal` meets its contract. The invariant: the entries (k, k) with k below i are set. Assumes nothing.
+-- `numbers::arr::set_diagonal` meets its contract. Assumes nothing.
 use mathlib.Core.Path.{refl}
 use native.Mathlib.Omega.{arith}
 use borrow.Author.Rules.{rules}

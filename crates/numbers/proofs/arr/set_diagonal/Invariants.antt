@@ -1,4 +1,4 @@
--- `numbers::arr::set_diagonal` meets its contract. The invariant: the entries (k, k) with k below i are set. Assumes nothing.
+-- What the loop of `numbers::arr::set_diagonal` keeps: the entries (k, k) with k below i are set.
 use mathlib.Core.Path.{◌≡◌}
 use Prim.Native.Nat.{◌≤◌, ◌-◌}
 use lib.ListN.{length}

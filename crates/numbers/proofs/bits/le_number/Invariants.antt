@@ -1,4 +1,4 @@
--- `numbers::bits::le_number` meets its contract: w is the number of the bytes passed, from the last one down.
+-- What the loop of `numbers::bits::le_number` keeps: w is the number of the bytes passed, from the last one down.
 use Rattle.numbers.proofs.bits.Laws.{Read}
 use Rattle.numbers.proofs.bits.le_number.Given as goal
 

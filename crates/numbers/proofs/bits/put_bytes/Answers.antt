@@ -1,4 +1,4 @@
--- `numbers::bits::put_bytes` meets its contract: after i turns the i lowest bytes stand, and rest is what is left of w.
+-- `numbers::bits::put_bytes` meets its contract.
 use native.Mathlib.Omega.{arith}
 use Rattle.numbers.specs.laws.Bits.{put_short}
 use Rattle.numbers.proofs.bits.Laws.{low_start, low_turn, low_done}

@@ -1,4 +1,4 @@
--- `numbers::bits::put_bytes` meets its contract: after i turns the i lowest bytes stand, and rest is what is left of w.
+-- What the loop of `numbers::bits::put_bytes` keeps: after i turns the i lowest bytes stand, and rest is what is left of w.
 use Prim.Native.Nat.{◌-◌}
 use Rattle.numbers.proofs.bits.Laws.{Low}
 use Rattle.numbers.proofs.bits.put_bytes.Given as goal

@@ -1,4 +1,4 @@
--- `numbers::mv::long_rows_into` meets its contract. The invariant: the loop has written the elements below i, each from its row. Assumes nothing.
+-- `numbers::mv::long_rows_into` meets its contract. Assumes nothing.
 use mathlib.Core.Path.{ap, ◌∙◌}
 use native.Mathlib.Omega.{arith}
 use lib.ListN.{length-set}

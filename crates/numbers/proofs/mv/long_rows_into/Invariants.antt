@@ -1,4 +1,4 @@
--- `numbers::mv::long_rows_into` meets its contract. The invariant: the loop has written the elements below i, each from its row. Assumes nothing.
+-- What the loop of `numbers::mv::long_rows_into` keeps: the loop has written the elements below i, each from its row.
 use Prim.Native.Nat.{◌-◌}
 use Rattle.numbers.specs.F64.{0ᶠ}
 use Rattle.numbers.specs.Arr.{dot_from, row_of}

@@ -1,4 +1,4 @@
--- `numbers::sqrt::normalise` meets its contract. Assumes nothing.
+-- What the loop of `numbers::sqrt::normalise` keeps.
 use Prim.Native.Nat.{◌-◌, ◌^◌}
 use Rattle.numbers.proofs.sqrt.Laws.{Up}
 use Rattle.numbers.proofs.sqrt.normalise.Given as goal

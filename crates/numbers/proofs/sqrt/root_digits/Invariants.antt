@@ -1,4 +1,4 @@
--- `numbers::sqrt::root_digits` meets its contract. Assumes nothing.
+-- What the loop of `numbers::sqrt::root_digits` keeps.
 use Prim.Native.Nat.{◌-◌}
 use Rattle.numbers.proofs.sqrt.Laws.{Digits}
 use Rattle.numbers.proofs.sqrt.root_digits.Given as goal

@@ -1,4 +1,4 @@
--- `oracles::band_cut::negate_into` meets its contract. The invariant: the loop has written the entries below i. Assumes nothing.
+-- `oracles::band_cut::negate_into` meets its contract. Assumes nothing.
 use mathlib.Core.Path.{◌≡◌, refl, sym, ◌∙◌}
 use mathlib.Core.List.{List, map}
 use Prim.Native.Nat.{ℕ}

@@ -1,4 +1,4 @@
--- `oracles::band_cut::negate_into` meets its contract. The invariant: the loop has written the entries below i. Assumes nothing.
+-- What the loop of `oracles::band_cut::negate_into` keeps: the loop has written the entries below i.
 use Prim.Native.Nat.{◌-◌}
 use lib.ListN.{length, get_or}
 use lib.Ieee.{nan, neg}

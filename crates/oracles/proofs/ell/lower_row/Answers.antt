@@ -1,4 +1,4 @@
--- `oracles::ell::lower_row` meets its contract. The invariant: the entries below j are lowered, the others as they were. Assumes nothing.
+-- `oracles::ell::lower_row` meets its contract. Assumes nothing.
 use mathlib.Core.Path.{refl}
 use native.Mathlib.Omega.{arith}
 use borrow.Author.Rules.{rules}

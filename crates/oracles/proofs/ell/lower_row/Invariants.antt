@@ -1,4 +1,4 @@
--- `oracles::ell::lower_row` meets its contract. The invariant: the entries below j are lowered, the others as they were. Assumes nothing.
+-- What the loop of `oracles::ell::lower_row` keeps: the entries below j are lowered, the others as they were.
 use Prim.Native.Nat.{◌-◌, ◌+◌, ◌≤◌}
 use lib.Dec.{leb}
 use lib.ListN.{length}

@@ -1,4 +1,4 @@
--- `oracles::ell::lower_rows` meets its contract. The invariant: the rows below i are lowered. Row i is lent as a part, and comes back in its place. Assumes nothing.
+-- `oracles::ell::lower_rows` meets its contract. Assumes nothing.
 use mathlib.Core.Path.{◌≡◌}
 use Prim.Native.Nat.{◌-◌, ◌+◌, ◌*◌}
 use native.Mathlib.Omega.{arith}

@@ -1,4 +1,4 @@
--- `oracles::ell::lower_rows` meets its contract. The invariant: the rows below i are lowered. Row i is lent as a part, and comes back in its place. Assumes nothing.
+-- What the loop of `oracles::ell::lower_rows` keeps: the rows below i are lowered. Row i is lent as a part, and comes back in its place.
 use Prim.Native.Nat.{◌-◌, ◌≤◌}
 use Rattle.oracles.specs.laws.Loop.{MatrixOf}
 use Rattle.oracles.proofs.ell.Laws.{lowered_to}

@@ -1,4 +1,4 @@
--- `oracles::ell::mirror` meets its contract. The invariant: the columns below i are taken from the rows. Assumes nothing.
+-- `oracles::ell::mirror` meets its contract. Assumes nothing.
 use borrow.Author.Rules.{rules}
 use Rattle.oracles.proofs.ell.Laws.{columns_start, columns_turn, columns_done}
 use Rattle.oracles.proofs.ell.mirror.Goals as goal

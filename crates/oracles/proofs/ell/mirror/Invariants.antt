@@ -1,4 +1,4 @@
--- `oracles::ell::mirror` meets its contract. The invariant: the columns below i are taken from the rows. Assumes nothing.
+-- What the loop of `oracles::ell::mirror` keeps: the columns below i are taken from the rows.
 use Prim.Native.Nat.{◌-◌, ◌≤◌}
 use Rattle.oracles.specs.laws.Loop.{MatrixOf}
 use Rattle.oracles.proofs.ell.Laws.{from_rows}

@@ -1,4 +1,4 @@
--- `oracles::ell::mirror_row` meets its contract. The invariant: column i's entries before j are row i's. Assumes nothing.
+-- `oracles::ell::mirror_row` meets its contract. Assumes nothing.
 use native.Mathlib.Omega.{arith}
 use borrow.Author.Rules.{rules}
 use Rattle.oracles.specs.laws.Matrix.{row_small, place_in}

@@ -1,4 +1,4 @@
--- `oracles::ell::mirror_row` meets its contract. The invariant: column i's entries before j are row i's. Assumes nothing.
+-- What the loop of `oracles::ell::mirror_row` keeps: column i's entries before j are row i's.
 use Prim.Native.Nat.{◌-◌, ◌≤◌}
 use Rattle.oracles.specs.laws.Loop.{MatrixOf}
 use Rattle.oracles.specs.laws.Ell.{mirrored_to}

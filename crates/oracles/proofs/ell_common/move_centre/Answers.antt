@@ -1,4 +1,4 @@
--- `oracles::ell_common::move_centre` meets its contract. The invariant: the entries below i are moved, the others as they were. Assumes nothing.
+-- `oracles::ell_common::move_centre` meets its contract. Assumes nothing.
 use mathlib.Core.Path.{refl}
 use native.Mathlib.Omega.{arith}
 use borrow.Author.Rules.{rules}

@@ -1,4 +1,4 @@
--- `oracles::ell_common::move_centre` meets its contract. The invariant: the entries below i are moved, the others as they were. Assumes nothing.
+-- What the loop of `oracles::ell_common::move_centre` keeps: the entries below i are moved, the others as they were.
 use Prim.Native.Nat.{◌-◌, ◌≤◌}
 use lib.ListN.{length}
 use Rattle.numbers.specs.F64.{◌⊖◌, ◌⊗◌}

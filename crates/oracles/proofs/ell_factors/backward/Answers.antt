@@ -1,4 +1,4 @@
--- `oracles::ell_factors::backward` meets its contract. The invariant: the entries from i on are solved. Assumes nothing.
+-- `oracles::ell_factors::backward` meets its contract. Assumes nothing.
 use Prim.Native.Nat.{◌-◌}
 use borrow.Author.Rules.{rules}
 use Rattle.oracles.proofs.ell_factors.Laws.{back_rows_start, back_rows_turn, back_rows_done}

@@ -1,4 +1,4 @@
--- `oracles::ell_factors::backward` meets its contract. The invariant: the entries from i on are solved. Assumes nothing.
+-- What the loop of `oracles::ell_factors::backward` keeps: the entries from i on are solved.
 use mathlib.Core.Path.{◌≡◌}
 use mathlib.Core.List.{◌++◌}
 use Prim.Native.Nat.{◌-◌, ◌<◌}

@@ -1,4 +1,4 @@
--- `oracles::ell_factors::backward_row` meets its contract. The invariant: the products of row i before column j are subtracted. Assumes nothing.
+-- `oracles::ell_factors::backward_row` meets its contract. Assumes nothing.
 use mathlib.Core.Path.{ap}
 use borrow.Author.Rules.{rules}
 use lib.ListN.{set}

@@ -1,4 +1,4 @@
--- `oracles::ell_factors::backward_row` meets its contract. The invariant: the products of row i before column j are subtracted. Assumes nothing.
+-- What the loop of `oracles::ell_factors::backward_row` keeps: the products of row i before column j are subtracted.
 use Prim.Native.Nat.{◌-◌, ◌+◌}
 use Rattle.numbers.specs.F64.{◌⊖◌, ◌⊗◌}
 use Rattle.oracles.specs.Matrix.{nth, at}

@@ -1,4 +1,4 @@
--- `oracles::ell_factors::column_into` meets its contract. The invariant: the entries below j are written. Assumes nothing.
+-- `oracles::ell_factors::column_into` meets its contract. Assumes nothing.
 use Prim.Native.Nat.{◌+◌}
 use native.Mathlib.Omega.{arith}
 use borrow.Author.Rules.{rules}

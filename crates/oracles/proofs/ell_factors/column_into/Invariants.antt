@@ -1,4 +1,4 @@
--- `oracles::ell_factors::column_into` meets its contract. The invariant: the entries below j are written. Assumes nothing.
+-- What the loop of `oracles::ell_factors::column_into` keeps: the entries below j are written.
 use Prim.Native.Nat.{◌-◌, ◌≤◌}
 use Rattle.numbers.specs.laws.Arr.{FilledTo}
 use Rattle.oracles.specs.Matrix.{at}

@@ -1,4 +1,4 @@
--- `oracles::ell_factors::forward` meets its contract. The invariant: the rows below i are solved, and their products stored. Row i is lent, and comes back in its place.
+-- `oracles::ell_factors::forward` meets its contract.
 use native.Mathlib.Omega.{arith}
 use borrow.Author.Rules.{rules}
 use Rattle.numbers.specs.laws.Arr.{row_in}

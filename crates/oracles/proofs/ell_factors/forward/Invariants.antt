@@ -1,4 +1,4 @@
--- `oracles::ell_factors::forward` meets its contract. The invariant: the rows below i are solved, and their products stored. Row i is lent, and comes back in its place.
+-- What the loop of `oracles::ell_factors::forward` keeps: the rows below i are solved, and their products stored. Row i is lent, and comes back in its place.
 use mathlib.Core.Path.{◌≡◌}
 use Prim.Native.Nat.{◌-◌}
 use lib.ListN.{length}

@@ -1,4 +1,4 @@
--- `oracles::ell_factors::forward_row` meets its contract. The invariant: the first j products are stored in the row, and taken from the start. Assumes nothing.
+-- `oracles::ell_factors::forward_row` meets its contract. Assumes nothing.
 use mathlib.Core.Path.{refl}
 use native.Mathlib.Omega.{arith}
 use Rattle.numbers.specs.F64.{◌⊖◌}

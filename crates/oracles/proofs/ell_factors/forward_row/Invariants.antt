@@ -1,4 +1,4 @@
--- `oracles::ell_factors::forward_row` meets its contract. The invariant: the first j products are stored in the row, and taken from the start. Assumes nothing.
+-- What the loop of `oracles::ell_factors::forward_row` keeps: the first j products are stored in the row, and taken from the start.
 use mathlib.Core.Path.{◌≡◌}
 use Prim.Native.Nat.{◌-◌, ◌≤◌}
 use lib.ListN.{length}

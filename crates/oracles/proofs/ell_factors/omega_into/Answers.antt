@@ -1,4 +1,4 @@
--- `oracles::ell_factors::omega_into` meets its contract. The invariant: the products below i are written, and added. Assumes nothing.
+-- `oracles::ell_factors::omega_into` meets its contract. Assumes nothing.
 use mathlib.Core.Path.{refl}
 use native.Mathlib.Omega.{arith}
 use borrow.Author.Rules.{rules}

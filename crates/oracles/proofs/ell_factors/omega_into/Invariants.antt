@@ -1,4 +1,4 @@
--- `oracles::ell_factors::omega_into` meets its contract. The invariant: the products below i are written, and added. Assumes nothing.
+-- What the loop of `oracles::ell_factors::omega_into` keeps: the products below i are written, and added.
 use mathlib.Core.Path.{◌≡◌}
 use Prim.Native.Nat.{◌-◌, ◌≤◌}
 use lib.ListN.{length}

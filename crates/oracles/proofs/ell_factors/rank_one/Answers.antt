@@ -1,4 +1,4 @@
--- `oracles::ell_factors::rank_one` meets its contract. The invariant: the rows below j are done, and their columns taken from v. Row j is lent from its diagonal on.
+-- `oracles::ell_factors::rank_one` meets its contract.
 use mathlib.Core.Path.{refl}
 use native.Mathlib.Omega.{arith}
 use borrow.Author.Rules.{rules}

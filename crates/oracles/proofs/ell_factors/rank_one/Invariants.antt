@@ -1,4 +1,4 @@
--- `oracles::ell_factors::rank_one` meets its contract. The invariant: the rows below j are done, and their columns taken from v. Row j is lent from its diagonal on.
+-- What the loop of `oracles::ell_factors::rank_one` keeps: the rows below j are done, and their columns taken from v. Row j is lent from its diagonal on.
 use mathlib.Core.Path.{◌≡◌}
 use Prim.Native.Nat.{◌-◌, ◌≤◌}
 use Rattle.oracles.specs.laws.Loop.{VectorOf, MatrixOf}

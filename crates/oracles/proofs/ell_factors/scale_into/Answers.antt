@@ -1,4 +1,4 @@
--- `oracles::ell_factors::scale_into` meets its contract. The invariant: the entries below i are written. Assumes nothing.
+-- `oracles::ell_factors::scale_into` meets its contract. Assumes nothing.
 use native.Mathlib.Omega.{arith}
 use borrow.Author.Rules.{rules}
 use Rattle.oracles.specs.laws.Loop.{sweep_zero, sweep_turn, sweep_done}

@@ -1,4 +1,4 @@
--- `oracles::ell_factors::scale_into` meets its contract. The invariant: the entries below i are written. Assumes nothing.
+-- What the loop of `oracles::ell_factors::scale_into` keeps: the entries below i are written.
 use Prim.Native.Nat.{◌-◌}
 use Rattle.numbers.specs.F64.{◌⊗◌}
 use Rattle.oracles.specs.Matrix.{nth, at}

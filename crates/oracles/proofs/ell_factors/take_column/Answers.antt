@@ -1,4 +1,4 @@
--- `oracles::ell_factors::take_column` meets its contract. The invariant: the column is taken from the entries below l. Assumes nothing.
+-- `oracles::ell_factors::take_column` meets its contract. Assumes nothing.
 use mathlib.Core.Path.{refl}
 use native.Mathlib.Omega.{arith}
 use borrow.Author.Rules.{rules}

@@ -1,4 +1,4 @@
--- `oracles::ell_factors::take_column` meets its contract. The invariant: the column is taken from the entries below l. Assumes nothing.
+-- What the loop of `oracles::ell_factors::take_column` keeps: the column is taken from the entries below l.
 use Prim.Native.Nat.{◌-◌, ◌<◌}
 use lib.Dec.{ltb}
 use Rattle.numbers.specs.F64.{◌⊖◌}

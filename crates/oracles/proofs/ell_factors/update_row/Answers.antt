@@ -1,4 +1,4 @@
--- `oracles::ell_factors::update_row` meets its contract. The invariant: the entries below l are written. Assumes nothing.
+-- `oracles::ell_factors::update_row` meets its contract. Assumes nothing.
 use mathlib.Core.Path.{refl, ◌∙◌}
 use native.Mathlib.Omega.{arith}
 use borrow.Author.Rules.{rules}

@@ -1,4 +1,4 @@
--- `oracles::ell_factors::update_row` meets its contract. The invariant: the entries below l are written. Assumes nothing.
+-- What the loop of `oracles::ell_factors::update_row` keeps: the entries below l are written.
 use Prim.Native.Nat.{◌-◌, ◌<◌}
 use lib.ListN.{length}
 use Rattle.oracles.specs.Matrix.{nth}

@@ -1,4 +1,4 @@
--- `oracles::ldlt_mgr::column_sum` meets its contract. The invariant: the rows below k are added. Assumes nothing.
+-- `oracles::ldlt_mgr::column_sum` meets its contract. Assumes nothing.
 use borrow.Author.Rules.{rules}
 use Rattle.oracles.specs.laws.Matrix.{from_start, from_turn, from_done}
 use Rattle.oracles.proofs.ldlt_mgr.column_sum.Goals as goal

@@ -1,4 +1,4 @@
--- `oracles::ldlt_mgr::column_sum` meets its contract. The invariant: the rows below k are added. Assumes nothing.
+-- What the loop of `oracles::ldlt_mgr::column_sum` keeps: the rows below k are added.
 use Prim.Native.Nat.{◌+◌, ◌-◌}
 use Rattle.numbers.specs.F64.{◌⊕◌, ◌⊗◌, 0ᶠ}
 use Rattle.oracles.specs.Matrix.{nth, at}

@@ -1,4 +1,4 @@
--- `oracles::ldlt_mgr::factor_row` meets its contract. The invariant: the columns below j of row i, and the rows below j of column i, are written. Assumes nothing.
+-- `oracles::ldlt_mgr::factor_row` meets its contract. Assumes nothing.
 use mathlib.Core.Path.{◌∙◌}
 use native.Mathlib.Omega.{arith}
 use borrow.Author.Rules.{rules}

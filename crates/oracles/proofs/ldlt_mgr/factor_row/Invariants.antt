@@ -1,4 +1,4 @@
--- `oracles::ldlt_mgr::factor_row` meets its contract. The invariant: the columns below j of row i, and the rows below j of column i, are written. Assumes nothing.
+-- What the loop of `oracles::ldlt_mgr::factor_row` keeps: the columns below j of row i, and the rows below j of column i, are written.
 use Prim.Native.Nat.{◌-◌}
 use Rattle.oracles.specs.LdltMgr.{get_elem}
 use Rattle.oracles.proofs.ldlt_mgr.Laws.{RowTo}

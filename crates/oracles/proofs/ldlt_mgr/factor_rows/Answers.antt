@@ -1,4 +1,4 @@
--- `oracles::ldlt_mgr::factor_rows` meets its contract. The invariant: the rows below i are written, and none of their pivots stopped it. Assumes nothing.
+-- `oracles::ldlt_mgr::factor_rows` meets its contract. Assumes nothing.
 use borrow.Author.Rules.{rules}
 use Rattle.oracles.proofs.ldlt_mgr.Laws.{rows_start, rows_long, rows_factored, rows_turn, rows_stop, rows_done}
 use Rattle.oracles.proofs.ldlt_mgr.factor_rows.Goals as goal

@@ -1,4 +1,4 @@
--- `oracles::ldlt_mgr::factor_rows` meets its contract. The invariant: the rows below i are written, and none of their pivots stopped it. Assumes nothing.
+-- What the loop of `oracles::ldlt_mgr::factor_rows` keeps: the rows below i are written, and none of their pivots stopped it.
 use Prim.Native.Nat.{◌-◌}
 use Rattle.oracles.specs.LdltMgr.{get_elem}
 use Rattle.oracles.proofs.ldlt_mgr.Laws.{RowsTo}

@@ -1,4 +1,4 @@
--- `oracles::ldlt_mgr::get_elem` meets its contract. The invariant: the matrices below k are subtracted. Assumes nothing.
+-- `oracles::ldlt_mgr::get_elem` meets its contract. Assumes nothing.
 use mathlib.Core.Path.{refl}
 use native.Mathlib.Omega.{arith}
 use borrow.Author.Rules.{rules}

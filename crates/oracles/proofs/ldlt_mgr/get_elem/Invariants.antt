@@ -1,4 +1,4 @@
--- `oracles::ldlt_mgr::get_elem` meets its contract. The invariant: the matrices below k are subtracted. Assumes nothing.
+-- What the loop of `oracles::ldlt_mgr::get_elem` keeps: the matrices below k are subtracted.
 use mathlib.Core.Path.{◌≡◌}
 use Prim.Native.Nat.{◌+◌, ◌-◌, ◌*◌, ◌≤◌}
 use lib.ListN.{length}

@@ -1,4 +1,4 @@
--- `oracles::ldlt_mgr::quad` meets its contract. The invariant: the rows below i are added. Assumes nothing.
+-- What the loop of `oracles::ldlt_mgr::quad` keeps: the rows below i are added.
 use Prim.Native.Nat.{◌-◌}
 use Rattle.numbers.specs.F64.{◌⊕◌, 0ᶠ}
 use Rattle.oracles.specs.LdltMgr.{quad_term}

@@ -1,4 +1,4 @@
--- `oracles::ldlt_mgr::quad_row` meets its contract. The invariant: the columns below j are added. Assumes nothing.
+-- `oracles::ldlt_mgr::quad_row` meets its contract. Assumes nothing.
 use borrow.Author.Rules.{rules}
 use Rattle.oracles.specs.LdltMgr.{quad_term}
 use Rattle.oracles.specs.laws.Matrix.{from_start, from_turn, from_done}

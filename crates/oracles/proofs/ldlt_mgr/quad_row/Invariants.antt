@@ -1,4 +1,4 @@
--- `oracles::ldlt_mgr::quad_row` meets its contract. The invariant: the columns below j are added. Assumes nothing.
+-- What the loop of `oracles::ldlt_mgr::quad_row` keeps: the columns below j are added.
 use Prim.Native.Nat.{◌+◌, ◌-◌}
 use Rattle.numbers.specs.F64.{◌⊕◌, ◌⊗◌, 0ᶠ}
 use Rattle.oracles.specs.Matrix.{nth, at}

@@ -1,4 +1,4 @@
--- `oracles::ldlt_mgr::row_sum` meets its contract. The invariant: the columns below k are added. Assumes nothing.
+-- `oracles::ldlt_mgr::row_sum` meets its contract. Assumes nothing.
 use mathlib.Core.Path.{refl}
 use borrow.Author.Rules.{rules}
 use Rattle.numbers.specs.F64.{◌⊕◌, 0ᶠ}

@@ -1,4 +1,4 @@
--- `oracles::ldlt_mgr::row_sum` meets its contract. The invariant: the columns below k are added. Assumes nothing.
+-- What the loop of `oracles::ldlt_mgr::row_sum` keeps: the columns below k are added.
 use mathlib.Core.Path.{◌≡◌}
 use Prim.Native.Nat.{◌-◌, ◌≤◌}
 use Rattle.numbers.specs.F64.{◌⊕◌, ◌⊗◌, 0ᶠ}

@@ -1,4 +1,4 @@
--- `oracles::ldlt_mgr::witness_into` meets its contract. The invariant: the entries from i on are written. Assumes nothing.
+-- `oracles::ldlt_mgr::witness_into` meets its contract. Assumes nothing.
 use Prim.Native.Nat.{suc, ◌-◌}
 use mathlib.Core.Path.{◌≡◌, ◌∙◌}
 use native.Mathlib.Omega.{arith}

@@ -1,4 +1,4 @@
--- `oracles::ldlt_mgr::witness_into` meets its contract. The invariant: the entries from i on are written. Assumes nothing.
+-- What the loop of `oracles::ldlt_mgr::witness_into` keeps: the entries from i on are written.
 use Prim.Native.Nat.{◌≤◌}
 use Rattle.oracles.proofs.ldlt_mgr.WitnessLaws.{WitnessTo}
 use Rattle.oracles.proofs.ldlt_mgr.witness_into.Given as goal

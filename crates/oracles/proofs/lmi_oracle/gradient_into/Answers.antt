@@ -1,4 +1,4 @@
--- `oracles::lmi_oracle::gradient_into` meets its contract. The invariant: the loop has written the elements below k. Assumes nothing.
+-- `oracles::lmi_oracle::gradient_into` meets its contract. Assumes nothing.
 use mathlib.Core.Path.{◌∙◌}
 use Prim.Native.Nat.{◌*◌}
 use native.Mathlib.Nat.{mul-le-mul}

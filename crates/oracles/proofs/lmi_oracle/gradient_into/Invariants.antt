@@ -1,4 +1,4 @@
--- `oracles::lmi_oracle::gradient_into` meets its contract. The invariant: the loop has written the elements below k. Assumes nothing.
+-- What the loop of `oracles::lmi_oracle::gradient_into` keeps: the loop has written the elements below k.
 use Prim.Native.Nat.{◌-◌}
 use Rattle.numbers.specs.F64.{◌⊗◌, 1ᶠ}
 use Rattle.numbers.specs.laws.Arr.{FilledTo}

@@ -1,4 +1,4 @@
--- `oracles::scan::scan_rest` meets its contract: at each turn what is left computes the answer. Assumes nothing.
+-- `oracles::scan::scan_rest` meets its contract. Assumes nothing.
 use mathlib.Core.Path.{◌≡◌, refl, sym, ap, ◌∙◌}
 use mathlib.Core.Logic.{◌⊎◌, inl, inr}
 use Prim.Native.Nat.{ℕ, ◌≤◌}

@@ -1,4 +1,4 @@
--- `oracles::scan::scan_rest` meets its contract: at each turn what is left computes the answer. Assumes nothing.
+-- What the loop of `oracles::scan::scan_rest` keeps: at each turn what is left computes the answer.
 use mathlib.Core.Path.{◌≡◌}
 use Rattle.oracles.specs.Scan.{scan_from}
 use Rattle.oracles.specs.laws.ScanRun.{RowsLeft}

@@ -3,6 +3,8 @@ use mathlib.Core.Path.{refl, sym, ◌∙◌}
 use native.Mathlib.Omega.{arith}
 use mir.Facts.{to_z-of_z}
 use lib.Ieee
+use mir.Syntax.{w32}
+use borrow.Author.Rules.{rules}
 use Rattle.oracles.specs.Scan.{−∞, none}
 use Rattle.oracles.proofs.scan.Run.{as_judged}
 use Rattle.oracles.proofs.scan.Turn.{ordered, starts, empty, start_is, row_there, row_small, left_there, first_in, first_ends, first_goes_on}
@@ -22,7 +24,7 @@ pub returns-then-all-eq0 : goal.returns-then-all-eq0
 unfolding Ieee.div Ieee.neg Ieee.of_bits
 returns-then-all-eq0 c =
     let a = c.args in
-    rw (to_z-of_z (record { sfits = c.struct_told-1.given.0.1 })) (empty c.requires c.band_from.ensures c.band_past.ensures a.lower a.upper c.if-all-eq0.true)
+    rw (to_z-of_z {w = w32} {z = a.start.cur} (search rules)) (empty c.requires c.band_from.ensures c.band_past.ensures a.lower a.upper c.if-all-eq0.true)
 
 pub step-rr-requires : goal.step-rr-requires
 step-rr-requires c = c.requires.legal
@@ -64,6 +66,6 @@ pub returns : goal.returns
 unfolding Ieee.div Ieee.neg Ieee.of_bits
 returns c =
     let a = c.args in
-    rw (to_z-of_z (record { sfits = c.struct_told-2-1.given.1.1.0.1 })) at c.scan_rest.ensures
+    rw (to_z-of_z {w = w32} {z = c.test_row-s.result.kmax} (search rules)) at c.scan_rest.ensures
     ∙ first_goes_on c.requires c.band_from.ensures c.band_past.ensures a.lower a.upper c.limit_of-limit.ensures c.if-all-eq0.false c.step-rr.ensures c.row_at-row.ensures
     (as_judged a.n a.table.now a.x.now a.lower _ −∞ refl c.row_value-value.ensures refl c.test_row-s.ensures) (sym c.is_broken.ensures ∙ c.if-is_broken.false)

@@ -12,7 +12,7 @@ use Rattle.drivers.proofs.run.Run.step.Goals as goal
 
 pub overflow_add-self : goal.overflow_add-self
 overflow_add-self c =
-    record { fits = omega (arith, c.struct_known-1.given.1.1.0.0.fits, c.requires.0) }
+    record { fits = omega (arith, c.requires.0) }
 
 pub returns-then-goes_on : goal.returns-then-goes_on
 returns-then-goes_on c =

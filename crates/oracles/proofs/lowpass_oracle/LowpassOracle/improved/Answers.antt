@@ -46,12 +46,12 @@ returns-then-after-lt0 c =
 
 pub overflow_cast-after : goal.overflow_cast-after
 overflow_cast-after c =
-    let f : SFits w32 c.args.after.kmax = record { sfits = c.struct_told-2-1.given.1.1.1.1.1.1.1.1.1.1.0.1 } in
+    let f : SFits w32 c.args.after.kmax = search rules in
     cast_fits _ (not_below c.args.after.kmax (rw (to_z-of_z f) at c.if-after-lt0.false)) f
 
 pub gradient_into-requires : goal.gradient_into-requires
 gradient_into-requires c =
-    let f : SFits w32 c.args.after.kmax = record { sfits = c.struct_told-2-1.given.1.1.1.1.1.1.1.1.1.1.0.1 } in
+    let f : SFits w32 c.args.after.kmax = search rules in
     (c.requires.0, c.requires.1, rw (to_z-of_z f) (c.requires.2 (rw (to_z-of_z f) at c.if-after-lt0.false)), c.requires.3)
 
 pub returns : goal.returns

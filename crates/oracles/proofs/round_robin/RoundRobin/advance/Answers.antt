@@ -5,6 +5,7 @@ use lib.Signed.{lt_z}
 use mir.Syntax.{w32}
 use mir.Val.{SFits}
 use mir.Facts.{to_z-of_z}
+use borrow.Author.Rules.{rules}
 use Rattle.oracles.specs.RoundRobin.{is_band, is_at, advanced, advance_answer}
 use Rattle.oracles.specs.laws.RoundRobin.{legal_of}
 use Rattle.oracles.specs.declared.round_robin.RoundRobin.{RoundRobin}
@@ -47,20 +48,16 @@ module _ (self : RoundRobin) (fl : SFits w32 self.lo) (fh : SFits w32 self.hi) {
 
 pub returns-then-not-is_band-lo : goal.returns-then-not-is_band-lo
 returns-then-not-is_band-lo c =
-    let g = c.struct_told-2-1.given in
-    no_band _ (record { sfits = g.1.0.1 }) (record { sfits = g.1.1.0.1 }) c.is_band.ensures (ap not c.if-not-is_band-lo.true)
+    no_band _ (search rules) (search rules) c.is_band.ensures (ap not c.if-not-is_band-lo.true)
 
 pub returns-then-not-is_at : goal.returns-then-not-is_at
 returns-then-not-is_at c =
-    let g = c.struct_told-2-1.given in
-    no_cursor _ (record { sfits = g.1.0.1 }) (record { sfits = g.1.1.0.1 }) c.is_band.ensures (ap not c.if-not-is_band-lo.false) c.is_at.ensures (ap not c.if-not-is_at.true)
+    no_cursor _ (search rules) (search rules) c.is_band.ensures (ap not c.if-not-is_band-lo.false) c.is_at.ensures (ap not c.if-not-is_at.true)
 
 pub step-requires : goal.step-requires
 step-requires c =
-    let g = c.struct_told-2-1.given in
-    legal_of _ (band c.args.self (record { sfits = g.1.0.1 }) (record { sfits = g.1.1.0.1 }) c.is_band.ensures (ap not c.if-not-is_band-lo.false)) (says_yes _ _ c.is_at.ensures (ap not c.if-not-is_at.false))
+    legal_of _ (band c.args.self (search rules) (search rules) c.is_band.ensures (ap not c.if-not-is_band-lo.false)) (says_yes _ _ c.is_at.ensures (ap not c.if-not-is_at.false))
 
 pub returns : goal.returns
 returns c =
-    let g = c.struct_told-2-1.given in
-    goes _ (record { sfits = g.1.0.1 }) (record { sfits = g.1.1.0.1 }) c.is_band.ensures (ap not c.if-not-is_band-lo.false) c.is_at.ensures (ap not c.if-not-is_at.false) _ c.step.ensures
+    goes _ (search rules) (search rules) c.is_band.ensures (ap not c.if-not-is_band-lo.false) c.is_at.ensures (ap not c.if-not-is_at.false) _ c.step.ensures

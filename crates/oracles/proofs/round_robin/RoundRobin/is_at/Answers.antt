@@ -4,6 +4,7 @@ use mathlib.Core.Bool.{true, false, ◌&&◌}
 use lib.IntN.{pos, ◌+ℤ◌}
 use lib.Signed.{lt_z, le_z}
 use mir.Syntax.{w32}
+use borrow.Author.Rules.{rules}
 use Rattle.oracles.specs.declared.round_robin.RoundRobin.{RoundRobin}
 use mir.Val.{SFits}
 use mir.Facts.{to_z-of_z}
@@ -27,15 +28,12 @@ module _ (self : RoundRobin) (fc : SFits w32 self.cur) (fl : SFits w32 self.lo) 
 
 pub overflow_add-result : goal.overflow_add-result
 overflow_add-result c =
-    let g = c.struct_told-then-self-1.given in
-    next_fits c.args.self (record { sfits = g.0.1 }) (record { sfits = g.1.0.1 }) (record { sfits = g.1.1.0.1 }) c.if-self.true
+    next_fits c.args.self (search rules) (search rules) (search rules) c.if-self.true
 
 pub returns-then-self : goal.returns-then-self
 returns-then-self c =
-    let g = c.struct_told-then-self-2-1.given in
-    below c.args.self (record { sfits = g.0.1 }) (record { sfits = g.1.0.1 }) (record { sfits = g.1.1.0.1 }) c.if-self.true
+    below c.args.self (search rules) (search rules) (search rules) c.if-self.true
 
 pub returns-else-self : goal.returns-else-self
 returns-else-self c =
-    let g = c.struct_told-1.given in
-    beyond c.args.self (record { sfits = g.0.1 }) (record { sfits = g.1.0.1 }) (record { sfits = g.1.1.0.1 }) c.if-self.false
+    beyond c.args.self (search rules) (search rules) (search rules) c.if-self.false
