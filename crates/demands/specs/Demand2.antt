@@ -10,7 +10,7 @@ use Rattle.numbers.specs.Pick.{pick}
 use Rattle.numbers.specs.Bits.{float_of, bits_of}
 use Rattle.numbers.specs.Sqrt.{sqrt_of, NearestRoot}
 use Rattle.numbers.specs.laws.Nearest.{sqrt_nearest}
-use Rattle.oracles.specs.laws.Known as Known_values
+use Rattle.oracles.specs.laws.Known as KnownValues
 use Rattle.drivers.specs.Record.{fronted}
 use Rattle.drivers.specs.Answer.{read_answer_answer, write_answer_answer}
 use Rattle.drivers.specs.Program.{program_text}
@@ -70,8 +70,8 @@ pub answer_again : (n : ℕ) (a : Answer) (x point : List Float) → a.steps < 6
 answer_again n a x point small f64 room = again.written_again n a x point small f64 room
 
 -- ---- document 01's known values marked P, of both lower layers, and its worked job
-pub known : map (λ r. r.got) Known_values.rows ≡ map (λ r. r.expected) Known_values.rows
-known = Known_values.known
+pub known : map (λ r. r.got) KnownValues.rows ≡ map (λ r. r.expected) KnownValues.rows
+known = KnownValues.known
 
 pub worked : program_text worked_example.worked_job ≡ worked_example.worked_text
 worked = worked_example.worked
