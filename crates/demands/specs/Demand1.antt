@@ -2,11 +2,11 @@
 -- with no comparable stop row, a bad or overlong record, a short buffer. A refusal writes nothing; a driver halted midway keeps its finished steps. Accepted: everything else,
 -- NaN and infinity too, and each accepted call finishes." (It finishes since what it answers is a definition's value, and the code's loops are proved to end.) The exported functions of the
 -- static library are these calls again (ponduvizh/specs). Assumes nothing.
-use Rattle.std.specs.Prelude.{ℕ, ◌≡◌, Bool, true, false, not, ◌&&◌, List, eqb, ℤ, Float}
+use Rattle.std.specs.Prelude.{ℕ, ◌≡◌, Bool, true, false, not, ◌&&◌, List, eqb, ℤ, Float, is_err, Err}
 use Rattle.std.proofs.Math.Path.{refl, ap}
 use Rattle.std.proofs.Common.{sym, ◌∙◌, true≢false, arith, eqb-true}
 use Rattle.numbers.specs.Pick.{pick}
-use Rattle.numbers.specs.Refusal.{refusal_number, is_fault, ◌⨾◌, unless, fault_number, ask}
+use Rattle.numbers.specs.Refusal.{refusal_number, ◌⨾◌, unless, fault_number, ask, At, Sound, Tests, number_of}
 use Rattle.numbers.specs.laws.Pick.{is_hit, is_skip, by_test}
 use Rattle.numbers.specs.laws.Refusal.{number_is, by_tests}
 use Rattle.numbers.specs.Arr as arr
@@ -35,11 +35,8 @@ use Rattle.oracles.specs.declared.ell_common.CutStrategy.{CutStrategy}
 use Rattle.oracles.specs.declared.ell.Ell.{Ell}
 use Rattle.oracles.specs.declared.ell_stable.EllStable.{EllStable}
 use Rattle.numbers.specs.declared.cut.CutChoice.{CutChoice}
-use Rattle.numbers.specs.Numbered.{value_number, written_number, new_calc_number}
 use Rattle.numbers.specs.declared.refusal.Refusal.{Refusal}
 use Rattle.numbers.specs.declared.refusal.Refusal.TheVariants.{Dimension, Length, Band, Cursor, Position, NoStopValue, CutShort, ForeignTag, RepeatedTag, MissingTag, Room, Outcome}
-use Rattle.numbers.specs.declared.refusal.Fault.{Fault}
-use Rattle.numbers.specs.declared.refusal.Fault.TheVariants.{Sound, At}
 use Rattle.oracles.specs.declared.lowpass_oracle.OptimVerdict.{OptimVerdict}
 use Rattle.oracles.specs.declared.lowpass_oracle.OptimVerdict.TheVariants.{Improved, Cut as CutOptim, Refused as NotOptim}
 use Rattle.oracles.specs.laws.Untouched.{is_improved, untouched}
@@ -50,16 +47,16 @@ use Rattle.oracles.specs.declared.lowpass_oracle.AssessedOptim.{AssessedOptim}
 
 -- A call whose tests are `tests`: its answer's number is that of the first refusal among them, 0 where there is none, so that everything else is accepted;
 -- and with a refusal all that the call was lent, and its state, are as they came. `left` is that part of the answer.
-pub record Refuses {X L : Type 0} (tests : Fault) (number : X → ℕ) (left : X → L) (before : L) (answer : X) : Type 0 where
+pub record Refuses {X L : Type 0} (tests : Tests) (number : X → ℕ) (left : X → L) (before : L) (answer : X) : Type 0 where
   pub by_number : number answer ≡ fault_number tests
-  pub writes_nothing : is_fault tests ≡ true → left answer ≡ before
+  pub writes_nothing : is_err tests ≡ true → left answer ≡ before
 
-pub refuses : {X L : Type 0} (tests : Fault) (number : X → ℕ) (left : X → L) (before : L) (refused : Refusal → ℕ → X) (done : X)
+pub refuses : {X L : Type 0} (tests : Tests) (number : X → ℕ) (left : X → L) (before : L) (refused : Refusal → ℕ → X) (done : X)
     → ((why : Refusal) (place : ℕ) → number (refused why place) ≡ refusal_number why) → ((why : Refusal) (place : ℕ) → left (refused why place) ≡ before)
     → (tests ≡ Sound → number done ≡ 0) → Refuses tests number left before (unless tests refused done)
 refuses tests number left before refused done h k d = record {
   by_number = number_is number tests refused done h d;
-  writes_nothing = by_tests (λ x. is_fault tests ≡ true → left x ≡ before) tests refused done (λ why place e f. k why place) (λ e f. absurd (true≢false (sym (sym (ap is_fault e) ∙ f))));
+  writes_nothing = by_tests (λ x. is_err tests ≡ true → left x ≡ before) tests refused done (λ why place e f. k why place) (λ e f. absurd (true≢false (sym (sym (ap is_err e) ∙ f))));
 }
 
 -- of a call that writes nothing and keeps no state
@@ -68,22 +65,22 @@ nothing x = tt
 
 -- ---- numbers and calculators
 
-pub dot : (n : ℕ) (a b : List Float) → Refuses (arr.dot_tests n a b) value_number nothing tt (arr.dot_answer n a b)
+pub dot : (n : ℕ) (a b : List Float) → Refuses (arr.dot_tests n a b) number_of nothing tt (arr.dot_answer n a b)
 dot n a b = refuses _ _ _ _ _ _ (λ why place. refl) (λ why place. refl) (λ e. refl)
 
-pub dot_mv_into : (n : ℕ) (mat x out : List Float) → Refuses (arr.dot_mv_into_tests n mat x out) (λ r. written_number r.0) (λ r. r.1) out (arr.dot_mv_into_answer n mat x out)
+pub dot_mv_into : (n : ℕ) (mat x out : List Float) → Refuses (arr.dot_mv_into_tests n mat x out) (λ r. number_of r.0) (λ r. r.1) out (arr.dot_mv_into_answer n mat x out)
 dot_mv_into n mat x out = refuses _ _ _ _ _ _ (λ why place. refl) (λ why place. refl) (λ e. refl)
 
-pub copy_from : (n : ℕ) (dst src : List Float) → Refuses (arr.copy_from_tests n dst src) (λ r. written_number r.0) (λ r. r.1) dst (arr.copy_from_answer n dst src)
+pub copy_from : (n : ℕ) (dst src : List Float) → Refuses (arr.copy_from_tests n dst src) (λ r. number_of r.0) (λ r. r.1) dst (arr.copy_from_answer n dst src)
 copy_from n dst src = refuses _ _ _ _ _ _ (λ why place. refl) (λ why place. refl) (λ e. refl)
 
-pub eye : (n : ℕ) (out : List Float) → Refuses (arr.eye_tests n out) (λ r. written_number r.0) (λ r. r.1) out (arr.eye_answer n out)
+pub eye : (n : ℕ) (out : List Float) → Refuses (arr.eye_tests n out) (λ r. number_of r.0) (λ r. r.1) out (arr.eye_answer n out)
 eye n out = refuses _ _ _ _ _ _ (λ why place. refl) (λ why place. refl) (λ e. refl)
 
-pub from_diag : (n : ℕ) (v out : List Float) → Refuses (arr.from_diag_tests n v out) (λ r. written_number r.0) (λ r. r.1) out (arr.from_diag_answer n v out)
+pub from_diag : (n : ℕ) (v out : List Float) → Refuses (arr.from_diag_tests n v out) (λ r. number_of r.0) (λ r. r.1) out (arr.from_diag_answer n v out)
 from_diag n v out = refuses _ _ _ _ _ _ (λ why place. refl) (λ why place. refl) (λ e. refl)
 
-pub new_calc : (n : ℕ) → Refuses (calc.new_tests n) new_calc_number nothing tt (calc.new_answer n)
+pub new_calc : (n : ℕ) → Refuses (calc.new_tests n) number_of nothing tt (calc.new_answer n)
 unfolding calc.new_answer
 new_calc n = refuses _ _ _ _ _ _ (λ why place. refl) (λ why place. refl) (λ e. refl)
 
@@ -108,7 +105,7 @@ answered (Cut group beta) h = refl
 answered (NotAssessed why) h = absurd (h refl)
 
 accepted : (o : LowpassOracle) (n rows : ℕ) (table x grad : List Float) → lowpass.assess_tests o n rows table x grad ≡ Sound → is_accepted o n rows table x grad ≡ true
-accepted o n rows table x grad e = ap (λ (f : Fault). not (is_fault f)) e
+accepted o n rows table x grad e = ap (λ (f : Tests). not (is_err f)) e
 
 assessed : (o : LowpassOracle) (n rows : ℕ) (table x grad : List Float) → lowpass.assess_tests o n rows table x grad ≡ Sound → verdict_number (lowpass.assess_of o n table x grad).0.verdict ≡ 0
 assessed o n rows table x grad e =
@@ -128,10 +125,10 @@ factored A m storage = by_test (λ v. factored_number v ≡ 0) _ _ _ (λ e. refl
 pub factor : (m : ℕ) (mat storage : List Float) → Refuses (ldlt.factor_tests m mat storage) (λ r. factored_number r.0) (λ r. r.1) storage (ldlt.factor_answer m mat storage)
 factor m mat storage = refuses _ _ _ _ _ _ (λ why place. refl) (λ why place. refl) (λ e. factored _ m storage)
 
-pub witness : (m : ℕ) (p : Pos) (storage wit : List Float) → Refuses (ldlt.witness_tests m p storage wit) (λ r. value_number r.0) (λ r. r.1) wit (ldlt.witness_answer m p storage wit)
+pub witness : (m : ℕ) (p : Pos) (storage wit : List Float) → Refuses (ldlt.witness_tests m p storage wit) (λ r. number_of r.0) (λ r. r.1) wit (ldlt.witness_answer m p storage wit)
 witness m p storage wit = refuses _ _ _ _ _ _ (λ why place. refl) (λ why place. refl) (λ e. refl)
 
-pub sym_quad : (m : ℕ) (p : Pos) (wit mat : List Float) → Refuses (ldlt.sym_quad_tests m p wit mat) value_number nothing tt (ldlt.sym_quad_answer m p wit mat)
+pub sym_quad : (m : ℕ) (p : Pos) (wit mat : List Float) → Refuses (ldlt.sym_quad_tests m p wit mat) number_of nothing tt (ldlt.sym_quad_answer m p wit mat)
 sym_quad m p wit mat = refuses _ _ _ _ _ _ (λ why place. refl) (λ why place. refl) (λ e. refl)
 
 lmi_assessed : (m n : ℕ) (mat_b mat_f xc : List Float) (b : lmi.LmiBuffers) → lmi_number (lmi.lmi_assess_of m n mat_b mat_f xc b).0 ≡ 0
@@ -168,7 +165,7 @@ ell_stable_update e s grad beta b = refuses _ _ _ _ _ _ (λ why place. refl) (λ
 abbrev pub improves : LowpassOracle → Float → ℕ → ℕ → List Float → List Float → Bool
 improves o gamma n rows table x = let q = asked o gamma n rows table x in not (is_feasible (judge q) && no_stop_value q)
 
-abbrev pub assess_optim_tests : LowpassOracle → Float → ℕ → ℕ → List Float → List Float → List Float → Fault
+abbrev pub assess_optim_tests : LowpassOracle → Float → ℕ → ℕ → List Float → List Float → List Float → Tests
 assess_optim_tests o gamma n rows table x grad = lowpass.assess_tests o n rows table x grad ⨾ ask (improves o gamma n rows table x) NoStopValue
 
 -- an answer that counts as one about the point is a refusal only by 6
@@ -197,21 +194,24 @@ numbered_refusal (Improved beta) h = absurd (h refl)
 numbered_refusal (CutOptim group beta) h = absurd (h refl)
 numbered_refusal (NotOptim why) h = refl
 
+some_number : (why : Refusal) → refusal_number why ≡ 0 → ⊥
+some_number Dimension e = omega arith
+some_number Length e = omega arith
+some_number Band e = omega arith
+some_number Cursor e = omega arith
+some_number Position e = omega arith
+some_number NoStopValue e = omega arith
+some_number CutShort e = omega arith
+some_number ForeignTag e = omega arith
+some_number RepeatedTag e = omega arith
+some_number MissingTag e = omega arith
+some_number Room e = omega arith
+some_number Outcome e = omega arith
+
 -- every refusal has a number
-pub numbered : (f : Fault) → is_fault f ≡ true → fault_number f ≡ 0 → ⊥
+pub numbered : (f : Tests) → is_err f ≡ true → fault_number f ≡ 0 → ⊥
 numbered Sound h e = true≢false (sym h)
-numbered (At Dimension place) h e = omega arith
-numbered (At Length place) h e = omega arith
-numbered (At Band place) h e = omega arith
-numbered (At Cursor place) h e = omega arith
-numbered (At Position place) h e = omega arith
-numbered (At NoStopValue place) h e = omega arith
-numbered (At CutShort place) h e = omega arith
-numbered (At ForeignTag place) h e = omega arith
-numbered (At RepeatedTag place) h e = omega arith
-numbered (At MissingTag place) h e = omega arith
-numbered (At Room place) h e = omega arith
-numbered (At Outcome place) h e = omega arith
+numbered (Err fault) h e = some_number fault.why e
 
 module _ (o : LowpassOracle) (gamma : Float) (n rows : ℕ) (table x grad : List Float) where
   abbrev answer : AssessedOptim × List Float
@@ -229,10 +229,10 @@ module _ (o : LowpassOracle) (gamma : Float) (n rows : ℕ) (table x grad : List
           ∙ ap (λ (t : Bool). pick t 6 0) r.six_is
           ∙ by_six (is_feasible (judge (asked o gamma n rows table x)) && no_stop_value (asked o gamma n rows table x))
 
-      go : (f : Fault) → lowpass.assess_tests o n rows table x grad ≡ f → optim_verdict_number answer.0.verdict ≡ fault_number (f ⨾ ask (improves o gamma n rows table x) NoStopValue)
+      go : (f : Tests) → lowpass.assess_tests o n rows table x grad ≡ f → optim_verdict_number answer.0.verdict ≡ fault_number (f ⨾ ask (improves o gamma n rows table x) NoStopValue)
       go Sound e = worked e ∙ ap fault_number (sym (is_skip _ _ _ refl))
-      go (At why place) e =
-          ap (λ (f : Fault). let a = unless f (λ w p. (lowpass.refused_of (lowpass.offered o gamma) w, grad)) (lowpass.assess_of (lowpass.offered o gamma) n table x grad) in
+      go (Err fault) e =
+          ap (λ (f : Tests). let a = unless f (λ w p. (lowpass.refused_of (lowpass.offered o gamma) w, grad)) (lowpass.assess_of (lowpass.offered o gamma) n table x grad) in
           optim_verdict_number (lowpass.optim_of o gamma n table a.0.oracle a.0.verdict a.1).0.verdict) e
           ∙ ap fault_number (sym (is_hit _ _ _ refl))
 

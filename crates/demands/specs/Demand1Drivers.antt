@@ -2,13 +2,11 @@
 use Rattle.std.specs.Prelude.{ℕ, ◌≤◌, ◌≡◌, refl, List, ◌⊎◌, length, Float}
 use Rattle.std.proofs.Common.{sym, inl, inr, arith, leb-true}
 use Rattle.std.proofs.Math.Path.{ap}
-use Rattle.numbers.specs.Refusal.{◌⨾◌, unless}
+use Rattle.numbers.specs.Refusal.{◌⨾◌, unless, At, Sound, Tests}
 use Rattle.numbers.specs.laws.Pick.{by_test}
 use Rattle.numbers.specs.laws.Refusal.{both_sound, ask_sound, refuses as refused_at}
 use Rattle.oracles.specs.Ell as ell
 use Rattle.numbers.specs.declared.refusal.Refusal.{Refusal}
-use Rattle.numbers.specs.declared.refusal.Fault.{Fault}
-use Rattle.numbers.specs.declared.refusal.Fault.TheVariants.{Sound, At}
 use Rattle.drivers.specs.CuttingPlane as run
 use Rattle.drivers.specs.CuttingPlaneFeas as feas
 use Rattle.drivers.specs.CuttingPlaneOptim as optim
@@ -51,7 +49,7 @@ cutting_plane_feas options rows table s best =
 module _ (options : Options) (rows : ℕ) (table : List Float) (s : optim.OptimState) where
   pub optim_refused_by : (why : Refusal) (place : ℕ) → run.run_tests rows table (optim.plain s) s.best ≡ At why place → optim.optim_answer options rows table s ≡ optim.end_of (NotRunOptim why) s
   unfolding optim.optim_answer
-  optim_refused_by why place e = ap (λ (f : Fault). unless f (λ w p. optim.end_of (NotRunOptim w) s) (optim.optim_run rows table options.tolerance options.max_iters 0 s)) e
+  optim_refused_by why place e = ap (λ (f : Tests). unless f (λ w p. optim.end_of (NotRunOptim w) s) (optim.optim_run rows table options.tolerance options.max_iters 0 s)) e
 
   -- .. and what is accepted ends, or is halted by 6: "a driver halted midway keeps its finished steps", which are `until` steps from s to `final`
   pub optim_finishes : run.run_tests rows table (optim.plain s) s.best ≡ Sound → OptimRunEnded rows table s 0 options.max_iters 0 (optim.optim_answer options rows table s)

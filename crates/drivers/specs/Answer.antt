@@ -4,10 +4,9 @@ use Rattle.numbers.specs.Pick.{pick}
 use Rattle.numbers.specs.Bits.{le_bytes}
 use Rattle.numbers.specs.Arr.{is_dimension, sized}
 use Rattle.numbers.specs.declared.refusal.Refusal.TheVariants.{Dimension, Room, Outcome}
-use Rattle.numbers.specs.Refusal.{◌⨾◌, unless, ask, ask_at}
+use Rattle.numbers.specs.Refusal.{◌⨾◌, unless, ask, ask_at, Tests}
 use Rattle.drivers.specs.Fields.{Field, record_bytes, number_bytes}
 use Rattle.drivers.specs.Record.{byte_at, start_of, half_at, numbers_at, fields_of, no_places, place, is_met, record_fault, lengths_fault, fronted}
-use Rattle.numbers.specs.declared.refusal.Fault.{Fault}
 use Rattle.numbers.specs.Over.{over}
 use Rattle.drivers.specs.declared.answer.Answer.{Answer}
 use Rattle.drivers.specs.declared.answer.AnswerRead.{AnswerRead}
@@ -36,26 +35,26 @@ point_at n bytes places = pick (has_point places) (numbers_at bytes (place place
 -- ---- the tests
 
 -- the walk over tags 20 to 22, and 10, with the places that it notes
-abbrev pub answer_walk : List ℕ → Fault × List ℕ
+abbrev pub answer_walk : List ℕ → Tests × List ℕ
 answer_walk bytes = record_fault bytes answer_form no_places
 
 -- 12, at tag 20: the outcome is that of a point where tag 22 is there
-unfoldable pub outcome_fault : List ℕ → List ℕ → Fault
+unfoldable pub outcome_fault : List ℕ → List ℕ → Tests
 outcome_fault bytes places = ask_at (start_of (place places outcome_place)) (eqb (byte_at bytes (place places outcome_place)) (outcome_byte (has_point places))) Outcome
 
 -- the first fault of a record, in document 01's order: the caller's n, the walk and 10, the lengths, 12
-unfoldable pub answer_fault : ℕ → List ℕ → Fault
+unfoldable pub answer_fault : ℕ → List ℕ → Tests
 answer_fault n bytes =
     ask (is_dimension n) Dimension ⨾ (answer_walk bytes).0 ⨾ lengths_fault n bytes (fields_of bytes) ⨾ outcome_fault bytes (answer_walk bytes).1
 
 -- 11, behind them: what the output for a point must hold
-abbrev pub point_room : List Float → ℕ → Fault
+abbrev pub point_room : List Float → ℕ → Tests
 point_room point room = ask (leb (length point) room) Room
 
 -- ---- the reader
 
 -- what it refuses: the record's fault, then 11
-abbrev pub read_answer_tests : ℕ → List ℕ → ℕ → Fault
+abbrev pub read_answer_tests : ℕ → List ℕ → ℕ → Tests
 read_answer_tests n bytes room = answer_fault n bytes ⨾ point_room (point_at n bytes (answer_walk bytes).1) room
 
 -- `read_answer`: the point, if there is one, to the front of `out`
@@ -83,7 +82,7 @@ abbrev pub answer_bytes : Answer → List Float → List ℕ
 answer_bytes a point = record_bytes (answer_fields a point)
 
 -- `write_answer`: refusal 1, then 2 for a point that has not n numbers, then 11
-abbrev pub write_answer_tests : ℕ → Answer → List Float → List ℕ → Fault
+abbrev pub write_answer_tests : ℕ → Answer → List Float → List ℕ → Tests
 write_answer_tests n a point out = sized n (eqb (length point) n) ⨾ ask (leb (length (answer_bytes a point)) (length out)) Room
 
 unfoldable pub write_answer_answer : ℕ → Answer → List Float → List ℕ → AnswerWritten × List ℕ

@@ -1,8 +1,7 @@
 -- Whether an answer belongs to a job (document 01, "Job and answer records"). Definitions only.
 use Rattle.std.specs.Prelude.{Bool, not, ◌&&◌, List, eqb, length, Float}
 use Rattle.numbers.specs.Pick.{pick}
-use Rattle.numbers.specs.Refusal.{unless}
-use Rattle.numbers.specs.declared.refusal.Fault.{Fault}
+use Rattle.numbers.specs.Refusal.{unless, Tests}
 use Rattle.oracles.specs.Table.{table_fits}
 use Rattle.oracles.specs.LowpassOracle.{oracle_tests, assess_feas_answer}
 use Rattle.oracles.specs.Verdict.{asked, judge, is_feasible}
@@ -28,7 +27,7 @@ abbrev pub is_of : Job → List Float → List Float → Answer → List Float �
 is_of j table x a point = pick a.found (feasible_for j table point) (not (feasible_for j table x))
 
 -- `belongs`: refusals 1 to 4; grad is left as the assessment of the point that is asked about leaves it
-abbrev pub belongs_tests : Job → List Float → List Float → List Float → List Float → Fault
+abbrev pub belongs_tests : Job → List Float → List Float → List Float → List Float → Tests
 belongs_tests j table x point grad =
     oracle_tests (job_oracle j) j.n j.rows (table_fits j.n j.rows table x && eqb (length point) j.n && eqb (length grad) j.n)
 

@@ -3,9 +3,8 @@ use Rattle.std.specs.Prelude.{ℕ, ◌*◌, Bool, not, ◌&&◌, List, leb, eqb,
 use Rattle.std.specs.Float.Ieee.{lt, of_bits}
 use Rattle.std.specs.Float.{binary64}
 use Rattle.numbers.specs.Pick.{pick}
-use Rattle.numbers.specs.Refusal.{◌⨾◌, ask}
+use Rattle.numbers.specs.Refusal.{◌⨾◌, ask, Tests}
 use Rattle.numbers.specs.declared.refusal.Refusal.TheVariants.{Room}
-use Rattle.numbers.specs.declared.refusal.Fault.{Fault}
 use Rattle.numbers.specs.declared.cut.CutStatus.{CutStatus}
 use Rattle.oracles.specs.LowpassOracle.{oracle_tests}
 use Rattle.oracles.specs.EllCommon.{is_success}
@@ -35,20 +34,20 @@ abbrev pub run_fits : ℕ → ℕ → ℕ → ℕ → ℕ → ℕ → ℕ → Bo
 run_fits n rows table mq xc grad grad_t = eqb table (rows * n) && eqb xc n && eqb mq (n * n) && eqb grad n && eqb grad_t n
 
 -- refusals 1 to 4, from the slices' lengths
-unfoldable pub check_of : LowpassOracle → ℕ → ℕ → ℕ → ℕ → ℕ → ℕ → ℕ → Fault
+unfoldable pub check_of : LowpassOracle → ℕ → ℕ → ℕ → ℕ → ℕ → ℕ → ℕ → Tests
 check_of o n rows table mq xc grad grad_t = oracle_tests o n rows (run_fits n rows table mq xc grad grad_t)
 
 -- of a state over a table of so many rows
-abbrev pub check_state : ℕ → List Float → State → Fault
+abbrev pub check_state : ℕ → List Float → State → Tests
 check_state rows table s =
     check_of s.oracle s.ell.ndim rows (length table) (length s.buffers.mq) (length s.buffers.xc) (length s.grad) (length s.buffers.grad_t)
 
 -- then 11, where an output has not the room that is needed
-abbrev pub room_test : ℕ → ℕ → Fault
+abbrev pub room_test : ℕ → ℕ → Tests
 room_test needed room = ask (leb needed room) Room
 
 -- both drivers: x_best must hold a point
-abbrev pub run_tests : ℕ → List Float → State → List Float → Fault
+abbrev pub run_tests : ℕ → List Float → State → List Float → Tests
 run_tests rows table s best = check_state rows table s ⨾ room_test s.ell.ndim (length best)
 
 -- the point at the front of x_best, where it is to be kept and there is room; the rest stays

@@ -1,8 +1,7 @@
 -- A program's input, a record of at most 65,536 bytes (document 01, "The program `filterrun`"): what is read of it, or the line that refuses it. Definitions only.
 use Rattle.std.specs.Prelude.{ℕ, List, leb, length, Float}
-use Rattle.numbers.specs.Refusal.{◌⨾◌, unless, ask_at}
+use Rattle.numbers.specs.Refusal.{◌⨾◌, unless, ask_at, Tests}
 use Rattle.numbers.specs.declared.refusal.Refusal.TheVariants.{Room}
-use Rattle.numbers.specs.declared.refusal.Fault.{Fault}
 use Rattle.drivers.specs.Record.{fronted}
 use Rattle.drivers.specs.Job.{full_job, read_job_tests}
 use Rattle.drivers.specs.Answer.{answer_at, point_at, answer_walk, read_answer_tests}
@@ -19,7 +18,7 @@ use Rattle.drivers.specs.declared.input.TakenAnswer.TheVariants.{Taken as Answer
 abbrev pub longest : ℕ
 longest = 65536
 
-abbrev pub input_tests : List ℕ → Fault
+abbrev pub input_tests : List ℕ → Tests
 input_tests bytes = ask_at longest (leb (length bytes) longest) Room
 
 -- what an answer leaves in `out`, with the three slices
@@ -28,7 +27,7 @@ with_slices table xc mq r = (r.0, table, xc, mq, r.1)
 
 -- ---- a job
 
-abbrev pub take_job_tests : List ℕ → List Float → List Float → List Float → Fault
+abbrev pub take_job_tests : List ℕ → List Float → List Float → List Float → Tests
 take_job_tests bytes table xc mq = input_tests bytes ⨾ read_job_tests bytes table xc mq
 
 abbrev pub job_refused : Text × List ℕ → TakenJob × List ℕ
@@ -43,7 +42,7 @@ take_job_answer source bytes table xc mq out =
 
 -- ---- an answer to a job of dimension n
 
-abbrev pub take_answer_tests : ℕ → List ℕ → List Float → Fault
+abbrev pub take_answer_tests : ℕ → List ℕ → List Float → Tests
 take_answer_tests n bytes point = input_tests bytes ⨾ read_answer_tests n bytes (length point)
 
 abbrev pub answer_refused : List Float → Text × List ℕ → TakenAnswer × List Float × List ℕ

@@ -3,13 +3,12 @@ use Rattle.std.specs.Prelude.{ℕ, ◌*◌, ◌/◌, ◌%◌, ◌^◌, Bool, ◌
 use Rattle.numbers.specs.Pick.{pick}
 use Rattle.numbers.specs.Bits.{float_of, word_at}
 use Rattle.numbers.specs.declared.refusal.Refusal.TheVariants.{Band, Cursor, Room}
-use Rattle.numbers.specs.Refusal.{◌⨾◌, unless, ask_at, ask}
+use Rattle.numbers.specs.Refusal.{◌⨾◌, unless, ask_at, ask, Tests}
 use Rattle.oracles.specs.Scan.{none}
 use Rattle.oracles.specs.Table.{is_rows}
 use Rattle.oracles.specs.LowpassOracle.{start_oracle, bands_fit, cursors_fit}
 use Rattle.oracles.specs.declared.lowpass_oracle.LowpassOracle.{LowpassOracle}
 use Rattle.drivers.specs.Record.{start_of, half_at, number_at, numbers_at, fields_of, no_places, place, record_fault, size_fault, lengths_fault, row_count, rows_of, fronted}
-use Rattle.numbers.specs.declared.refusal.Fault.{Fault}
 use Rattle.drivers.specs.declared.cutting_plane.Options.{Options}
 use Rattle.drivers.specs.declared.job.Job.{Job}
 use Rattle.drivers.specs.declared.job.JobAnswer.{JobAnswer}
@@ -80,7 +79,7 @@ full_job_at bytes places =
     }
 
 -- the walk over tags 01 to 09, and 10, with the places that it notes
-abbrev pub job_walk : List ℕ → Fault × List ℕ
+abbrev pub job_walk : List ℕ → Tests × List ℕ
 job_walk bytes = record_fault bytes job_form no_places
 
 -- what the bytes of a record say
@@ -90,7 +89,7 @@ full_job bytes = full_job_at bytes (job_walk bytes).1
 -- ---- the tests
 
 -- the first fault of a record, in document 01's order: the walk and 10, tag 01, the other lengths, 3 at tag 02, 4 at tag 06
-unfoldable pub job_fault : List ℕ → Fault
+unfoldable pub job_fault : List ℕ → Tests
 job_fault bytes =
     let places = (job_walk bytes).1 in
     let j = job_at bytes places in
@@ -104,23 +103,23 @@ job_fault bytes =
 abbrev pub has_room : Job → ℕ → ℕ → ℕ → Bool
 has_room j table xc mq = leb (j.rows * j.n) table && leb j.n xc && leb (j.n * j.n) mq
 
-abbrev pub room_fault : Job → ℕ → ℕ → ℕ → Fault
+abbrev pub room_fault : Job → ℕ → ℕ → ℕ → Tests
 room_fault j table xc mq = ask (has_room j table xc mq) Room
 
 -- ---- the reader
 
 -- what it refuses: the record's fault, then 11
-abbrev pub read_tests : FullJob → Fault → List Float → List Float → List Float → Fault
+abbrev pub read_tests : FullJob → Tests → List Float → List Float → List Float → Tests
 read_tests f fault table xc mq = fault ⨾ room_fault f.job (length table) (length xc) (length mq)
 
 -- a job put to the fronts of three slices, if nothing is at fault and they have room; else they stay
-abbrev pub read_into : FullJob → Fault → List Float → List Float → List Float → JobAnswer × List Float × List Float × List Float
+abbrev pub read_into : FullJob → Tests → List Float → List Float → List Float → JobAnswer × List Float × List Float × List Float
 read_into f fault table xc mq =
     unless (read_tests f fault table xc mq) (λ why place. (Refused why place, table, xc, mq))
     (Read f.job, fronted f.table table, fronted f.point xc, fronted f.matrix mq)
 
 -- `read_job`
-abbrev pub read_job_tests : List ℕ → List Float → List Float → List Float → Fault
+abbrev pub read_job_tests : List ℕ → List Float → List Float → List Float → Tests
 read_job_tests bytes table xc mq = read_tests (full_job bytes) (job_fault bytes) table xc mq
 
 unfoldable pub read_job_answer : List ℕ → List Float → List Float → List Float → JobAnswer × List Float × List Float × List Float

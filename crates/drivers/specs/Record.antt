@@ -1,13 +1,11 @@
 -- Records (document 01, "Job and answer records" and "When a call says no"): the fields, and the order of the tests. Definitions only.
-use Rattle.std.specs.Prelude.{ℕ, zero, suc, ◌+◌, ◌-◌, ◌*◌, ◌/◌, ◌%◌, Bool, not, ◌&&◌, List, [], ◌∷◌, ◌++◌, leb, ltb, eqb, length, drop, get_or, set, replicate, Float}
+use Rattle.std.specs.Prelude.{ℕ, zero, suc, ◌+◌, ◌-◌, ◌*◌, ◌/◌, ◌%◌, Bool, not, ◌&&◌, List, [], ◌∷◌, ◌++◌, leb, ltb, eqb, length, drop, get_or, set, replicate, Float, is_err}
 use Rattle.numbers.specs.Pick.{pick, some}
 use Rattle.numbers.specs.Bits.{float_of, word_at}
 use Rattle.numbers.specs.Arr.{tab}
 use Rattle.numbers.specs.Over.{over}
-use Rattle.numbers.specs.Refusal.{is_fault, ◌⨾◌, ask_at}
+use Rattle.numbers.specs.Refusal.{◌⨾◌, ask_at, Sound, Tests}
 use Rattle.numbers.specs.declared.refusal.Refusal.TheVariants.{Dimension, Length, CutShort, ForeignTag, RepeatedTag, MissingTag}
-use Rattle.numbers.specs.declared.refusal.Fault.{Fault}
-use Rattle.numbers.specs.declared.refusal.Fault.TheVariants.{Sound}
 use Rattle.drivers.specs.declared.rules.Form.{Form}
 use Rattle.drivers.specs.Rules.{index_of, is_of, row_place, rule_length, tags, optional, repeats}
 
@@ -77,7 +75,7 @@ abbrev pub noted : List ℕ → ℕ → ℕ → List ℕ
 noted places i p = set places i (first_place (place places i) p)
 
 -- one field: 7 (header), 8, 9, 7 (content)
-unfoldable pub field_fault : List ℕ → Form → List ℕ → ℕ → Fault
+unfoldable pub field_fault : List ℕ → Form → List ℕ → ℕ → Tests
 field_fault bytes form places at =
     let i = index_at bytes at in
     ask_at at (leb 3 (length bytes - at)) CutShort
@@ -86,33 +84,33 @@ field_fault bytes form places at =
     ⨾ ask_at at (not (overruns bytes at)) CutShort
 
 -- the walk over the fields, with the places that it notes
-unfoldable pub walk_of : List ℕ → Form → List ℕ → List ℕ → Fault × List ℕ
+unfoldable pub walk_of : List ℕ → Form → List ℕ → List ℕ → Tests × List ℕ
 walk_of bytes form [] places = (Sound, places)
 walk_of bytes form (at ∷ rest) places =
     let f = field_fault bytes form places at in
-    pick (is_fault f) (f, places) (walk_of bytes form rest (noted places (index_at bytes at) (content_of bytes at)))
+    pick (is_err f) (f, places) (walk_of bytes form rest (noted places (index_at bytes at) (content_of bytes at)))
 
 -- 10, at the record's length: a tag of the form that must be there has not been met
 abbrev pub is_missing : Form → List ℕ → ℕ → Bool
 is_missing form places i = is_of form i && not (optional i) && eqb (place places i) 0
 
-unfoldable pub missing_fault : ℕ → Form → List ℕ → Fault
+unfoldable pub missing_fault : ℕ → Form → List ℕ → Tests
 missing_fault end form places = ask_at end (not (some (is_missing form places) 0 tags)) MissingTag
 
 -- the walk, then 10
-unfoldable pub record_fault : List ℕ → Form → List ℕ → Fault × List ℕ
+unfoldable pub record_fault : List ℕ → Form → List ℕ → Tests × List ℕ
 record_fault bytes form places =
     let w = walk_of bytes form (fields_of bytes) places in
     (w.0 ⨾ missing_fault (length bytes) form w.1, w.1)
 
 -- a tag that gives a dimension, by its rule and the least value: its own length, then its range
-unfoldable pub size_fault : ℕ → ℕ → List ℕ → ℕ → Fault
+unfoldable pub size_fault : ℕ → ℕ → List ℕ → ℕ → Tests
 size_fault rule least bytes p =
     ask_at (start_of p) (eqb (length_at bytes (start_of p)) (rule_length rule 0)) Length
     ⨾ ask_at (start_of p) (leb least (half_at bytes p) && leb (half_at bytes p) 32) Dimension
 
 -- 2: the first field, in record order, whose length is not what n says
-unfoldable pub lengths_fault : ℕ → List ℕ → List ℕ → Fault
+unfoldable pub lengths_fault : ℕ → List ℕ → List ℕ → Tests
 lengths_fault n bytes [] = Sound
 lengths_fault n bytes (at ∷ rest) = ask_at at (eqb (length_at bytes at) (rule_length (index_at bytes at) n)) Length ⨾ lengths_fault n bytes rest
 

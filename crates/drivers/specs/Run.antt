@@ -1,9 +1,8 @@
 -- A run of a job, a step at a time, with its text, and how a program's input is opened (document 01, "The program `filterrun`"). Definitions only.
 use Rattle.std.specs.Prelude.{ℕ, zero, suc, false, List, [], ◌++◌, ltb, length, Float}
 use Rattle.numbers.specs.Pick.{pick}
-use Rattle.numbers.specs.Refusal.{◌⨾◌, unless}
+use Rattle.numbers.specs.Refusal.{◌⨾◌, unless, Tests}
 use Rattle.numbers.specs.declared.refusal.Refusal.{Refusal}
-use Rattle.numbers.specs.declared.refusal.Fault.{Fault}
 use Rattle.numbers.specs.Over.{over}
 use Rattle.oracles.specs.Ell.{EllBuffers, new_ell_answer}
 use Rattle.oracles.specs.declared.ell.NewEll.{NewEll}
@@ -67,7 +66,7 @@ abbrev pub not_printed : Run → EllBuffers → List Float → List ℕ → Refu
 not_printed run b grad out why = (record { run = run; more = false; text = Refused why }, b, grad, out)
 
 -- `Run::next`: refusals 1 to 4, then 11; then a step, or the end where the limit has run out
-abbrev pub next_tests : Run → List Float → EllBuffers → List Float → List ℕ → Fault
+abbrev pub next_tests : Run → List Float → EllBuffers → List Float → List ℕ → Tests
 next_tests run table b grad out = check_state run.rows table (run_state run b grad) ⨾ text_room out
 
 unfoldable pub next_answer : Run → List Float → EllBuffers → List Float → List ℕ → Printed × EllBuffers × List Float × List ℕ

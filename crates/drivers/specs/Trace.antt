@@ -2,9 +2,8 @@
 use Rattle.std.specs.Prelude.{ℕ, Bool, true, false, List, [], ◌∷◌, ◌++◌, length}
 use Rattle.numbers.specs.Pick.{pick}
 use Rattle.numbers.specs.Bits.{bits_of}
-use Rattle.numbers.specs.Refusal.{refusal_number, unless}
+use Rattle.numbers.specs.Refusal.{refusal_number, unless, Tests}
 use Rattle.numbers.specs.declared.refusal.Refusal.{Refusal}
-use Rattle.numbers.specs.declared.refusal.Fault.{Fault}
 use Rattle.numbers.specs.declared.cut.CutChoice.{CutChoice}
 use Rattle.numbers.specs.declared.cut.CutChoice.TheVariants.{Single, Parallel}
 use Rattle.numbers.specs.declared.cut.CutStatus.{CutStatus}
@@ -93,7 +92,7 @@ refused_text source why place = joined (refused_pieces source why place)
 abbrev pub room : ℕ
 room = 128
 
-abbrev pub text_room : List ℕ → Fault
+abbrev pub text_room : List ℕ → Tests
 text_room out = room_test room (length out)
 
 -- a text at the front of `out`, and its length

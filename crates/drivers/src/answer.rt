@@ -1,7 +1,7 @@
 // The answer record: tag 20, 21 and, if a point was found, 22. Its reader takes the tags in any order, its writer puts them in rising order.
+ghost use Rattle.numbers.specs.Refusal.{Sound};
 ghost use Rattle.std.specs.Prelude.{◌≡◌, true, map, ◌+◌, ◌*◌, ◌≤◌, length};
 ghost use Rattle.numbers.specs.Pick.{pick};
-ghost use Rattle.numbers.specs.declared.refusal.Fault.TheVariants.{Sound};
 ghost use Rattle.drivers.specs.Record.{no_places, fronted};
 ghost use Rattle.drivers.specs.Fields.{field_bytes};
 ghost use Rattle.drivers.specs.Answer.{outcome_byte, answer_walk, outcome_fault, answer_at, point_at, has_point, read_answer_answer, answer_fields, write_answer_answer, read_answer_tests};
@@ -14,7 +14,7 @@ use crate::record::{
 };
 use crate::rules::{ANSWER, FOUND, FOUND_TAG, OUTCOME, OUTCOME_TAG, STEPS, STEPS_TAG, TAGS};
 use numbers::arr::is_dimension;
-use numbers::refusal::{Fault, Refusal, is_fault};
+use numbers::refusal::{Fault, Refusal};
 
 // What a run answers, and a record keeps, beside the point: whether there is one, and the steps.
 #[derive(Clone, Copy)]
@@ -47,46 +47,46 @@ fn outcome_byte(found: bool) -> u64
 }
 
 // Refusal 12, at tag 20: the outcome is not that of a record with, or without, tag 22.
-fn outcome_fault(bytes: &[u8], places: &[usize; TAGS]) -> Fault
+fn outcome_fault(bytes: &[u8], places: &[usize; TAGS]) -> Result<(), Fault>
     ensures { result ≡ outcome_fault bytes.now places.now }
 {
     let outcome = places[OUTCOME];
     if byte_at(bytes, outcome) != outcome_byte(places[FOUND] != 0) {
-        return Fault::At(Refusal::Outcome, start_of(outcome));
+        return Err(Fault { why: Refusal::Outcome, place: start_of(outcome) });
     }
-    Fault::Sound
+    Ok(())
 }
 
 // The tests that follow the walk: the lengths, 12, and the room for a point.
-fn content_fault(n: usize, bytes: &[u8], places: &[usize; TAGS], room: usize) -> Fault
+fn content_fault(n: usize, bytes: &[u8], places: &[usize; TAGS], room: usize) -> Result<(), Fault>
     requires { n ≤ 32 }
     ensures { result ≡ content_fault n bytes.now places.now room }
 {
     let fault = lengths_fault(bytes, n);
-    if is_fault(fault) {
+    if fault.is_err() {
         return fault;
     }
     let fault = outcome_fault(bytes, places);
-    if is_fault(fault) {
+    if fault.is_err() {
         return fault;
     }
     if (places[FOUND] != 0) & (room < n) {
-        return Fault::At(Refusal::Room, 0);
+        return Err(Fault { why: Refusal::Room, place: 0 });
     }
-    Fault::Sound
+    Ok(())
 }
 
 // The first fault of an answer record, in document 01's order, 11 the last; `places` becomes where the contents of its tags begin.
-fn answer_fault(n: usize, bytes: &[u8], places: &mut [usize; TAGS], room: usize) -> Fault
+fn answer_fault(n: usize, bytes: &[u8], places: &mut [usize; TAGS], room: usize) -> Result<(), Fault>
     requires { places.old ≡ no_places }
     ensures value { result ≡ read_answer_tests n bytes.now room }
     ensures places_after { result ≡ Sound → places.new ≡ (answer_walk bytes.now).1 }
 {
     if !is_dimension(n) {
-        return Fault::At(Refusal::Dimension, 0);
+        return Err(Fault { why: Refusal::Dimension, place: 0 });
     }
     let fault = record_fault(bytes, ANSWER, places);
-    if is_fault(fault) {
+    if fault.is_err() {
         return fault;
     }
     content_fault(n, bytes, places, room)
@@ -116,8 +116,8 @@ pub fn read_answer(n: usize, bytes: &[u8], point: &mut [f64]) -> AnswerRead
     let mut places = [0usize; TAGS];
     let fault = answer_fault(n, bytes, &mut places, point.len());
     match fault {
-        Fault::At(why, place) => AnswerRead::Refused(why, place),
-        Fault::Sound => AnswerRead::Read(fill_answer(n, bytes, &places, point)),
+        Err(Fault { why, place }) => AnswerRead::Refused(why, place),
+        Ok(()) => AnswerRead::Read(fill_answer(n, bytes, &places, point)),
     }
 }
 

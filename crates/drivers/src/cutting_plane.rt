@@ -49,25 +49,25 @@ pub(crate) fn check(
     grad_t: usize,
     room: usize,
     needed: usize,
-) -> Fault
+) -> Result<(), Fault>
     ensures { result ≡ (check_of oracle n rows table mq xc grad grad_t ⨾ room_test needed room) }
 {
     if !is_dimension(n) {
-        return Fault::At(Refusal::Dimension, 0);
+        return Err(Fault { why: Refusal::Dimension, place: 0 });
     }
     if !(table_fits(n, rows, table, xc) & (mq == n * n) & (grad == n) & (grad_t == n)) {
-        return Fault::At(Refusal::Length, 0);
+        return Err(Fault { why: Refusal::Length, place: 0 });
     }
     if !oracle.bands_fit(rows) {
-        return Fault::At(Refusal::Band, 0);
+        return Err(Fault { why: Refusal::Band, place: 0 });
     }
     if !oracle.cursors_fit() {
-        return Fault::At(Refusal::Cursor, 0);
+        return Err(Fault { why: Refusal::Cursor, place: 0 });
     }
     if room < needed {
-        return Fault::At(Refusal::Room, 0);
+        return Err(Fault { why: Refusal::Room, place: 0 });
     }
-    Fault::Sound
+    Ok(())
 }
 
 // Copies the centre to the front of x_best, if it is to be kept and there is room.

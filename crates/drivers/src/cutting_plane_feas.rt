@@ -205,12 +205,12 @@ pub fn cutting_plane_feas(
         n,
     );
     match fault {
-        Fault::At(why, _) => FeasRun {
+        Err(Fault { why, .. }) => FeasRun {
             oracle,
             ell,
             answer: FeasAnswer::Refused(why),
         },
-        Fault::Sound => {
+        Ok(()) => {
             let run = run_feas(oracle, ell, options, rows, table, mq, xc, grad, grad_t);
             let answer = run.answer;
             keep(is_found(answer), xc, x_best);

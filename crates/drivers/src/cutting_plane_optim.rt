@@ -214,13 +214,13 @@ pub fn cutting_plane_optim(
         n,
     );
     match fault {
-        Fault::At(why, _) => OptimRun {
+        Err(Fault { why, .. }) => OptimRun {
             oracle,
             ell,
             gamma,
             answer: OptimAnswer::Refused(why),
         },
-        Fault::Sound => run_optim(
+        Ok(()) => run_optim(
             oracle, ell, gamma, options, rows, table, mq, xc, grad, grad_t, x_best,
         ),
     }

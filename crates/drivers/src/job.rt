@@ -1,11 +1,11 @@
 // The job record: tags 01 to 09, in any order.
+ghost use Rattle.numbers.specs.Refusal.{Sound};
 ghost use Rattle.std.specs.Prelude.{◌≡◌, ◌*◌, ◌+◌, ◌≤◌, ◌<◌, length};
 ghost use Rattle.drivers.specs.Record.{fields_of, no_places, numbers_at, row_count, rows_in, rows_of, fronted, place};
 ghost use Rattle.drivers.specs.Job.{signed, part_of, row_end, job_oracle, options_of, job_at, full_job_at, job_walk, job_fault, has_room, read_into, read_job_answer};
 ghost use Rattle.drivers.specs.Rules.{matrix_place, point_place};
 ghost use Rattle.drivers.specs.laws.Record.{row_filled};
 ghost use Rattle.drivers.specs.laws.Job.{oracle_fault, content_fault};
-ghost use Rattle.numbers.specs.declared.refusal.Fault.TheVariants.{Sound};
 
 use crate::cutting_plane::Options;
 use crate::record::{
@@ -14,7 +14,7 @@ use crate::record::{
 };
 use crate::rules::{BANDS, CURSORS, JOB, KAPPA, LIMITS, MATRIX, N, POINT, SETTINGS, TAGS};
 use numbers::bits::{of_bits, word_at};
-use numbers::refusal::{Fault, Refusal, is_fault};
+use numbers::refusal::{Fault, Refusal};
 use oracles::lowpass_oracle::LowpassOracle;
 use oracles::table::is_rows;
 
@@ -137,43 +137,43 @@ fn job_at(bytes: &[u8], places: &[usize; TAGS]) -> Job
 // ---- the tests
 
 // Refusal 3 at tag 02, then 4 at tag 06: the tests of the oracle that the job starts with.
-fn oracle_fault(job: Job, places: &[usize; TAGS]) -> Fault
+fn oracle_fault(job: Job, places: &[usize; TAGS]) -> Result<(), Fault>
     ensures { result ≡ oracle_fault job places.now }
 {
     let oracle = job.oracle();
     if !oracle.bands_fit(job.rows) {
-        return Fault::At(Refusal::Band, start_of(places[BANDS]));
+        return Err(Fault { why: Refusal::Band, place: start_of(places[BANDS]) });
     }
     if !oracle.cursors_fit() {
-        return Fault::At(Refusal::Cursor, start_of(places[CURSORS]));
+        return Err(Fault { why: Refusal::Cursor, place: start_of(places[CURSORS]) });
     }
-    Fault::Sound
+    Ok(())
 }
 
 // The tests that follow the walk: tag 01, the other lengths, 3 and 4.
-fn content_fault(bytes: &[u8], places: &[usize; TAGS]) -> Fault
+fn content_fault(bytes: &[u8], places: &[usize; TAGS]) -> Result<(), Fault>
     ensures { result ≡ content_fault bytes.now places.now }
 {
     let fault = size_fault(bytes, N, 2, places[N]);
-    if is_fault(fault) {
+    if fault.is_err() {
         return fault;
     }
     let job = job_at(bytes, places);
     let fault = lengths_fault(bytes, job.n);
-    if is_fault(fault) {
+    if fault.is_err() {
         return fault;
     }
     oracle_fault(job, places)
 }
 
 // The first fault of a job record, in document 01's order; `places` becomes where the contents of its tags begin.
-fn job_fault(bytes: &[u8], places: &mut [usize; TAGS]) -> Fault
+fn job_fault(bytes: &[u8], places: &mut [usize; TAGS]) -> Result<(), Fault>
     requires { places.old ≡ no_places }
     ensures value { result ≡ job_fault bytes.now }
     ensures places_after { places.new ≡ (job_walk bytes.now).1 }
 {
     let fault = record_fault(bytes, JOB, places);
-    if is_fault(fault) {
+    if fault.is_err() {
         return fault;
     }
     content_fault(bytes, places)
@@ -263,7 +263,7 @@ pub fn read_job(bytes: &[u8], table: &mut [f64], xc: &mut [f64], mq: &mut [f64])
     let mut places = [0usize; TAGS];
     let fault = job_fault(bytes, &mut places);
     match fault {
-        Fault::At(why, place) => JobAnswer::Refused(why, place),
-        Fault::Sound => read_sound(bytes, &places, table, xc, mq),
+        Err(Fault { why, place }) => JobAnswer::Refused(why, place),
+        Ok(()) => read_sound(bytes, &places, table, xc, mq),
     }
 }

@@ -16,7 +16,7 @@ impl FeasAnswer {
     {
         match self {
             FeasAnswer::Ended(_) => 0,
-            FeasAnswer::Refused(why) => why.number(),
+            FeasAnswer::Refused(why) => u8::from(why),
         }
     }
 }
@@ -27,8 +27,8 @@ impl OptimAnswer {
     {
         match self {
             OptimAnswer::Ended(_) => 0,
-            OptimAnswer::Halted(_) => Refusal::NoStopValue.number(),
-            OptimAnswer::Refused(why) => why.number(),
+            OptimAnswer::Halted(_) => u8::from(Refusal::NoStopValue),
+            OptimAnswer::Refused(why) => u8::from(why),
         }
     }
 }
@@ -39,7 +39,7 @@ impl JobAnswer {
     {
         match self {
             JobAnswer::Read(_) => 0,
-            JobAnswer::Refused(why, _) => why.number(),
+            JobAnswer::Refused(why, _) => u8::from(why),
         }
     }
 }
@@ -50,7 +50,7 @@ impl AnswerRead {
     {
         match self {
             AnswerRead::Read(_) => 0,
-            AnswerRead::Refused(why, _) => why.number(),
+            AnswerRead::Refused(why, _) => u8::from(why),
         }
     }
 }
@@ -61,7 +61,7 @@ impl AnswerWritten {
     {
         match self {
             AnswerWritten::Bytes(_) => 0,
-            AnswerWritten::Refused(why) => why.number(),
+            AnswerWritten::Refused(why) => u8::from(why),
         }
     }
 }
@@ -73,7 +73,7 @@ impl Belonging {
         match self {
             Belonging::Yes => 0,
             Belonging::No => 0,
-            Belonging::Refused(why) => why.number(),
+            Belonging::Refused(why) => u8::from(why),
         }
     }
 }
@@ -84,7 +84,7 @@ impl Text {
     {
         match self {
             Text::Bytes(_) => 0,
-            Text::Refused(why) => why.number(),
+            Text::Refused(why) => u8::from(why),
         }
     }
 }

@@ -4,7 +4,7 @@ ghost use Rattle.drivers.specs.Record.{byte_at, length_at, half_at, number_at, n
 
 use crate::rules::{Form, MANY, MAYBE, ROW, TAGS, is_of, rule_at, rule_index, rule_length};
 use numbers::bits::{of_bits, word_at};
-use numbers::refusal::{Fault, Refusal, is_fault};
+use numbers::refusal::{Fault, Refusal};
 
 // A tag, and two bytes of length.
 pub(crate) const HEADER: usize = 3;
@@ -95,25 +95,25 @@ pub(crate) fn next_field(bytes: &[u8], at: usize) -> usize
 }
 
 // The tests of one field, in document 01's order.
-fn field_fault(bytes: &[u8], form: Form, places: &[usize; TAGS], at: usize) -> Fault
+fn field_fault(bytes: &[u8], form: Form, places: &[usize; TAGS], at: usize) -> Result<(), Fault>
     requires { (at < length bytes.now) × (0 < form.bit) }
     ensures { result ≡ field_fault bytes.now form places.now at }
 {
     if bytes.len() - at < HEADER {
-        return Fault::At(Refusal::CutShort, at);
+        return Err(Fault { why: Refusal::CutShort, place: at });
     }
     let i = rule_index(byte_at(bytes, at));
     let rule = rule_at(i);
     if !is_of(form, rule) {
-        return Fault::At(Refusal::ForeignTag, at);
+        return Err(Fault { why: Refusal::ForeignTag, place: at });
     }
     if (places[i] != 0) & (rule.5 != MANY) {
-        return Fault::At(Refusal::RepeatedTag, at);
+        return Err(Fault { why: Refusal::RepeatedTag, place: at });
     }
     if bytes.len() - at - HEADER < length_at(bytes, at) {
-        return Fault::At(Refusal::CutShort, at);
+        return Err(Fault { why: Refusal::CutShort, place: at });
     }
-    Fault::Sound
+    Ok(())
 }
 
 // A tag's place when one more field of it is met.
@@ -127,25 +127,25 @@ fn first_place(old: usize, p: usize) -> usize
 }
 
 // Tests every field and notes, for each tag of the table, where the content of its first field begins.
-fn walk(bytes: &[u8], form: Form, places: &mut [usize; TAGS]) -> Fault
+fn walk(bytes: &[u8], form: Form, places: &mut [usize; TAGS]) -> Result<(), Fault>
     requires { 0 < form.bit }
     ensures { (result, places.new) ≡ walk_of bytes.now form (fields_of bytes.now) places.old }
 {
     let mut at = 0;
     while at < bytes.len() {
         let fault = field_fault(bytes, form, places, at);
-        if is_fault(fault) {
+        if fault.is_err() {
             return fault;
         }
         let i = rule_index(byte_at(bytes, at));
         places[i] = first_place(places[i], content_at(bytes, at));
         at = next_field(bytes, at);
     }
-    Fault::Sound
+    Ok(())
 }
 
 // Refusal 10, at the record's end.
-fn missing_fault(end: usize, form: Form, places: &[usize; TAGS]) -> Fault
+fn missing_fault(end: usize, form: Form, places: &[usize; TAGS]) -> Result<(), Fault>
     requires { 0 < form.bit }
     ensures { result ≡ missing_fault end form places.now }
 {
@@ -153,42 +153,42 @@ fn missing_fault(end: usize, form: Form, places: &[usize; TAGS]) -> Fault
     while i < TAGS {
         let rule = rule_at(i);
         if is_of(form, rule) & (rule.5 != MAYBE) & (places[i] == 0) {
-            return Fault::At(Refusal::MissingTag, end);
+            return Err(Fault { why: Refusal::MissingTag, place: end });
         }
         i += 1;
     }
-    Fault::Sound
+    Ok(())
 }
 
 // The walk, and refusal 10 after it.
-pub(crate) fn record_fault(bytes: &[u8], form: Form, places: &mut [usize; TAGS]) -> Fault
+pub(crate) fn record_fault(bytes: &[u8], form: Form, places: &mut [usize; TAGS]) -> Result<(), Fault>
     requires { 0 < form.bit }
     ensures { (result, places.new) ≡ record_fault bytes.now form places.old }
 {
     let fault = walk(bytes, form, places);
-    if is_fault(fault) {
+    if fault.is_err() {
         return fault;
     }
     missing_fault(bytes.len(), form, places)
 }
 
 // Of a tag that gives a dimension: its own length, then its range.
-pub(crate) fn size_fault(bytes: &[u8], rule: usize, least: usize, p: usize) -> Fault
+pub(crate) fn size_fault(bytes: &[u8], rule: usize, least: usize, p: usize) -> Result<(), Fault>
     ensures { result ≡ size_fault rule least bytes.now p }
 {
     let place = start_of(p);
     if length_at(bytes, place) != rule_length(rule, 0) {
-        return Fault::At(Refusal::Length, place);
+        return Err(Fault { why: Refusal::Length, place: place });
     }
     let size = half_at(bytes, p);
     if !((least <= size) & (size <= 32)) {
-        return Fault::At(Refusal::Dimension, place);
+        return Err(Fault { why: Refusal::Dimension, place: place });
     }
-    Fault::Sound
+    Ok(())
 }
 
 // Refusal 2: the first field, in record order, whose length is not its rule's. Every tag is in the table.
-pub(crate) fn lengths_fault(bytes: &[u8], n: usize) -> Fault
+pub(crate) fn lengths_fault(bytes: &[u8], n: usize) -> Result<(), Fault>
     requires { n ≤ 32 }
     ensures { result ≡ lengths_fault n bytes.now (fields_of bytes.now) }
 {
@@ -196,11 +196,11 @@ pub(crate) fn lengths_fault(bytes: &[u8], n: usize) -> Fault
     while at < bytes.len() {
         let i = rule_index(byte_at(bytes, at));
         if length_at(bytes, at) != rule_length(i, n) {
-            return Fault::At(Refusal::Length, at);
+            return Err(Fault { why: Refusal::Length, place: at });
         }
         at = next_field(bytes, at);
     }
-    Fault::Sound
+    Ok(())
 }
 
 fn rows_in(bytes: &[u8], at: usize) -> usize

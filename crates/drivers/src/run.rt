@@ -172,8 +172,8 @@ impl Run {
             ROOM,
         );
         match fault {
-            Fault::At(why, _) => self.refused(why),
-            Fault::Sound => {
+            Err(Fault { why, .. }) => self.refused(why),
+            Ok(()) => {
                 if self.niter < options.max_iters {
                     return self.step(table, mq, xc, grad, grad_t, out);
                 }

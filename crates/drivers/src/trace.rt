@@ -155,7 +155,7 @@ fn put_refused(out: &mut [u8], source: Source, why: Refusal, place: usize) -> us
     ensures { (result, out.new) ≡ put_all out.old 0 (refused_pieces source why place) }
 {
     let at = put_text(out, 0, b"refused ");
-    let at = put_decimal(out, at, why.number() as u64);
+    let at = put_decimal(out, at, u8::from(why) as u64);
     let at = put_text(out, at, b" ");
     let at = put_decimal(out, at, place as u64);
     put_source(out, at, source)

@@ -103,7 +103,7 @@ fn call(
             let state = p.state;
             let oracle = oracle_of(inputs, state);
             outcome_of(
-                answered_no(why.number()),
+                answered_no(u8::from(why)),
                 float(inputs, p.gamma),
                 oracle,
                 0.0,

@@ -3,7 +3,6 @@ ghost use Rattle.std.specs.Prelude.{◌≡◌};
 ghost use Rattle.lists.specs.Rooms.{plus_of, times_of, part_of, filled_of};
 
 use crate::words::floats;
-use numbers::arr::fill_zero;
 
 // As many floats as a case can have words.
 pub type Room = [f64; 65536];
@@ -70,5 +69,5 @@ pub fn fill(s: &mut [f64], inputs: &[u8], given: bool, at: usize, len: usize)
         floats(inputs, at, &mut s[..len]);
         return;
     }
-    fill_zero(&mut s[..len]);
+    (&mut s[..len]).fill(0.0);
 }

@@ -1,15 +1,11 @@
 -- Vectors and matrices over flat lists (arr.rs), and what the public calls answer. Definitions only.
-use Rattle.std.specs.Prelude.{ℕ, zero, suc, ◌+◌, ◌*◌, Bool, ◌&&◌, List, [], ◌∷◌, ◌++◌, leb, eqb, length, take, drop, get_or, set, replicate, Float}
+use Rattle.numbers.specs.declared.refusal.Refusal.{Refusal}
+use Rattle.std.specs.Prelude.{ℕ, zero, suc, ◌+◌, ◌*◌, Bool, ◌&&◌, List, [], ◌∷◌, ◌++◌, leb, eqb, length, take, drop, get_or, set, replicate, Float, Err, Ok, Result, ⊤}
 use Rattle.std.specs.Float.{nan}
 use Rattle.numbers.specs.F64.{◌⊕◌, ◌⊗◌, 0ᶠ, −0ᶠ, 1ᶠ}
-use Rattle.numbers.specs.Refusal.{◌⨾◌, unless, ask}
+use Rattle.numbers.specs.Refusal.{◌⨾◌, unless, ask, Tests}
 use Rattle.numbers.specs.declared.refusal.Refusal.TheVariants.{Dimension, Length}
-use Rattle.numbers.specs.declared.refusal.Fault.{Fault}
 use Rattle.numbers.specs.declared.arr.Four.{Four}
-use Rattle.numbers.specs.declared.arr.Number.{Number}
-use Rattle.numbers.specs.declared.arr.Number.TheVariants.{Value, Refused}
-use Rattle.numbers.specs.declared.arr.Written.{Written}
-use Rattle.numbers.specs.declared.arr.Written.TheVariants.{Done, Refused as NotWritten}
 
 -- a point's dimension is 2 to 32
 abbrev pub is_dimension : ℕ → Bool
@@ -58,44 +54,44 @@ diag_of n v = set_diag n v n (replicate (n * n) 0ᶠ)
 -- ---- the public calls: refusal 1, then 2, and nothing written
 
 -- refusal 1 by the dimension n, then 2 by the lengths, which are right where `fit` is true
-abbrev pub sized : ℕ → Bool → Fault
+abbrev pub sized : ℕ → Bool → Tests
 sized n fit = ask (is_dimension n) Dimension ⨾ ask fit Length
 
 -- `dot`: two vectors of n
-abbrev pub dot_tests : ℕ → List Float → List Float → Fault
+abbrev pub dot_tests : ℕ → List Float → List Float → Tests
 dot_tests n a b = sized n (eqb (length a) n && eqb (length b) n)
 
-abbrev pub dot_answer : ℕ → List Float → List Float → Number
-dot_answer n a b = unless (dot_tests n a b) (λ why place. Refused why) (Value (dot_of a b))
+abbrev pub dot_answer : ℕ → List Float → List Float → Result Float Refusal
+dot_answer n a b = unless (dot_tests n a b) (λ why place. Err why) (Ok (dot_of a b))
 
 -- A call that fills `out`: its answer, and `out` as it leaves it.
-abbrev pub fills : Fault → List Float → List Float → Written × List Float
-fills tests filled out = unless tests (λ why place. (NotWritten why, out)) (Done, filled)
+abbrev pub fills : Tests → List Float → List Float → Result ⊤ Refusal × List Float
+fills tests filled out = unless tests (λ why place. (Err why, out)) (Ok tt, filled)
 
 -- `dot_mv_into`: an n by n matrix, a vector of n, and n numbers to fill
-abbrev pub dot_mv_into_tests : ℕ → List Float → List Float → List Float → Fault
+abbrev pub dot_mv_into_tests : ℕ → List Float → List Float → List Float → Tests
 dot_mv_into_tests n mat x out = sized n (eqb (length mat) (n * n) && eqb (length x) n && eqb (length out) n)
 
-abbrev pub dot_mv_into_answer : ℕ → List Float → List Float → List Float → Written × List Float
+abbrev pub dot_mv_into_answer : ℕ → List Float → List Float → List Float → Result ⊤ Refusal × List Float
 dot_mv_into_answer n mat x out = fills (dot_mv_into_tests n mat x out) (mv_of n mat x) out
 
 -- `copy_from`: two vectors of n
-abbrev pub copy_from_tests : ℕ → List Float → List Float → Fault
+abbrev pub copy_from_tests : ℕ → List Float → List Float → Tests
 copy_from_tests n dst src = sized n (eqb (length dst) n && eqb (length src) n)
 
-abbrev pub copy_from_answer : ℕ → List Float → List Float → Written × List Float
+abbrev pub copy_from_answer : ℕ → List Float → List Float → Result ⊤ Refusal × List Float
 copy_from_answer n dst src = fills (copy_from_tests n dst src) src dst
 
 -- `eye`: an n by n matrix to fill, with ones on its diagonal
-abbrev pub eye_tests : ℕ → List Float → Fault
+abbrev pub eye_tests : ℕ → List Float → Tests
 eye_tests n out = sized n (eqb (length out) (n * n))
 
-abbrev pub eye_answer : ℕ → List Float → Written × List Float
+abbrev pub eye_answer : ℕ → List Float → Result ⊤ Refusal × List Float
 eye_answer n out = fills (eye_tests n out) (diag_of n (replicate n 1ᶠ)) out
 
 -- `from_diag`: a vector of n, and an n by n matrix to fill
-abbrev pub from_diag_tests : ℕ → List Float → List Float → Fault
+abbrev pub from_diag_tests : ℕ → List Float → List Float → Tests
 from_diag_tests n v out = sized n (eqb (length v) n && eqb (length out) (n * n))
 
-abbrev pub from_diag_answer : ℕ → List Float → List Float → Written × List Float
+abbrev pub from_diag_answer : ℕ → List Float → List Float → Result ⊤ Refusal × List Float
 from_diag_answer n v out = fills (from_diag_tests n v out) (diag_of n v) out

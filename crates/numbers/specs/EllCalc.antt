@@ -1,10 +1,11 @@
 -- The calculators (ell_calc.rs, `EllCalc`), in the Rust's order of tests. A test with a NaN in it is false. Definitions only.
-use Rattle.std.specs.Prelude.{ℕ, Bool, true, false, not, ◌&&◌, ◌||◌, pos, Float}
+use Rattle.numbers.specs.declared.refusal.Refusal.{Refusal}
+use Rattle.std.specs.Prelude.{ℕ, Bool, true, false, not, ◌&&◌, ◌||◌, pos, Float, Err, Ok, Result}
 use Rattle.std.specs.Float.{binary64}
 use Rattle.std.specs.Float.Ieee.{lt, le, of_int}
 use Rattle.numbers.specs.F64.{◌⊕◌, ◌⊗◌, 0ᶠ}
 use Rattle.numbers.specs.Pick.{pick}
-use Rattle.numbers.specs.Refusal.{unless, ask}
+use Rattle.numbers.specs.Refusal.{unless, ask, Tests}
 use Rattle.numbers.specs.Arr.{is_dimension}
 use Rattle.numbers.specs.Sqrt.{sqrt_of}
 use Rattle.numbers.specs.Cut.{success, no_soln, no_effect, chosen}
@@ -12,21 +13,18 @@ use Rattle.numbers.specs.EllCalcCore.{core_new, core_parallel_bias_cut_fast, cor
 use Rattle.numbers.specs.declared.cut.CutAnswer.{CutAnswer}
 use Rattle.numbers.specs.declared.cut.CutChoice.{CutChoice}
 use Rattle.numbers.specs.declared.refusal.Refusal.TheVariants.{Dimension}
-use Rattle.numbers.specs.declared.refusal.Fault.{Fault}
 use Rattle.numbers.specs.declared.ell_calc.EllCalc.{EllCalc}
-use Rattle.numbers.specs.declared.ell_calc.NewEllCalc.{NewEllCalc}
-use Rattle.numbers.specs.declared.ell_calc.NewEllCalc.TheVariants.{Made, Refused}
 
 -- the calculators of dimension n, with parallel cuts in use
 unfoldable pub made : ℕ → EllCalc
 made n = record { n_f = of_int binary64 (pos n); helper = core_new (of_int binary64 (pos n)); use_parallel_cut = true }
 
 -- `EllCalc::new`: refusal 1 outside 2 to 32
-abbrev pub new_tests : ℕ → Fault
+abbrev pub new_tests : ℕ → Tests
 new_tests n = ask (is_dimension n) Dimension
 
-unfoldable pub new_answer : ℕ → NewEllCalc
-new_answer n = unless (new_tests n) (λ why place. Refused why) (Made (made n))
+unfoldable pub new_answer : ℕ → Result EllCalc Refusal
+new_answer n = unless (new_tests n) (λ why place. Err why) (Ok (made n))
 
 -- one bound: nothing is left where tsq lies below its square
 unfoldable pub calc_bias_cut : EllCalc → Float → Float → CutAnswer

@@ -9,5 +9,4 @@ pub mod Sqrt
 pub mod Cut
 pub mod EllCalcCore
 pub mod EllCalc
-pub mod Numbered
 pub mod laws

@@ -1,10 +1,9 @@
 -- Document 01's number of each refusal, and which of several counts ("When a call says no"). Definitions only.
-use Rattle.std.specs.Prelude.{ℕ, Bool, true, false}
+use Rattle.std.specs.Prelude.{ℕ, Bool, Result, Ok, Err, is_err, ⊤}
 use Rattle.numbers.specs.Pick.{pick}
 use Rattle.numbers.specs.declared.refusal.Refusal.{Refusal}
 use Rattle.numbers.specs.declared.refusal.Refusal.TheVariants.{Dimension, Length, Band, Cursor, Position, NoStopValue, CutShort, ForeignTag, RepeatedTag, MissingTag, Room, Outcome}
 use Rattle.numbers.specs.declared.refusal.Fault.{Fault}
-use Rattle.numbers.specs.declared.refusal.Fault.TheVariants.{Sound, At}
 
 abbrev pub refusal_number : Refusal → ℕ
 refusal_number Dimension = 1
@@ -20,28 +19,43 @@ refusal_number MissingTag = 10
 refusal_number Room = 11
 refusal_number Outcome = 12
 
+-- of an answer: 0, or the refusal's
+abbrev pub number_of : {A : Type 0} → Result A Refusal → ℕ
+number_of (Ok x) = 0
+number_of (Err why) = refusal_number why
+
 -- ---- the first refusal counts
 
-abbrev pub is_fault : Fault → Bool
-is_fault Sound = false
-is_fault (At why place) = true
+-- what tests find: nothing, or the first refusal and its place in a record, 0 outside of one
+abbrev pub Tests : Type 0
+Tests = Result ⊤ Fault
+
+pattern abbrev pub Sound : Tests
+Sound = Ok tt
+
+abbrev pub At : Refusal → ℕ → Tests
+At why place = Err (record { why = why; place = place })
 
 infixr 20 ◌⨾◌
-abbrev pub ◌⨾◌ : Fault → Fault → Fault
-a ⨾ b = pick (is_fault a) a b
+abbrev pub ◌⨾◌ : Tests → Tests → Tests
+a ⨾ b = pick (is_err a) a b
 
 -- what is made of a refusal, or of no fault
-abbrev pub unless {ℓ} : {X : Type ℓ} → Fault → (Refusal → ℕ → X) → X → X
+abbrev pub unless {ℓ} : {X : Type ℓ} → Tests → (Refusal → ℕ → X) → X → X
 unless Sound refused done = done
-unless (At why place) refused done = refused why place
+unless (Err fault) refused done = refused fault.why fault.place
 
 -- its number, and 0 where there is none
-abbrev pub fault_number : Fault → ℕ
+abbrev pub fault_number : Tests → ℕ
 fault_number f = unless f (λ why place. refusal_number why) 0
 
 -- a test: the refusal where it fails, at a place of the record; outside of a record the place is 0
-abbrev pub ask_at : ℕ → Bool → Refusal → Fault
+abbrev pub ask_at : ℕ → Bool → Refusal → Tests
 ask_at place test why = pick test Sound (At why place)
 
-abbrev pub ask : Bool → Refusal → Fault
+abbrev pub ask : Bool → Refusal → Tests
 ask = ask_at 0
+
+-- the same where there is no record: the refusal alone
+abbrev pub asked : Bool → Refusal → Result ⊤ Refusal
+asked test why = pick test (Ok tt) (Err why)

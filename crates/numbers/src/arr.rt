@@ -1,23 +1,13 @@
 // Vectors and matrices over flat slices, row after row (arr.rs). Each public call tests n, then the lengths, and writes nothing where it refuses.
-ghost use Rattle.std.specs.Prelude.{◌≡◌, ◌+◌, ◌*◌, ◌≤◌, ◌<◌, min, length, drop, replicate};
+ghost use Rattle.std.specs.Prelude.{◌≡◌, ◌+◌, ◌*◌, ◌≤◌, ◌<◌, min, length, drop, replicate, OnOk, IsTrue};
 ghost use Rattle.numbers.specs.F64.{0ᶠ};
 ghost use Rattle.numbers.specs.Arr.{is_dimension, dot_from, dot_of, four_of, diag_of, set_diag, dot_answer, dot_mv_into_answer, copy_from_answer, eye_answer, from_diag_answer};
+ghost use Rattle.numbers.specs.Refusal.{asked};
+ghost use Rattle.numbers.specs.declared.refusal.Refusal.TheVariants.{Dimension, Length};
 ghost use Rattle.numbers.specs.laws.Arr.{four_from};
 
 use crate::mv::rows_into;
 use crate::refusal::Refusal;
-
-#[derive(Clone, Copy)]
-pub enum Number {
-    Value(f64),
-    Refused(Refusal),
-}
-
-#[derive(Clone, Copy)]
-pub enum Written {
-    Done,
-    Refused(Refusal),
-}
 
 // A number for each of four rows.
 #[derive(Clone, Copy)]
@@ -33,6 +23,26 @@ pub fn is_dimension(n: usize) -> bool
     ensures { result ≡ is_dimension n }
 {
     2 <= n && n <= 32
+}
+
+// Refusal 1, unless n is a point's dimension.
+pub fn dimension(n: usize) -> Result<(), Refusal>
+    ensures value { result ≡ asked (is_dimension n) Dimension }
+    ensures range { OnOk result ((2 ≤ n) × (n ≤ 32)) }
+{
+    if is_dimension(n) {
+        Ok(())
+    } else {
+        Err(Refusal::Dimension)
+    }
+}
+
+// Refusal 2, unless the lengths are right.
+pub fn lengths(fit: bool) -> Result<(), Refusal>
+    ensures value { result ≡ asked fit Length }
+    ensures right { OnOk result (IsTrue fit) }
+{
+    if fit { Ok(()) } else { Err(Refusal::Length) }
 }
 
 fn shorter(a: usize, b: usize) -> usize
@@ -71,16 +81,12 @@ pub fn dot_zip(a: &[f64], b: &[f64]) -> f64
     add_products(first, a, b, 1)
 }
 
-pub fn dot(n: usize, a: &[f64], b: &[f64]) -> Number
+pub fn dot(n: usize, a: &[f64], b: &[f64]) -> Result<f64, Refusal>
     ensures { result ≡ dot_answer n a.now b.now }
 {
-    if !is_dimension(n) {
-        return Number::Refused(Refusal::Dimension);
-    }
-    if !((a.len() == n) & (b.len() == n)) {
-        return Number::Refused(Refusal::Length);
-    }
-    Number::Value(dot_zip(a, b))
+    dimension(n)?;
+    lengths((a.len() == n) & (b.len() == n))?;
+    Ok(dot_zip(a, b))
 }
 
 // The products of four rows and x from `from` on: side by side, so that an addition does not wait for another row's, and each added to its row's start left
@@ -101,14 +107,12 @@ pub(crate) fn add_four(
     let mut t = start.b;
     let mut u = start.c;
     let mut v = start.d;
-    let mut j = from;
-    while j < x.len() {
+    for j in from..x.len() {
         let y = x[j];
         s = s + a[j] * y;
         t = t + b[j] * y;
         u = u + c[j] * y;
         v = v + d[j] * y;
-        j += 1;
     }
     Four {
         a: s,
@@ -141,52 +145,22 @@ pub fn dot_four(a: &[f64], b: &[f64], c: &[f64], d: &[f64], x: &[f64]) -> Four
     }
 }
 
-pub fn dot_mv_into(n: usize, mat: &[f64], x: &[f64], out: &mut [f64]) -> Written
+pub fn dot_mv_into(n: usize, mat: &[f64], x: &[f64], out: &mut [f64]) -> Result<(), Refusal>
     ensures { (result, out.new) ≡ dot_mv_into_answer n mat.now x.now out.old }
 {
-    if !is_dimension(n) {
-        return Written::Refused(Refusal::Dimension);
-    }
-    if !((mat.len() == n * n) & (x.len() == n) & (out.len() == n)) {
-        return Written::Refused(Refusal::Length);
-    }
+    dimension(n)?;
+    lengths((mat.len() == n * n) & (x.len() == n) & (out.len() == n))?;
     rows_into(n, mat, x, out);
-    Written::Done
+    Ok(())
 }
 
-fn copy_all(dst: &mut [f64], src: &[f64])
-    requires { length dst.old ≡ length src.now }
-    ensures { dst.new ≡ src.now }
-{
-    let mut i = 0;
-    while i < src.len() {
-        dst[i] = src[i];
-        i += 1;
-    }
-}
-
-pub fn copy_from(n: usize, dst: &mut [f64], src: &[f64]) -> Written
+pub fn copy_from(n: usize, dst: &mut [f64], src: &[f64]) -> Result<(), Refusal>
     ensures { (result, dst.new) ≡ copy_from_answer n dst.old src.now }
 {
-    if !is_dimension(n) {
-        return Written::Refused(Refusal::Dimension);
-    }
-    if !((dst.len() == n) & (src.len() == n)) {
-        return Written::Refused(Refusal::Length);
-    }
-    copy_all(dst, src);
-    Written::Done
-}
-
-// Zeros all over.
-pub fn fill_zero(out: &mut [f64])
-    ensures { out.new ≡ replicate (length out.old) 0ᶠ }
-{
-    let mut i = 0;
-    while i < out.len() {
-        out[i] = 0.0;
-        i += 1;
-    }
+    dimension(n)?;
+    lengths((dst.len() == n) & (src.len() == n))?;
+    dst.copy_from_slice(src);
+    Ok(())
 }
 
 // v on the diagonal.
@@ -194,11 +168,9 @@ fn set_diagonal(n: usize, v: &[f64], out: &mut [f64])
     requires { (n ≤ 32) × (length v.now ≡ n) × (length out.old ≡ n * n) }
     ensures { out.new ≡ set_diag n v.now n out.old }
 {
-    let mut i = 0;
-    while i < n {
+    for i in 0..n {
         let at = i * n + i;
         out[at] = v[i];
-        i += 1;
     }
 }
 
@@ -206,33 +178,25 @@ fn diagonal_into(n: usize, v: &[f64], out: &mut [f64])
     requires { (n ≤ 32) × (length v.now ≡ n) × (length out.old ≡ n * n) }
     ensures { out.new ≡ diag_of n v.now }
 {
-    fill_zero(out);
+    out.fill(0.0);
     set_diagonal(n, v, out);
 }
 
-pub fn eye(n: usize, out: &mut [f64]) -> Written
+pub fn eye(n: usize, out: &mut [f64]) -> Result<(), Refusal>
     ensures { (result, out.new) ≡ eye_answer n out.old }
 {
-    if !is_dimension(n) {
-        return Written::Refused(Refusal::Dimension);
-    }
-    if !(out.len() == n * n) {
-        return Written::Refused(Refusal::Length);
-    }
+    dimension(n)?;
+    lengths(out.len() == n * n)?;
     let ones = [1.0f64; 32];
     diagonal_into(n, &ones[..n], out);
-    Written::Done
+    Ok(())
 }
 
-pub fn from_diag(n: usize, v: &[f64], out: &mut [f64]) -> Written
+pub fn from_diag(n: usize, v: &[f64], out: &mut [f64]) -> Result<(), Refusal>
     ensures { (result, out.new) ≡ from_diag_answer n v.now out.old }
 {
-    if !is_dimension(n) {
-        return Written::Refused(Refusal::Dimension);
-    }
-    if !((v.len() == n) & (out.len() == n * n)) {
-        return Written::Refused(Refusal::Length);
-    }
+    dimension(n)?;
+    lengths((v.len() == n) & (out.len() == n * n))?;
     diagonal_into(n, v, out);
-    Written::Done
+    Ok(())
 }

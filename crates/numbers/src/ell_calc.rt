@@ -3,7 +3,7 @@ ghost use Rattle.std.specs.Prelude.{◌≡◌};
 ghost use Rattle.std.specs.Float.Ieee.{lt};
 ghost use Rattle.numbers.specs.EllCalc.{new_answer, single_instead, calc_single_or_parallel_bias_cut, calc_single_or_parallel_central_cut, calc_single_or_parallel_q, calc_parallel_bias_cut, calc_parallel_q, calc_parallel_central_cut, calc_bias_cut, calc_bias_cut_q, calc_central_cut};
 
-use crate::arr::is_dimension;
+use crate::arr::dimension;
 use crate::cut::{CutAnswer, CutChoice, CutStatus, Params};
 use crate::ell_calc_core::EllCalcCore;
 use crate::refusal::Refusal;
@@ -37,12 +37,6 @@ pub struct EllCalc {
     pub use_parallel_cut: bool,
 }
 
-#[derive(Clone, Copy)]
-pub enum NewEllCalc {
-    Made(EllCalc),
-    Refused(Refusal),
-}
-
 // Whether no number lies between the two bounds.
 fn crossed(beta0: f64, beta1: f64) -> bool
     ensures { result ≡ lt beta1 beta0 }
@@ -51,15 +45,13 @@ fn crossed(beta0: f64, beta1: f64) -> bool
 }
 
 impl EllCalc {
-    pub fn new(n: usize) -> NewEllCalc
+    pub fn new(n: usize) -> Result<EllCalc, Refusal>
         ensures { result ≡ new_answer n }
     {
-        if !is_dimension(n) {
-            return NewEllCalc::Refused(Refusal::Dimension);
-        }
+        dimension(n)?;
         let n_f = n as f64;
         let helper = EllCalcCore::new(n_f);
-        NewEllCalc::Made(EllCalc {
+        Ok(EllCalc {
             n_f,
             helper,
             use_parallel_cut: true,

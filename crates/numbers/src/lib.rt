@@ -7,6 +7,5 @@ pub mod cut;
 pub mod ell_calc;
 pub mod ell_calc_core;
 mod mv;
-pub mod numbered;
 pub mod refusal;
 pub mod sqrt;

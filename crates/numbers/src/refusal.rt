@@ -1,56 +1,44 @@
 // Why a call says no. One enum serves the whole project; its numbers are document 01's.
 ghost use Rattle.std.specs.Prelude.{◌≡◌};
-ghost use Rattle.numbers.specs.Refusal.{refusal_number, is_fault};
+ghost use Rattle.numbers.specs.Refusal.{refusal_number, number_of};
 
-#[derive(Clone, Copy)]
+#[derive(Clone, Copy, PartialEq, Eq)]
 pub enum Refusal {
-    Dimension,
-    Length,
-    Band,
-    Cursor,
-    Position,
-    NoStopValue,
-    CutShort,
-    ForeignTag,
-    RepeatedTag,
-    MissingTag,
-    Room,
-    Outcome,
+    Dimension = 1,
+    Length = 2,
+    Band = 3,
+    Cursor = 4,
+    Position = 5,
+    NoStopValue = 6,
+    CutShort = 7,
+    ForeignTag = 8,
+    RepeatedTag = 9,
+    MissingTag = 10,
+    Room = 11,
+    Outcome = 12,
 }
 
-impl Refusal {
-    pub fn number(self) -> u8
-        ensures { result ≡ refusal_number self }
-    {
-        match self {
-            Refusal::Dimension => 1,
-            Refusal::Length => 2,
-            Refusal::Band => 3,
-            Refusal::Cursor => 4,
-            Refusal::Position => 5,
-            Refusal::NoStopValue => 6,
-            Refusal::CutShort => 7,
-            Refusal::ForeignTag => 8,
-            Refusal::RepeatedTag => 9,
-            Refusal::MissingTag => 10,
-            Refusal::Room => 11,
-            Refusal::Outcome => 12,
-        }
+impl From<Refusal> for u8 {
+    ghost from_gives = { λ why n. n ≡ refusal_number why };
+
+    fn from(why: Refusal) -> u8 {
+        why as u8
     }
 }
 
-// What tests found: nothing, or the first refusal and its place in a record, 0 outside of one.
-#[derive(Clone, Copy)]
-pub enum Fault {
-    Sound,
-    At(Refusal, usize),
-}
-
-pub fn is_fault(fault: Fault) -> bool
-    ensures { result ≡ is_fault fault }
+// Document 01's number of an answer: 0, or the refusal's.
+pub fn number<A>(answer: &Result<A, Refusal>) -> u8
+    ensures { result ≡ number_of answer.now }
 {
-    match fault {
-        Fault::Sound => false,
-        Fault::At(_, _) => true,
+    match answer {
+        Ok(_) => 0,
+        Err(why) => u8::from(*why),
     }
+}
+
+// A refusal and its place in a record, 0 outside of one.
+#[derive(Clone, Copy)]
+pub struct Fault {
+    pub why: Refusal,
+    pub place: usize,
 }

@@ -79,12 +79,10 @@ fn root_digits(m: u64) -> u64
     let mut a: u64 = 0;
     let mut rest: u64 = 0;
     let mut d = m;
-    let mut i: u64 = 0;
-    while i < 54 {
+    for _ in 0..54u64 {
         rest = rest * 4 + d / HIDDEN;
         d = d % HIDDEN * 4;
         a = a * 2;
-        i += 1;
         if 2 * a < rest {
             rest = rest - (2 * a + 1);
             a = a + 1;

@@ -3,8 +3,9 @@
 use lists::rooms::{front, plus};
 use lists::tally::Replayed;
 use lists::words::{floats, put, put_floats, word};
-use numbers::arr::{Number, Written, copy_from, dot, dot_mv_into, eye, from_diag};
+use numbers::arr::{copy_from, dot, dot_mv_into, eye, from_diag};
 use numbers::bits::to_bits;
+use numbers::refusal::{Refusal, number};
 use std::num::wrapping_add_usize;
 
 // n, where the slices begin, and the length of each; the last is the output, which the case gives only where lengths are any.
@@ -57,11 +58,11 @@ fn is_exact(ins: usize, p: Places) -> bool {
     plus(inputs, if p.any { p.out } else { 0 }) == ins
 }
 
-fn put_number(x: Number, any: bool, got: &mut [u8]) -> Replayed {
-    let number = x.number();
+fn put_number(x: Result<f64, Refusal>, any: bool, got: &mut [u8]) -> Replayed {
+    let number = number(&x);
     let value = match x {
-        Number::Value(v) => to_bits(v),
-        Number::Refused(_) => 0,
+        Ok(v) => to_bits(v),
+        Err(_) => 0,
     };
     if any {
         put(got, 0, number as u64);
@@ -76,8 +77,8 @@ fn put_number(x: Number, any: bool, got: &mut [u8]) -> Replayed {
 }
 
 // `out` as the call left it.
-fn put_written(w: Written, any: bool, out: &[f64], got: &mut [u8]) -> Replayed {
-    let number = w.number();
+fn put_written(w: Result<(), Refusal>, any: bool, out: &[f64], got: &mut [u8]) -> Replayed {
+    let number = number(&w);
     if any {
         put(got, 0, number as u64);
         put_floats(got, 1, out);

@@ -5,8 +5,9 @@ use lists::tally::Replayed;
 use lists::words::{float, put, word};
 use numbers::bits::{of_bits, to_bits};
 use numbers::cut::{CutAnswer, CutChoice, Params};
-use numbers::ell_calc::{EllCalc, NewEllCalc};
+use numbers::ell_calc::EllCalc;
 use numbers::ell_calc_core::EllCalcCore;
+use numbers::refusal::number;
 use numbers::sqrt::sqrt;
 
 fn put_float(got: &mut [u8], k: usize, x: f64) {
@@ -129,7 +130,7 @@ pub(crate) fn replay_calc(op: u64, ins: usize, inputs: &[u8], got: &mut [u8]) ->
         return Replayed::Unfit;
     }
     match EllCalc::new(word(inputs, 0) as usize) {
-        NewEllCalc::Made(made) => {
+        Ok(made) => {
             let h = made.helper;
             let c = EllCalc {
                 n_f: made.n_f,
@@ -139,7 +140,7 @@ pub(crate) fn replay_calc(op: u64, ins: usize, inputs: &[u8], got: &mut [u8]) ->
             put_answer(got, calc_answer(op, c, inputs));
             Replayed::Words(4)
         }
-        NewEllCalc::Refused(r) => Replayed::Refused(r.number()),
+        Err(r) => Replayed::Refused(u8::from(r)),
     }
 }
 
@@ -149,15 +150,15 @@ pub(crate) fn replay_new(ins: usize, inputs: &[u8], got: &mut [u8]) -> Replayed 
         return Replayed::Unfit;
     }
     let new = EllCalc::new(word(inputs, 0) as usize);
-    put(got, 0, new.number() as u64);
+    put(got, 0, number(&new) as u64);
     match new {
-        NewEllCalc::Made(c) => {
+        Ok(c) => {
             let h = c.helper;
             put_float(got, 1, c.n_f);
             put_core(got, 2, h);
             put(got, 8, c.use_parallel_cut as u64);
         }
-        NewEllCalc::Refused(_) => put_zeros(got),
+        Err(_) => put_zeros(got),
     }
     Replayed::Words(9)
 }

@@ -1,10 +1,10 @@
 -- The ellipsoid with a full matrix (ell.rs). Definitions only.
+use Rattle.numbers.specs.Refusal.{Tests}
 use Rattle.std.specs.Prelude.{ℕ, ◌*◌, Bool, ◌&&◌, List, leb, eqb, length, Float}
 use Rattle.numbers.specs.F64.{◌⊖◌, ◌⊗◌, ◌⊘◌, 0ᶠ}
 use Rattle.numbers.specs.Pick.{pick}
 use Rattle.numbers.specs.Arr.{dot_of, mv_of, sized}
 use Rattle.numbers.specs.EllCalc.{made}
-use Rattle.numbers.specs.declared.refusal.Fault.{Fault}
 use Rattle.numbers.specs.declared.cut.CutChoice.{CutChoice}
 use Rattle.oracles.specs.Matrix.{nth, at, grid}
 use Rattle.oracles.specs.EllCommon.{calc_of, outcome_answer, centre_of, new_of, Work, Change, change, update_of, update_answer}
@@ -72,7 +72,7 @@ abbrev pub ell_fits : ℕ → List Float → EllBuffers → Bool
 ell_fits n grad b = eqb (length grad) n && eqb (length b.mq) (n * n) && eqb (length b.xc) n && eqb (length b.grad_t) n
 
 -- `update_core`: refusals 1 and 2
-abbrev pub ell_tests : ℕ → List Float → EllBuffers → Fault
+abbrev pub ell_tests : ℕ → List Float → EllBuffers → Tests
 ell_tests n grad b = sized n (ell_fits n grad b)
 
 abbrev pub ell_update_answer : Ell → CutStrategy → List Float → CutChoice → EllBuffers → EllUpdate × EllBuffers

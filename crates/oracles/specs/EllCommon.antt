@@ -4,12 +4,11 @@ use Rattle.std.specs.Float.Ieee.{le, of_bits}
 use Rattle.std.specs.Float.{binary64}
 use Rattle.numbers.specs.F64.{◌⊖◌, ◌⊗◌}
 use Rattle.numbers.specs.Pick.{pick}
-use Rattle.numbers.specs.Refusal.{unless}
+use Rattle.numbers.specs.Refusal.{unless, Tests}
 use Rattle.numbers.specs.Arr.{tab}
 use Rattle.numbers.specs.EllCalc.{new_tests, calc_single_or_parallel_bias_cut, calc_single_or_parallel_central_cut, calc_single_or_parallel_q}
 use Rattle.numbers.specs.declared.refusal.Refusal.{Refusal}
 use Rattle.numbers.specs.declared.refusal.Refusal.TheVariants.{Dimension as WrongDimension, Length as WrongLength}
-use Rattle.numbers.specs.declared.refusal.Fault.{Fault}
 use Rattle.numbers.specs.declared.cut.CutChoice.{CutChoice}
 use Rattle.numbers.specs.declared.cut.CutStatus.{CutStatus}
 use Rattle.numbers.specs.declared.cut.CutStatus.TheVariants.{Success, NoSoln, NoEffect}
@@ -108,5 +107,5 @@ update_of w =
     (change (Status status) (success_of w).0 (tsq_of w) (success_of w).1))
 
 -- `update_core`: a refused call changes nothing
-abbrev pub update_answer : {B X : Type 0} → (Change B → X) → Fault → Float → Float → B → X → X
+abbrev pub update_answer : {B X : Type 0} → (Change B → X) → Tests → Float → Float → B → X → X
 update_answer after tests kappa tsq buffers done = unless tests (λ why place. after (change (Refused why) kappa tsq buffers)) done

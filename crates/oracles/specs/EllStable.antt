@@ -1,11 +1,11 @@
 -- The ellipsoid by factors (ell_stable.rs): the inverse of its matrix is L D Lᵀ; the diagonal holds D's inverse, L[i, j] stands above it at (j, i), scratch below.
 -- Definitions only.
+use Rattle.numbers.specs.Refusal.{Tests}
 use Rattle.std.specs.Prelude.{ℕ, zero, suc, ◌+◌, ◌-◌, ◌*◌, Bool, ◌&&◌, List, [], ◌∷◌, ltb, eqb, length, Float}
 use Rattle.numbers.specs.F64.{◌⊕◌, ◌⊖◌, ◌⊗◌, ◌⊘◌, 0ᶠ, 1ᶠ}
 use Rattle.numbers.specs.Pick.{pick}
 use Rattle.numbers.specs.Arr.{tab, sized}
 use Rattle.numbers.specs.EllCalc.{made}
-use Rattle.numbers.specs.declared.refusal.Fault.{Fault}
 use Rattle.numbers.specs.declared.cut.CutChoice.{CutChoice}
 use Rattle.numbers.specs.declared.cut.Params.{Params}
 use Rattle.oracles.specs.Matrix.{nth, at, grid, total}
@@ -142,7 +142,7 @@ stable_fits n grad b =
     && eqb (length b.inv_ml_g) n && eqb (length b.inv_md_inv_ml_g) n && eqb (length b.gg_t) n && eqb (length b.g_t) n
 
 -- `update_core`: refusals 1 and 2
-abbrev pub stable_tests : ℕ → List Float → StableBuffers → Fault
+abbrev pub stable_tests : ℕ → List Float → StableBuffers → Tests
 stable_tests n grad b = sized n (stable_fits n grad b)
 
 abbrev pub stable_update_answer : EllStable → CutStrategy → List Float → CutChoice → StableBuffers → EllStableUpdate × StableBuffers

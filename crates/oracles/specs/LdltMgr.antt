@@ -1,13 +1,11 @@
 -- The factorization A = L D Lᵀ with its witness (ldlt_mgr.rs), in the Rust's order of operations. Definitions only.
-use Rattle.std.specs.Prelude.{ℕ, zero, suc, ◌+◌, ◌-◌, ◌*◌, Bool, ◌&&◌, List, [], ◌∷◌, ◌++◌, leb, ltb, eqb, length, take, drop, Float}
+use Rattle.numbers.specs.declared.refusal.Refusal.{Refusal}
+use Rattle.std.specs.Prelude.{ℕ, zero, suc, ◌+◌, ◌-◌, ◌*◌, Bool, ◌&&◌, List, [], ◌∷◌, ◌++◌, leb, ltb, eqb, length, take, drop, Float, Err, Ok, Result}
 use Rattle.std.specs.Float.Ieee.{le, neg}
 use Rattle.numbers.specs.F64.{◌⊕◌, ◌⊖◌, ◌⊗◌, ◌⊘◌, 0ᶠ, 1ᶠ, 2ᶠ}
 use Rattle.numbers.specs.Pick.{pick}
-use Rattle.numbers.specs.Refusal.{◌⨾◌, unless, ask}
+use Rattle.numbers.specs.Refusal.{◌⨾◌, unless, ask, Tests}
 use Rattle.numbers.specs.declared.refusal.Refusal.TheVariants.{Dimension, Length, Position}
-use Rattle.numbers.specs.declared.refusal.Fault.{Fault}
-use Rattle.numbers.specs.declared.arr.Number.{Number}
-use Rattle.numbers.specs.declared.arr.Number.TheVariants.{Value, Refused as NoNumber}
 use Rattle.oracles.specs.Matrix.{nth, at, grid, total}
 use Rattle.oracles.specs.declared.ldlt_mgr.Pos.{Pos}
 use Rattle.oracles.specs.declared.ldlt_mgr.Factored.{Factored}
@@ -73,11 +71,11 @@ unfoldable pub factor_of : (ℕ → ℕ → Float) → ℕ → List Float → Fa
 factor_of A m storage = let w = factor_rows A m storage in (pick (eqb w.0 0) Definite (Stopped (position_of w.0)), w.1)
 
 -- refusals 1 and 2 of a call with matrices of order m, whose lengths are right where `fit` is true
-abbrev pub ordered : ℕ → Bool → Fault
+abbrev pub ordered : ℕ → Bool → Tests
 ordered m fit = ask (is_order m) Dimension ⨾ ask fit Length
 
 -- `factor`
-abbrev pub factor_tests : ℕ → List Float → List Float → Fault
+abbrev pub factor_tests : ℕ → List Float → List Float → Tests
 factor_tests m mat storage = ordered m (eqb (length mat) (m * m) && eqb (length storage) (m * m))
 
 abbrev pub factor_answer : ℕ → List Float → List Float → Factored × List Float
@@ -99,13 +97,13 @@ unfoldable pub witness_of : ℕ → Pos → List Float → List Float → List F
 witness_of m pos storage wit = take pos.start wit ++ witness_tail m storage pos.end (pos.end - pos.start) ++ drop pos.end wit
 
 -- `witness`: refusal 5 unless start < end ≤ m; the negated last pivot, and the witness
-abbrev pub witness_tests : ℕ → Pos → List Float → List Float → Fault
+abbrev pub witness_tests : ℕ → Pos → List Float → List Float → Tests
 witness_tests m pos storage wit = ordered m (eqb (length storage) (m * m) && eqb (length wit) m) ⨾ ask (ltb pos.start pos.end && leb pos.end m) Position
 
-abbrev pub witness_answer : ℕ → Pos → List Float → List Float → Number × List Float
+abbrev pub witness_answer : ℕ → Pos → List Float → List Float → Result Float Refusal × List Float
 witness_answer m pos storage wit =
-    unless (witness_tests m pos storage wit) (λ why place. (NoNumber why, wit))
-    (Value (neg (at m storage (pos.end - 1) (pos.end - 1))), witness_of m pos storage wit)
+    unless (witness_tests m pos storage wit) (λ why place. (Err why, wit))
+    (Ok (neg (at m storage (pos.end - 1) (pos.end - 1))), witness_of m pos storage wit)
 
 -- ---- the quadratic form
 
@@ -120,8 +118,8 @@ unfoldable pub quad_of : ℕ → Pos → List Float → List Float → Float
 quad_of m pos wit mat = total ◌⊕◌ 0ᶠ (λ k. quad_term m wit mat pos.end (pos.start + k)) (pos.end - pos.start)
 
 -- `sym_quad`: refusal 5 unless start ≤ end ≤ m
-abbrev pub sym_quad_tests : ℕ → Pos → List Float → List Float → Fault
+abbrev pub sym_quad_tests : ℕ → Pos → List Float → List Float → Tests
 sym_quad_tests m pos wit mat = ordered m (eqb (length wit) m && eqb (length mat) (m * m)) ⨾ ask (leb pos.start pos.end && leb pos.end m) Position
 
-abbrev pub sym_quad_answer : ℕ → Pos → List Float → List Float → Number
-sym_quad_answer m pos wit mat = unless (sym_quad_tests m pos wit mat) (λ why place. NoNumber why) (Value (quad_of m pos wit mat))
+abbrev pub sym_quad_answer : ℕ → Pos → List Float → List Float → Result Float Refusal
+sym_quad_answer m pos wit mat = unless (sym_quad_tests m pos wit mat) (λ why place. Err why) (Ok (quad_of m pos wit mat))

@@ -3,10 +3,9 @@ use Rattle.std.specs.Prelude.{ℕ, ◌-◌, ◌*◌, Bool, ◌&&◌, List, eqb, 
 use Rattle.std.specs.Float.Ieee.{neg}
 use Rattle.numbers.specs.F64.{◌⊗◌, 1ᶠ}
 use Rattle.numbers.specs.Pick.{pick}
-use Rattle.numbers.specs.Refusal.{◌⨾◌, unless, ask}
+use Rattle.numbers.specs.Refusal.{◌⨾◌, unless, ask, Tests}
 use Rattle.numbers.specs.Arr.{sized, tab}
 use Rattle.numbers.specs.declared.refusal.Refusal.TheVariants.{Dimension}
-use Rattle.numbers.specs.declared.refusal.Fault.{Fault}
 use Rattle.numbers.specs.declared.cut.CutChoice.TheVariants.{Single}
 use Rattle.oracles.specs.Matrix.{at}
 use Rattle.oracles.specs.LdltMgr.{is_order, get_elem, factor_rows, position_of, witness_of, quad_of}
@@ -48,7 +47,7 @@ lmi_fits m n mat_b mat_f xc b =
     && eqb (length b.storage) (m * m) && eqb (length b.wit) m && eqb (length b.grad) n
 
 -- `assess_feas`: refusals 1 (m, then n) and 2
-abbrev pub lmi_tests : ℕ → ℕ → List Float → List Float → List Float → LmiBuffers → Fault
+abbrev pub lmi_tests : ℕ → ℕ → List Float → List Float → List Float → LmiBuffers → Tests
 lmi_tests m n mat_b mat_f xc b = ask (is_order m) Dimension ⨾ sized n (lmi_fits m n mat_b mat_f xc b)
 
 unfoldable pub lmi_answer : ℕ → ℕ → List Float → List Float → List Float → LmiBuffers → LmiVerdict × LmiBuffers

@@ -5,11 +5,10 @@ use Rattle.std.specs.Float.{nan, binary64}
 use Rattle.std.specs.Float.Ieee.{lt, neg, of_bits}
 use Rattle.numbers.specs.F64.{0ᶠ}
 use Rattle.numbers.specs.Pick.{pick}
-use Rattle.numbers.specs.Refusal.{unless}
+use Rattle.numbers.specs.Refusal.{unless, Tests}
 use Rattle.numbers.specs.Arr.{is_dimension, row_of}
 use Rattle.numbers.specs.declared.refusal.Refusal.{Refusal}
 use Rattle.numbers.specs.declared.refusal.Refusal.TheVariants.{NoStopValue}
-use Rattle.numbers.specs.declared.refusal.Fault.{Fault}
 use Rattle.numbers.specs.declared.cut.CutChoice.TheVariants.{Single, Parallel}
 use Rattle.oracles.specs.RoundRobin.{is_at, eq_z, with_cur, new_range_answer}
 use Rattle.oracles.specs.Scan.{−∞, none, scan_of, first_fault, violated, band_beta, band_gradient}
@@ -155,11 +154,11 @@ abbrev pub refused_of : LowpassOracle → Refusal → Assessed
 refused_of o why = record { oracle = o; verdict = Refused why }
 
 -- refusals 1 to 4 of a call with an oracle, whose lengths are right where `fit` is true
-abbrev pub oracle_tests : LowpassOracle → ℕ → ℕ → Bool → Fault
+abbrev pub oracle_tests : LowpassOracle → ℕ → ℕ → Bool → Tests
 oracle_tests o n rows fit = first_fault (is_dimension n) fit (bands_fit o rows) (cursors_fit o)
 
 -- `assess_feas`
-abbrev pub assess_tests : LowpassOracle → ℕ → ℕ → List Float → List Float → List Float → Fault
+abbrev pub assess_tests : LowpassOracle → ℕ → ℕ → List Float → List Float → List Float → Tests
 assess_tests o n rows table x grad = oracle_tests o n rows (table_fits n rows table x && eqb (length grad) n)
 
 unfoldable pub assess_feas_answer : LowpassOracle → ℕ → ℕ → List Float → List Float → List Float → Assessed × List Float

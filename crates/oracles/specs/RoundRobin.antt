@@ -2,9 +2,8 @@
 use Rattle.std.specs.Prelude.{Bool, false, ◌&&◌, eqb, ℤ, pos, negsuc, ◌+ℤ◌, ◌-ℤ◌}
 use Rattle.std.specs.Int.Signed.{le_z, lt_z}
 use Rattle.numbers.specs.Pick.{pick}
-use Rattle.numbers.specs.Refusal.{◌⨾◌, unless, ask}
+use Rattle.numbers.specs.Refusal.{◌⨾◌, unless, ask, Tests}
 use Rattle.numbers.specs.declared.refusal.Refusal.TheVariants.{Band, Cursor}
-use Rattle.numbers.specs.declared.refusal.Fault.{Fault}
 use Rattle.oracles.specs.declared.round_robin.RoundRobin.{RoundRobin}
 use Rattle.oracles.specs.declared.round_robin.CursorAnswer.{CursorAnswer}
 use Rattle.oracles.specs.declared.round_robin.CursorAnswer.TheVariants.{Accepted, Refused}
@@ -37,14 +36,14 @@ abbrev pub fresh : ℤ → ℤ → RoundRobin
 fresh lo hi = record { cur = lo -ℤ pos 1; lo = lo; hi = hi }
 
 -- `new_range`: refusal 3 unless lo and hi are a band
-abbrev pub new_range_tests : ℤ → ℤ → Fault
+abbrev pub new_range_tests : ℤ → ℤ → Tests
 new_range_tests lo hi = ask (is_band lo hi) Band
 
 unfoldable pub new_range_answer : ℤ → ℤ → CursorAnswer
 new_range_answer lo hi = unless (new_range_tests lo hi) (λ why place. Refused why) (Accepted (fresh lo hi))
 
 -- `advance`: refusal 3 also for an empty band, then 4
-abbrev pub advance_tests : RoundRobin → Fault
+abbrev pub advance_tests : RoundRobin → Tests
 advance_tests c = ask (is_band c.lo c.hi && lt_z c.lo c.hi) Band ⨾ ask (is_at c) Cursor
 
 unfoldable pub advance_answer : RoundRobin → CursorAnswer

@@ -5,10 +5,9 @@ use Rattle.std.specs.Float.{inf}
 use Rattle.std.specs.Float.Ieee.{lt, neg}
 use Rattle.numbers.specs.F64.{◌⊖◌}
 use Rattle.numbers.specs.Pick.{pick}
-use Rattle.numbers.specs.Refusal.{◌⨾◌, unless, ask}
+use Rattle.numbers.specs.Refusal.{◌⨾◌, unless, ask, Tests}
 use Rattle.numbers.specs.Arr.{is_dimension, row_of}
 use Rattle.numbers.specs.declared.refusal.Refusal.TheVariants.{Dimension, Length, Band, Cursor}
-use Rattle.numbers.specs.declared.refusal.Fault.{Fault}
 use Rattle.numbers.specs.declared.cut.CutChoice.{CutChoice}
 use Rattle.numbers.specs.declared.cut.CutChoice.TheVariants.{Single, Parallel}
 use Rattle.oracles.specs.Table.{is_rows, table_fits, value_of}
@@ -56,11 +55,11 @@ abbrev pub band_fits : ℕ → ℤ → ℤ → Bool
 band_fits rows lo hi = is_rows rows && (is_band lo hi && le_z hi (pos rows))
 
 -- refusals 1 to 4 in their order, by what was found of n, the lengths, the bands and the cursors
-abbrev pub first_fault : Bool → Bool → Bool → Bool → Fault
+abbrev pub first_fault : Bool → Bool → Bool → Bool → Tests
 first_fault dimension lengths bands cursors = (ask dimension Dimension ⨾ ask lengths Length) ⨾ ask bands Band ⨾ ask cursors Cursor
 
 -- `scan_band`: refusals 1, 2, 3 (row count, band, band within the rows) and 4; the answer, and the cursor as it is left
-abbrev pub scan_band_tests : ℕ → ℕ → List Float → List Float → RoundRobin → Fault
+abbrev pub scan_band_tests : ℕ → ℕ → List Float → List Float → RoundRobin → Tests
 scan_band_tests n rows table x c = first_fault (is_dimension n) (table_fits n rows table x) (band_fits rows c.lo c.hi) (is_at c)
 
 unfoldable pub scan_band_answer : ℕ → ℕ → List Float → List Float → RoundRobin → Float → Upper → ScanAnswer × RoundRobin

@@ -1,10 +1,10 @@
 -- Demand 3 in document 01's words ("Verdict"): what a point breaks, said without a cursor, and what an assessment has to answer. Definitions only.
-use Rattle.std.specs.Prelude.{ℕ, ◌≤◌, ◌<◌, ◌-◌, ◌≡◌, Bool, true, false, not, ◌&&◌, ◌||◌, List, ◌⊎◌, leb, ltb, eqb, get_or, ℤ, pos, nat_abs, Float}
+use Rattle.std.specs.Prelude.{ℕ, ◌≤◌, ◌<◌, ◌-◌, ◌≡◌, Bool, true, false, not, ◌&&◌, ◌||◌, List, ◌⊎◌, leb, ltb, eqb, get_or, ℤ, pos, nat_abs, Float, is_err}
 use Rattle.std.specs.Float.{nan}
 use Rattle.std.specs.Float.Ieee.{lt, is_nan}
 use Rattle.numbers.specs.F64.{0ᶠ}
 use Rattle.numbers.specs.Pick.{pick, some}
-use Rattle.numbers.specs.Refusal.{refusal_number, is_fault}
+use Rattle.numbers.specs.Refusal.{refusal_number}
 use Rattle.oracles.specs.RoundRobin.{eq_z}
 use Rattle.oracles.specs.Scan.{−∞, none}
 use Rattle.oracles.specs.Table.{value_of}
@@ -115,7 +115,7 @@ asked o sp n rows table x = record { n = n; rows = rows; limits = limits (offere
 
 -- nothing is refused by 1 to 4
 abbrev pub is_accepted : LowpassOracle → ℕ → ℕ → List Float → List Float → List Float → Bool
-is_accepted o n rows table x grad = not (is_fault (assess_tests o n rows table x grad))
+is_accepted o n rows table x grad = not (is_err (assess_tests o n rows table x grad))
 
 -- the verdict of an answer, without row and betas
 abbrev pub judgement : Verdict → Judgement

@@ -8,7 +8,6 @@ use crate::lowpass_oracle::{Assessed, Group, LowpassOracle, Verdict};
 use crate::round_robin::RoundRobin;
 use crate::scan::{Upper, Violation};
 use crate::scan_band::scan_lent;
-use numbers::arr::fill_zero;
 use numbers::cut::CutChoice;
 
 impl LowpassOracle {
@@ -50,7 +49,7 @@ impl LowpassOracle {
     {
         let x0 = x[0];
         if x0 < 0.0 {
-            fill_zero(grad);
+            grad.fill(0.0);
             grad[0] = -1.0;
             return Assessed {
                 oracle: self,

@@ -4,7 +4,6 @@ ghost use Rattle.std.specs.Float.Ieee.{neg};
 ghost use Rattle.oracles.specs.Scan.{band_beta, band_gradient};
 
 use crate::scan::Upper;
-use numbers::arr::copy_from;
 use numbers::cut::CutChoice;
 
 // The gradient of a row below its lower limit.
@@ -27,7 +26,7 @@ pub(crate) fn gradient_into(n: usize, table: &[f64], row: usize, is_over: bool, 
     let at = row * n;
     let end = at + n;
     if is_over {
-        copy_from(n, grad, &table[at..end]);
+        grad.copy_from_slice(&table[at..end]);
     } else {
         negate_into(&table[at..end], grad);
     }

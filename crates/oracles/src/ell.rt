@@ -13,7 +13,7 @@ use crate::ell_common::{
 use crate::matrix::at;
 use numbers::arr::{dot_mv_into, dot_zip, is_dimension};
 use numbers::cut::{CutChoice, CutStatus};
-use numbers::ell_calc::{EllCalc, NewEllCalc};
+use numbers::ell_calc::EllCalc;
 use numbers::refusal::Refusal;
 
 // What is kept beside the matrix mq and the centre xc.
@@ -119,13 +119,13 @@ impl Ell {
         ensures { result ≡ new_ell_answer n kappa }
     {
         match EllCalc::new(n) {
-            NewEllCalc::Made(helper) => NewEll::Made(Ell {
+            Ok(helper) => NewEll::Made(Ell {
                 ndim: n,
                 kappa,
                 helper,
                 tsq: 0.0,
             }),
-            NewEllCalc::Refused(why) => NewEll::Refused(why),
+            Err(why) => NewEll::Refused(why),
         }
     }
 
@@ -168,7 +168,7 @@ impl Ell {
             ≡ update_of (ell_work self strategy grad.now beta (ell_buffers mq.old xc.old grad_t.old)) }
     {
         let n = self.ndim;
-        dot_mv_into(n, mq, grad, grad_t);
+        let _ = dot_mv_into(n, mq, grad, grad_t); // the lengths fit
         let omega = dot_zip(grad, grad_t);
         if is_tiny(omega) {
             return with_status(self.kappa, self.tsq, CutStatus::NoEffect);

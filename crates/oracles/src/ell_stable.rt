@@ -10,9 +10,9 @@ ghost use Rattle.oracles.specs.laws.EllStableCalls.{StableLong};
 
 use crate::ell_common::{CutStrategy, Update, is_success, is_tiny, lengths_fit, move_centre};
 use crate::ell_factors::{backward, forward, omega_into, rank_one, scale_into};
-use numbers::arr::{copy_from, is_dimension};
+use numbers::arr::is_dimension;
 use numbers::cut::{CutChoice, CutStatus, Params};
-use numbers::ell_calc::{EllCalc, NewEllCalc};
+use numbers::ell_calc::EllCalc;
 use numbers::refusal::Refusal;
 
 // What is kept beside the factors mq and the centre xc.
@@ -53,7 +53,7 @@ fn prepare(
         × (inv_md_inv_ml_g.new ≡ tab (inv_md_inv_ml_g_of n mq.old grad.now) n)
         × (gg_t.new ≡ tab (gg_t_of n mq.old grad.now) n) }
 {
-    copy_from(n, inv_ml_g, grad);
+    inv_ml_g.copy_from_slice(grad);
     forward(n, mq, inv_ml_g, gg_t);
     scale_into(n, mq, inv_ml_g, inv_md_inv_ml_g);
     omega_into(inv_ml_g, inv_md_inv_ml_g, gg_t)
@@ -76,11 +76,11 @@ fn succeed(
         × (mq.new ≡ factors_after n mq.old z.now grad.now (t_start omega params.sigma))
         × (g_t.new ≡ tab (λ l. less_columns n mq.old grad.now l l) n) }
 {
-    copy_from(n, g_t, z);
+    g_t.copy_from_slice(z);
     backward(n, mq, g_t);
     move_centre(xc, params.rho / omega, g_t);
     let mu = params.sigma / (1.0 - params.sigma);
-    copy_from(n, g_t, grad);
+    g_t.copy_from_slice(grad);
     rank_one(n, mq, z, g_t, omega / mu);
 }
 
@@ -104,13 +104,13 @@ impl EllStable {
         ensures { result ≡ new_ell_stable_answer n kappa }
     {
         match EllCalc::new(n) {
-            NewEllCalc::Made(helper) => NewEllStable::Made(EllStable {
+            Ok(helper) => NewEllStable::Made(EllStable {
                 ndim: n,
                 kappa,
                 helper,
                 tsq: 0.0,
             }),
-            NewEllCalc::Refused(why) => NewEllStable::Refused(why),
+            Err(why) => NewEllStable::Refused(why),
         }
     }
 

@@ -6,7 +6,6 @@ ghost use Rattle.oracles.specs.LdltMgr.{is_order, get_elem, reduced, filled, fac
 ghost use Rattle.oracles.specs.laws.Ldlt.{LmiReads, FactoredTo};
 
 use crate::matrix::at;
-use numbers::arr::Number;
 use numbers::refusal::Refusal;
 
 // The rows of a leading block that is not positive definite: start to end − 1.
@@ -157,27 +156,27 @@ pub(crate) fn witness_into(m: usize, pos: Pos, storage: &[f64], wit: &mut [f64])
 }
 
 // The vector that proves a stopped factorization's matrix not positive definite, and the negated last pivot.
-pub fn witness(m: usize, pos: Pos, storage: &[f64], wit: &mut [f64]) -> Number
+pub fn witness(m: usize, pos: Pos, storage: &[f64], wit: &mut [f64]) -> Result<f64, Refusal>
     ensures { (result, wit.new) ≡ witness_answer m pos storage.now wit.old }
 {
     if !is_order(m) {
-        return Number::Refused(Refusal::Dimension);
+        return Err(Refusal::Dimension);
     }
     if storage.len() != m * m {
-        return Number::Refused(Refusal::Length);
+        return Err(Refusal::Length);
     }
     if wit.len() != m {
-        return Number::Refused(Refusal::Length);
+        return Err(Refusal::Length);
     }
     if pos.start >= pos.end {
-        return Number::Refused(Refusal::Position);
+        return Err(Refusal::Position);
     }
     if pos.end > m {
-        return Number::Refused(Refusal::Position);
+        return Err(Refusal::Position);
     }
     witness_into(m, pos, storage, wit);
     let last = pos.end - 1;
-    Number::Value(-at(m, storage, last, last))
+    Ok(-at(m, storage, last, last))
 }
 
 // The part of the quadratic form that row i gives, from the upper triangle.
@@ -210,23 +209,23 @@ pub(crate) fn quad(m: usize, pos: Pos, wit: &[f64], mat: &[f64]) -> f64
 }
 
 // The quadratic form of `mat` at the witness, from the upper triangle.
-pub fn sym_quad(m: usize, pos: Pos, wit: &[f64], mat: &[f64]) -> Number
+pub fn sym_quad(m: usize, pos: Pos, wit: &[f64], mat: &[f64]) -> Result<f64, Refusal>
     ensures { result ≡ sym_quad_answer m pos wit.now mat.now }
 {
     if !is_order(m) {
-        return Number::Refused(Refusal::Dimension);
+        return Err(Refusal::Dimension);
     }
     if wit.len() != m {
-        return Number::Refused(Refusal::Length);
+        return Err(Refusal::Length);
     }
     if mat.len() != m * m {
-        return Number::Refused(Refusal::Length);
+        return Err(Refusal::Length);
     }
     if pos.start > pos.end {
-        return Number::Refused(Refusal::Position);
+        return Err(Refusal::Position);
     }
     if pos.end > m {
-        return Number::Refused(Refusal::Position);
+        return Err(Refusal::Position);
     }
-    Number::Value(quad(m, pos, wit, mat))
+    Ok(quad(m, pos, wit, mat))
 }

@@ -223,8 +223,8 @@ impl LowpassOracle {
             self.cursors_fit(),
         );
         match fault {
-            Fault::Sound => self.assess(n, table, x, grad),
-            Fault::At(why, _) => Assessed {
+            Ok(()) => self.assess(n, table, x, grad),
+            Err(Fault { why, .. }) => Assessed {
                 oracle: self,
                 verdict: Verdict::Refused(why),
             },

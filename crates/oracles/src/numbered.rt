@@ -17,7 +17,7 @@ impl CursorAnswer {
     {
         match self {
             CursorAnswer::Accepted(_) => 0,
-            CursorAnswer::Refused(why) => why.number(),
+            CursorAnswer::Refused(why) => u8::from(why),
         }
     }
 }
@@ -28,7 +28,7 @@ impl ScanAnswer {
     {
         match self {
             ScanAnswer::Scanned(_) => 0,
-            ScanAnswer::Refused(why) => why.number(),
+            ScanAnswer::Refused(why) => u8::from(why),
         }
     }
 }
@@ -40,7 +40,7 @@ impl Verdict {
         match self {
             Verdict::Feasible => 0,
             Verdict::Cut(_, _) => 0,
-            Verdict::Refused(why) => why.number(),
+            Verdict::Refused(why) => u8::from(why),
         }
     }
 }
@@ -52,7 +52,7 @@ impl OptimVerdict {
         match self {
             OptimVerdict::Improved(_) => 0,
             OptimVerdict::Cut(_, _) => 0,
-            OptimVerdict::Refused(why) => why.number(),
+            OptimVerdict::Refused(why) => u8::from(why),
         }
     }
 }
@@ -64,7 +64,7 @@ impl Factored {
         match self {
             Factored::Definite => 0,
             Factored::Stopped(_) => 0,
-            Factored::Refused(why) => why.number(),
+            Factored::Refused(why) => u8::from(why),
         }
     }
 }
@@ -76,7 +76,7 @@ impl LmiVerdict {
         match self {
             LmiVerdict::Feasible => 0,
             LmiVerdict::Cut(_, _) => 0,
-            LmiVerdict::Refused(why) => why.number(),
+            LmiVerdict::Refused(why) => u8::from(why),
         }
     }
 }
@@ -87,7 +87,7 @@ impl Update {
     {
         match self {
             Update::Status(_) => 0,
-            Update::Refused(why) => why.number(),
+            Update::Refused(why) => u8::from(why),
         }
     }
 }
@@ -98,7 +98,7 @@ impl NewEll {
     {
         match self {
             NewEll::Made(_) => 0,
-            NewEll::Refused(why) => why.number(),
+            NewEll::Refused(why) => u8::from(why),
         }
     }
 }
@@ -109,7 +109,7 @@ impl NewEllStable {
     {
         match self {
             NewEllStable::Made(_) => 0,
-            NewEllStable::Refused(why) => why.number(),
+            NewEllStable::Refused(why) => u8::from(why),
         }
     }
 }

@@ -62,22 +62,39 @@ pub(crate) fn scan_lent(
 }
 
 // Refusals 1 to 4 in their order, by what was found of n, the lengths, the bands and the cursors.
-pub(crate) fn first_fault(dimension: bool, lengths: bool, bands: bool, cursors: bool) -> Fault
+pub(crate) fn first_fault(
+    dimension: bool,
+    lengths: bool,
+    bands: bool,
+    cursors: bool,
+) -> Result<(), Fault>
     ensures { result ≡ first_fault dimension lengths bands cursors }
 {
     if !dimension {
-        return Fault::At(Refusal::Dimension, 0);
+        return Err(Fault {
+            why: Refusal::Dimension,
+            place: 0,
+        });
     }
     if !lengths {
-        return Fault::At(Refusal::Length, 0);
+        return Err(Fault {
+            why: Refusal::Length,
+            place: 0,
+        });
     }
     if !bands {
-        return Fault::At(Refusal::Band, 0);
+        return Err(Fault {
+            why: Refusal::Band,
+            place: 0,
+        });
     }
     if !cursors {
-        return Fault::At(Refusal::Cursor, 0);
+        return Err(Fault {
+            why: Refusal::Cursor,
+            place: 0,
+        });
     }
-    Fault::Sound
+    Ok(())
 }
 
 // `scan_band` with the cursor by value.
@@ -100,14 +117,14 @@ fn scan_by_value(
         rr.is_at(),
     );
     match fault {
-        Fault::Sound => {
+        Ok(()) => {
             let scan = scan_rows(n, table, x, rr, lower, upper);
             ScanEnd {
                 answer: ScanAnswer::Scanned(scan),
                 cursor: rr.with_cur(scan.last),
             }
         }
-        Fault::At(why, _) => ScanEnd {
+        Err(Fault { why, .. }) => ScanEnd {
             answer: ScanAnswer::Refused(why),
             cursor: rr,
         },

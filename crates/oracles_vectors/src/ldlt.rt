@@ -4,7 +4,7 @@ use lists::pushes::Bytes;
 use lists::rooms::{Room, fill, front, part, plus, times};
 use lists::tally::Replayed;
 use lists::words::word;
-use numbers::arr::Number;
+use numbers::refusal::{Refusal, number};
 use numbers::bits::to_bits;
 use oracles::ldlt_mgr::{Factored, Pos, factor, sym_quad, witness};
 
@@ -55,10 +55,10 @@ fn call_factor(m: usize, mat: &[f64], storage: &mut [f64]) -> Answered {
 }
 
 // The value is 0 where a call is refused.
-fn value_of(x: Number) -> Answered {
+fn value_of(x: Result<f64, Refusal>) -> Answered {
     match x {
-        Number::Value(v) => answered_word(x.number(), to_bits(v), 1),
-        Number::Refused(_) => answered_word(x.number(), 0, 1),
+        Ok(v) => answered_word(number(&x), to_bits(v), 1),
+        Err(_) => answered_word(number(&x), 0, 1),
     }
 }
 

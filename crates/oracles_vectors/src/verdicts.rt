@@ -35,7 +35,7 @@ fn broken(group: Group) -> Seen {
 
 // Refusal 6 counts as feasible, without a peak.
 fn refused(why: Refusal) -> Seen {
-    let number = why.number() as u64;
+    let number = u8::from(why) as u64;
     Seen {
         verdict: if number == 6 {
             4

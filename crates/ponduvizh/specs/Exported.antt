@@ -1,13 +1,10 @@
 -- What the exported calls answer: the definitions of the three layers, told in numbers. Each call gives 0 or the refusal's number, and the rest through
 -- slices and numbers that it is lent. A refused call leaves those as they were, but for the place of a record's fault and for an optimizing run that 6 halts midway. Definitions only.
-use Rattle.std.specs.Prelude.{ℕ, Bool, List, eqb, Float}
+use Rattle.numbers.specs.declared.refusal.Refusal.{Refusal}
+use Rattle.std.specs.Prelude.{ℕ, Bool, List, eqb, Float, Err, Ok, Result, ⊤}
 use Rattle.numbers.specs.Pick.{pick}
-use Rattle.numbers.specs.Refusal.{refusal_number}
+use Rattle.numbers.specs.Refusal.{refusal_number, number_of}
 use Rattle.numbers.specs.Cut.{status_number}
-use Rattle.numbers.specs.Numbered.{value_number, written_number}
-use Rattle.numbers.specs.declared.arr.Number.{Number}
-use Rattle.numbers.specs.declared.arr.Number.TheVariants.{Value, Refused as NoNumber}
-use Rattle.numbers.specs.declared.arr.Written.{Written}
 use Rattle.numbers.specs.declared.cut.CutChoice.{CutChoice}
 use Rattle.numbers.specs.declared.cut.CutChoice.TheVariants.{Single, Parallel}
 use Rattle.oracles.specs.Ell.{EllBuffers, with_tsq, ell_update_answer}
@@ -27,15 +24,15 @@ use Rattle.oracles.specs.declared.ell_common.Update.TheVariants.{Status, Refused
 -- ---- the first layer, and the factorization
 
 -- the number that is found
-abbrev pub value_or : Number → Float → Float
-value_or (Value x) old = x
-value_or (NoNumber why) old = old
+abbrev pub value_or : Result Float Refusal → Float → Float
+value_or (Ok x) old = x
+value_or (Err why) old = old
 
-abbrev pub number_exported : Number → Float → ℕ × Float
-number_exported a old = (value_number a, value_or a old)
+abbrev pub number_exported : Result Float Refusal → Float → ℕ × Float
+number_exported a old = (number_of a, value_or a old)
 
-abbrev pub written_exported : Written × List Float → ℕ × List Float
-written_exported a = (written_number a.0, a.1)
+abbrev pub written_exported : Result ⊤ Refusal × List Float → ℕ × List Float
+written_exported a = (number_of a.0, a.1)
 
 -- the rows of the leading block that is not positive definite; 0 where there is none
 abbrev pub factored_end : Factored → ℕ → ℕ

@@ -7,23 +7,23 @@ ghost use Rattle.numbers.specs.Sqrt.{sqrt_of, NearestRoot};
 ghost use Rattle.oracles.specs.LdltMgr.{factor_answer};
 ghost use Rattle.ponduvizh.specs.Exported.{value_or, number_exported, written_exported, factored_end, factored_exported};
 
-use numbers::arr::{Number, dot, dot_mv_into};
-use numbers::refusal::Refusal;
+use numbers::arr::{dot, dot_mv_into};
+use numbers::refusal::{Refusal, number};
 use numbers::sqrt::sqrt;
 use oracles::ldlt_mgr::{Factored, factor};
 
 pub(crate) fn code(why: Refusal) -> u64
     ensures { result ≡ refusal_number why }
 {
-    why.number() as u64
+    u8::from(why) as u64
 }
 
-fn value_or(answer: Number, old: f64) -> f64
+fn value_or(answer: Result<f64, Refusal>, old: f64) -> f64
     ensures { result ≡ value_or answer old }
 {
     match answer {
-        Number::Value(value) => value,
-        Number::Refused(_) => old,
+        Ok(value) => value,
+        Err(_) => old,
     }
 }
 
@@ -52,14 +52,14 @@ pub extern "C" fn ponduvizh_dot(n: usize, a: &[f64], b: &[f64], out: &mut f64) -
 {
     let answer = dot(n, a, b);
     *out = value_or(answer, *out);
-    answer.number() as u64
+    number(&answer) as u64
 }
 
 #[unsafe(no_mangle)]
 pub extern "C" fn ponduvizh_dot_mv_into(n: usize, mat: &[f64], x: &[f64], out: &mut [f64]) -> u64
     ensures { (result, out.new) ≡ written_exported (dot_mv_into_answer n mat.now x.now out.old) }
 {
-    dot_mv_into(n, mat, x, out).number() as u64
+    number(&dot_mv_into(n, mat, x, out)) as u64
 }
 
 // `end` becomes 0 for a positive definite matrix, else the number of rows of the leading block that is not.

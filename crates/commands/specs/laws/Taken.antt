@@ -1,16 +1,14 @@
 -- What `take_job` and `take_answer` took, where the slices hold every job and every line: the record, or the line of its own first fault. Assumes nothing.
-use Rattle.std.specs.Prelude.{ℕ, ◌≤◌, length}
+use Rattle.std.specs.Prelude.{ℕ, ◌≤◌, length, Err}
 use Rattle.std.proofs.Math.Path.{◌≡◌, refl, ap, subst}
 use Rattle.std.proofs.Common.{sym, ◌∙◌, arith, le-leb}
 use mathlib.Core.List.{List, []}
 use Rattle.std.specs.Float.Ieee.{Float}
-use Rattle.numbers.specs.Refusal.{◌⨾◌, unless}
+use Rattle.numbers.specs.Refusal.{◌⨾◌, unless, At, Sound, Tests}
 use Rattle.numbers.specs.laws.Arr.{length_tab}
 use Rattle.numbers.specs.laws.Pick.{by_test}
 use Rattle.numbers.specs.laws.Refusal.{held, both_sound, accepts}
 use Rattle.numbers.specs.declared.refusal.Refusal.TheVariants.{Room}
-use Rattle.numbers.specs.declared.refusal.Fault.{Fault}
-use Rattle.numbers.specs.declared.refusal.Fault.TheVariants.{Sound, At}
 use Rattle.streams.specs.declared.output.Stream.TheVariants.{Stderr}
 use Rattle.drivers.specs.Record.{fronted, numbers_at, number_at, place}
 use Rattle.drivers.specs.Rules.{found_place}
@@ -53,15 +51,15 @@ module _ (source : Source) (bytes : List ℕ) (table xc mq : List Float) (out : 
   unfolding take_job_answer
   job_taken_is j table' xc' mq' out' = go (take_job_tests bytes table xc mq) refl
     where
-      go : (fault : Fault) → take_job_tests bytes table xc mq ≡ fault
+      go : (fault : Tests) → take_job_tests bytes table xc mq ≡ fault
           → ◌≡◌ {A = TakenJob × List Float × List Float × List Float × List ℕ} (Taken j, table', xc', mq', out')
           (unless fault (λ why place. with_slices table xc mq (job_refused (refused_line_answer source why place out))) job_done)
           → JobIs j table' xc' mq' out'
       go Sound s e =
           let e₀ : Taken j ≡ Taken (full_job bytes).job = ap (λ z. z.0) e in
           record { tests = s; job_is = cc; table_is = ap (λ z. z.1) e; xc_is = ap (λ z. z.2) e; mq_is = ap (λ z. z.3) e; out_is = ap (λ z. z.4) e }
-      go (At why place) s e =
-          let e₀ : Taken j ≡ Refused (refused_line_answer source why place out).0 = ap (λ z. z.0) e in
+      go (Err fault) s e =
+          let e₀ : Taken j ≡ Refused (refused_line_answer source fault.why fault.place out).0 = ap (λ z. z.0) e in
           absurd (let z : ◌≡◌ {A = ℕ} 0 1 = cc in omega arith)
 
   module _ (t : length table ≡ 32768) (x : length xc ≡ 32) (m : length mq ≡ 1024) where
@@ -73,16 +71,16 @@ module _ (source : Source) (bytes : List ℕ) (table xc mq : List Float) (out : 
     pub job_refused_is : 128 ≤ length out → (text : Text) (table' xc' mq' : List Float) (out' : List ℕ) → (Refused text, table', xc', mq', out') ≡ take_job_answer source bytes table xc mq out
         → (done : Written) → (Stderr, text_in text out') ≡ unless (input_tests bytes ⨾ job_fault bytes) (refusal_written source) done
     unfolding take_job_answer
-    job_refused_is room text table' xc' mq' out' e done = subst (λ (f : Fault). (Stderr, text_in text out') ≡ unless f (refusal_written source) done) (own_faults bytes table xc mq t x m) (go (take_job_tests bytes table xc mq) e)
+    job_refused_is room text table' xc' mq' out' e done = subst (λ (f : Tests). (Stderr, text_in text out') ≡ unless f (refusal_written source) done) (own_faults bytes table xc mq t x m) (go (take_job_tests bytes table xc mq) e)
       where
-        go : (fault : Fault) → ◌≡◌ {A = TakenJob × List Float × List Float × List Float × List ℕ} (Refused text, table', xc', mq', out')
+        go : (fault : Tests) → ◌≡◌ {A = TakenJob × List Float × List Float × List Float × List ℕ} (Refused text, table', xc', mq', out')
             (unless fault (λ why place. with_slices table xc mq (job_refused (refused_line_answer source why place out))) job_done)
             → (Stderr, text_in text out') ≡ unless fault (refusal_written source) done
         go Sound e =
             let e₀ : Refused text ≡ Taken (full_job bytes).job = ap (λ z. z.0) e in
             absurd (let z : ◌≡◌ {A = ℕ} 0 1 = cc in omega arith)
-        go (At why place) e =
-            let line = refused_text source why place in
+        go (Err fault) e =
+            let line = refused_text source fault.why fault.place in
             let e₀ : Refused text ≡ Refused (printed line out).0 = ap (λ z. z.0) e in
             let e₁ : text ≡ (printed line out).0 = cc in
             let e₂ : out' ≡ (printed line out).1 = ap (λ z. z.4) e in
@@ -114,14 +112,14 @@ module _ (n : ℕ) (bytes : List ℕ) (point : List Float) (out : List ℕ) wher
   unfolding take_answer_answer
   answer_taken_is a point' out' = go (take_answer_tests n bytes point) refl
     where
-      go : (fault : Fault) → take_answer_tests n bytes point ≡ fault
+      go : (fault : Tests) → take_answer_tests n bytes point ≡ fault
           → ◌≡◌ {A = TakenAnswer × List Float × List ℕ} (AnswerTaken a, point', out') (unless fault (λ why place. answer_refused point (refused_line_answer OfAnswer why place out)) answer_done)
           → AnswerIs a point' out'
       go Sound s e =
           let e₀ : AnswerTaken a ≡ AnswerTaken (answer_at bytes (answer_walk bytes).1) = ap (λ z. z.0) e in
           record { tests = s; answer_is = cc; point_is = ap (λ z. z.1) e; out_is = ap (λ z. z.2) e }
-      go (At why place) s e =
-          let e₀ : AnswerTaken a ≡ NoAnswer (refused_line_answer OfAnswer why place out).0 = ap (λ z. z.0) e in
+      go (Err fault) s e =
+          let e₀ : AnswerTaken a ≡ NoAnswer (refused_line_answer OfAnswer fault.why fault.place out).0 = ap (λ z. z.0) e in
           absurd (let z : ◌≡◌ {A = ℕ} 0 1 = cc in omega arith)
 
   module _ (h : n ≤ length point) where
@@ -133,7 +131,7 @@ module _ (n : ℕ) (bytes : List ℕ) (point : List Float) (out : List ℕ) wher
 
     own : take_answer_tests n bytes point ≡ (input_tests bytes ⨾ answer_fault n bytes)
     own =
-        ap (λ (f : Fault). input_tests bytes ⨾ f)
+        ap (λ (f : Tests). input_tests bytes ⨾ f)
         (last_held (answer_fault n bytes) (point_room (point_at n bytes (answer_walk bytes).1) (length point)) (λ e. held Room 0 (le-leb _ (length point) point_short)))
 
     pub judges : {a : Answer} {point' : List Float} {out' : List ℕ} → AnswerIs a point' out' → (done : Written) → done ≡ unless (input_tests bytes ⨾ answer_fault n bytes) (refusal_written OfAnswer) done
@@ -142,15 +140,15 @@ module _ (n : ℕ) (bytes : List ℕ) (point : List Float) (out : List ℕ) wher
     pub answer_refused_is : 128 ≤ length out → (text : Text) (point' : List Float) (out' : List ℕ) → (NoAnswer text, point', out') ≡ take_answer_answer n bytes point out
         → (done : Written) → (Stderr, text_in text out') ≡ unless (input_tests bytes ⨾ answer_fault n bytes) (refusal_written OfAnswer) done
     unfolding take_answer_answer
-    answer_refused_is room text point' out' e done = subst (λ (f : Fault). (Stderr, text_in text out') ≡ unless f (refusal_written OfAnswer) done) own (go (take_answer_tests n bytes point) e)
+    answer_refused_is room text point' out' e done = subst (λ (f : Tests). (Stderr, text_in text out') ≡ unless f (refusal_written OfAnswer) done) own (go (take_answer_tests n bytes point) e)
       where
-        go : (fault : Fault) → ◌≡◌ {A = TakenAnswer × List Float × List ℕ} (NoAnswer text, point', out') (unless fault (λ why place. answer_refused point (refused_line_answer OfAnswer why place out)) answer_done)
+        go : (fault : Tests) → ◌≡◌ {A = TakenAnswer × List Float × List ℕ} (NoAnswer text, point', out') (unless fault (λ why place. answer_refused point (refused_line_answer OfAnswer why place out)) answer_done)
             → (Stderr, text_in text out') ≡ unless fault (refusal_written OfAnswer) done
         go Sound e =
             let e₀ : NoAnswer text ≡ AnswerTaken (answer_at bytes (answer_walk bytes).1) = ap (λ z. z.0) e in
             absurd (let z : ◌≡◌ {A = ℕ} 0 1 = cc in omega arith)
-        go (At why place) e =
-            let line = refused_text OfAnswer why place in
+        go (Err fault) e =
+            let line = refused_text OfAnswer fault.why fault.place in
             let e₀ : NoAnswer text ≡ NoAnswer (printed line out).0 = ap (λ z. z.0) e in
             let e₁ : text ≡ (printed line out).0 = cc in
             let e₂ : out' ≡ (printed line out).1 = ap (λ z. z.2) e in

@@ -1,4 +1,5 @@
 -- What the writer of answers has put. Assumes nothing.
+use Rattle.numbers.specs.Refusal.{Sound}
 use Prim.Native.Nat.{ℕ, ◌+◌, ◌*◌, ◌≤◌, ◌<◌}
 use mathlib.Core.Path.{◌≡◌, refl, sym, ap, ◌∙◌}
 use mathlib.Core.Bool.{true, false}
@@ -13,7 +14,6 @@ use Rattle.numbers.specs.Bits.{le_bytes}
 use Rattle.numbers.specs.Arr.{is_dimension, sized}
 use Rattle.numbers.specs.declared.refusal.Refusal.TheVariants.{Dimension, Length, Room}
 use Rattle.numbers.specs.laws.Refusal.{failed, held, at_first, at_next, refuses, accepts}
-use Rattle.numbers.specs.declared.refusal.Fault.TheVariants.{Sound}
 use Rattle.drivers.specs.laws.Text.{put_then, put_one, put_front, put, put_all}
 use Rattle.drivers.specs.Fields.{Field, field_bytes}
 use Rattle.drivers.specs.laws.AnswerBytes.{none_is, found_is, answer_long}

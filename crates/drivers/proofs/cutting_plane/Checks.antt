@@ -6,9 +6,7 @@ use borrow.Author.Tests.{le-leb, lt-leb}
 use Rattle.numbers.specs.Arr.{is_dimension}
 use Rattle.numbers.specs.laws.Refusal.{failed, held, at_first, at_next}
 use Rattle.numbers.specs.declared.refusal.Refusal.TheVariants.{Dimension, Length, Band, Cursor, Room}
-use Rattle.numbers.specs.Refusal.{◌⨾◌}
-use Rattle.numbers.specs.declared.refusal.Fault.{Fault}
-use Rattle.numbers.specs.declared.refusal.Fault.TheVariants.{Sound, At}
+use Rattle.numbers.specs.Refusal.{◌⨾◌, At, Sound, Tests}
 use Rattle.oracles.specs.laws.Assess.{fits_oracle}
 use Rattle.oracles.specs.LowpassOracle.{bands_fit, cursors_fit}
 use Rattle.oracles.specs.declared.lowpass_oracle.LowpassOracle.{LowpassOracle}
@@ -18,7 +16,7 @@ module _ (o : LowpassOracle) (n rows table mq xc grad grad_t room needed : ℕ) 
   abbrev fits : Bool
   fits = run_fits n rows table mq xc grad grad_t
 
-  abbrev tests : Fault
+  abbrev tests : Tests
   tests = check_of o n rows table mq xc grad grad_t ⨾ room_test needed room
 
   pub no_dimension : is_dimension n ≡ false → At Dimension 0 ≡ tests

@@ -1,12 +1,11 @@
 -- What `cutting_plane_feas` answers, from what its calls answered: the tests, the run. Assumes nothing.
+use Rattle.numbers.specs.Refusal.{At, Sound, Tests}
 use mathlib.Core.Path.{◌≡◌, refl, sym, ap, ◌∙◌}
 use mathlib.Core.Bool.{Bool}
 use mathlib.Core.List.{List}
 use Prim.Native.Nat.{ℕ}
 use lib.Ieee.{Float}
 use Rattle.numbers.specs.declared.refusal.Refusal.{Refusal}
-use Rattle.numbers.specs.declared.refusal.Fault.{Fault}
-use Rattle.numbers.specs.declared.refusal.Fault.TheVariants.{Sound, At}
 use Rattle.numbers.specs.laws.Refusal.{refuses, accepts}
 use Rattle.drivers.specs.CuttingPlane.{State, run_tests, kept}
 use Rattle.drivers.specs.CuttingPlaneFeas.{is_found, feas_run, feas_answer}
@@ -16,7 +15,7 @@ use Rattle.drivers.specs.declared.cutting_plane_feas.FeasAnswer.{FeasAnswer}
 use Rattle.drivers.specs.declared.cutting_plane_feas.FeasAnswer.TheVariants.{Refused as NotRun}
 
 -- the tests said k
-module _ (options : Options) (rows : ℕ) (table : List Float) (s : State) (best : List Float) (k : Fault) (e : k ≡ run_tests rows table s best) where
+module _ (options : Options) (rows : ℕ) (table : List Float) (s : State) (best : List Float) (k : Tests) (e : k ≡ run_tests rows table s best) where
   -- both promises: the answer, and that a refusal gives everything back
   abbrev FeasPromised : FeasAnswer → State → List Float → Type 0
   FeasPromised r s' best' =

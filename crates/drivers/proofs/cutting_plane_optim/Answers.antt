@@ -1,11 +1,10 @@
 -- What `cutting_plane_optim` answers, from what its calls answered: the tests, the run. Assumes nothing.
+use Rattle.numbers.specs.Refusal.{At, Sound, Tests}
 use mathlib.Core.Path.{◌≡◌, refl, sym, ap, ◌∙◌}
 use mathlib.Core.List.{List}
 use Prim.Native.Nat.{ℕ}
 use lib.Ieee.{Float}
 use Rattle.numbers.specs.declared.refusal.Refusal.{Refusal}
-use Rattle.numbers.specs.declared.refusal.Fault.{Fault}
-use Rattle.numbers.specs.declared.refusal.Fault.TheVariants.{Sound, At}
 use Rattle.numbers.specs.laws.Refusal.{refuses, accepts}
 use Rattle.drivers.specs.CuttingPlane.{run_tests}
 use Rattle.drivers.specs.CuttingPlaneOptim.{OptimState, OptimEnd, plain, end_of, optim_run, optim_answer}
@@ -15,7 +14,7 @@ use Rattle.drivers.specs.declared.cutting_plane_optim.OptimAnswer.{OptimAnswer}
 use Rattle.drivers.specs.declared.cutting_plane_optim.OptimAnswer.TheVariants.{Refused as NotRunOptim}
 
 -- the tests said k
-module _ (options : Options) (rows : ℕ) (table : List Float) (s : OptimState) (k : Fault) (e : k ≡ run_tests rows table (plain s) s.best) where
+module _ (options : Options) (rows : ℕ) (table : List Float) (s : OptimState) (k : Tests) (e : k ≡ run_tests rows table (plain s) s.best) where
   abbrev OptimPromised : OptimEnd → Type 0
   OptimPromised r = (r ≡ optim_answer options rows table s) × ((why : Refusal) → r.answer ≡ NotRunOptim why → r ≡ end_of r.answer s)
 

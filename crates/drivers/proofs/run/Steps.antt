@@ -1,4 +1,5 @@
 -- What the calls of a run show: a step with its text, the last line, a refusal. Assumes nothing.
+use Rattle.numbers.specs.Refusal.{At, Sound}
 use Prim.Native.Nat.{ℕ, suc, ◌≤◌, ◌<◌}
 use mathlib.Core.Path.{◌≡◌, sym, ap, ◌∙◌}
 use mathlib.Core.Bool.{Bool, false}
@@ -10,7 +11,6 @@ use lib.ListN.{length}
 use lib.Ieee.{Float}
 use Rattle.numbers.specs.Pick.{pick}
 use Rattle.numbers.specs.declared.refusal.Refusal.{Refusal}
-use Rattle.numbers.specs.declared.refusal.Fault.TheVariants.{Sound, At}
 use Rattle.numbers.specs.laws.Refusal.{both_sound, ask_sound, refuses, accepts}
 use Rattle.numbers.specs.laws.Pick.{hit, skip}
 use Rattle.oracles.specs.Ell.{EllBuffers}

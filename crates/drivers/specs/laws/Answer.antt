@@ -1,29 +1,27 @@
 -- Laws of the answer record: what a record without a fault has. Assumes nothing.
-use Rattle.std.specs.Prelude.{◌≡◌, refl, Bool, true, false, ◌&&◌, List, [], ℕ, ◌≤◌, leb, ltb, length}
+use Rattle.std.specs.Prelude.{◌≡◌, refl, Bool, true, false, ◌&&◌, List, [], ℕ, ◌≤◌, leb, ltb, length, Err}
 use Rattle.std.proofs.Common.{sym, ap, ◌∙◌, arith, ltb-true, ltb-false, leb-true, le-leb}
 use Rattle.std.proofs.lemmas.Bool.{lt-leb}
-use Rattle.numbers.specs.Refusal.{◌⨾◌, ask}
+use Rattle.numbers.specs.Refusal.{◌⨾◌, ask, At, Sound, Tests}
 use Rattle.numbers.specs.Arr.{is_dimension}
 use Rattle.numbers.specs.laws.Pick.{and_parts, is_hit, is_skip}
 use Rattle.numbers.specs.laws.Refusal.{both_sound, ask_sound}
 use Rattle.numbers.specs.laws.Arr.{length_tab}
 use Rattle.numbers.specs.declared.refusal.Refusal.TheVariants.{Dimension, Room}
-use Rattle.numbers.specs.declared.refusal.Fault.{Fault}
-use Rattle.numbers.specs.declared.refusal.Fault.TheVariants.{Sound, At}
 use Rattle.numbers.specs.Pick.{pick}
 use Rattle.drivers.specs.Rules.{found_place}
 use Rattle.drivers.specs.Record.{number_at, numbers_at, fields_of, place, lengths_fault}
 use Rattle.drivers.specs.Answer.{has_point, point_at, answer_walk, outcome_fault, answer_fault, point_room, read_answer_tests}
 
 -- the tests behind the walk, as the code makes them
-abbrev pub content_fault : ℕ → List ℕ → List ℕ → ℕ → Fault
+abbrev pub content_fault : ℕ → List ℕ → List ℕ → ℕ → Tests
 content_fault n bytes places room = lengths_fault n bytes (fields_of bytes) ⨾ outcome_fault bytes places ⨾ point_room (point_at n bytes places) room
 
 -- a chain is read from the front, however it is put together
-chain_assoc : (f g h : Fault) → ((f ⨾ g) ⨾ h) ≡ (f ⨾ g ⨾ h)
+chain_assoc : (f g h : Tests) → ((f ⨾ g) ⨾ h) ≡ (f ⨾ g ⨾ h)
 unfolding pick
 chain_assoc Sound g h = refl
-chain_assoc (At why place) g h = refl
+chain_assoc (Err fault) g h = refl
 
 pub read_chain : (n : ℕ) (bytes : List ℕ) (room : ℕ)
     → read_answer_tests n bytes room ≡ (ask (is_dimension n) Dimension ⨾ (answer_walk bytes).0 ⨾ content_fault n bytes (answer_walk bytes).1 room)
@@ -34,7 +32,7 @@ read_chain n bytes room =
     let l = lengths_fault n bytes (fields_of bytes) in
     let o = outcome_fault bytes (answer_walk bytes).1 in
     let p = point_room (point_at n bytes (answer_walk bytes).1) room in
-    chain_assoc d (w ⨾ l ⨾ o) p ∙ ap (λ (f : Fault). d ⨾ f) (chain_assoc w (l ⨾ o) p ∙ ap (λ (f : Fault). w ⨾ f) (chain_assoc l o p))
+    chain_assoc d (w ⨾ l ⨾ o) p ∙ ap (λ (f : Tests). d ⨾ f) (chain_assoc w (l ⨾ o) p ∙ ap (λ (f : Tests). w ⨾ f) (chain_assoc l o p))
 
 -- n is in its range, and a point that is there has room
 pub record AnswerSound (n : ℕ) (places : List ℕ) (room : ℕ) : Type 0 where

@@ -1,15 +1,15 @@
 -- `belongs` from the assessment of the point that is asked about. Assumes nothing.
-use Rattle.std.specs.Prelude.{◌≡◌, Bool, ◌&&◌, ◌*◌, eqb, length, Float}
+use Rattle.numbers.specs.Refusal.{Tests}
+use Rattle.std.specs.Prelude.{◌≡◌, Bool, ◌&&◌, ◌*◌, eqb, length, Float, is_err}
 use Rattle.std.proofs.Math.Path.{refl, ap}
 use Rattle.std.proofs.Common.{sym, ◌∙◌, true≢false, eq-eqb, eqb-true}
 use Rattle.std.proofs.Math.Bool.{true, false, not}
 use mathlib.Core.List.{List}
 use Rattle.numbers.specs.Pick.{pick}
 use Rattle.numbers.specs.Arr.{is_dimension}
-use Rattle.numbers.specs.Refusal.{is_fault}
+
 use Rattle.numbers.specs.laws.Refusal.{failed, held, at_first, at_next, refuses, by_tests}
 use Rattle.numbers.specs.declared.refusal.Refusal.TheVariants.{Dimension, Length}
-use Rattle.numbers.specs.declared.refusal.Fault.{Fault}
 use Rattle.numbers.specs.laws.Pick.{is_hit, is_skip, by_test, pick_cong, and_parts}
 use Rattle.oracles.specs.Table.{table_fits}
 use Rattle.oracles.specs.LowpassOracle.{oracle_tests, assess_tests, assess_feas_answer}
@@ -111,7 +111,7 @@ module _ (j : Job) (table x : List Float) (a : Answer) (point grad : List Float)
       let same : assess_tests (job_oracle j) j.n j.rows table (asked_point a x point) grad ≡ belongs_tests j table x point grad = ap (oracle_tests (job_oracle j) j.n j.rows) (fits hx hp) in
       by_tests (λ (r : Belonging × List Float). says assessed ≡ r) (belongs_tests j table x point grad) _ _
       (λ why place e. ap says (sym (refuses _ _ (assess_tests (job_oracle j) j.n j.rows table (asked_point a x point) grad) (sym (same ∙ e)) refl)))
-      (λ e. ap (λ (w : Belonging). (w, assessed.1)) (accepted_says (ap (λ (f : Fault). not (is_fault f)) (same ∙ e))))
+      (λ e. ap (λ (w : Belonging). (w, assessed.1)) (accepted_says (ap (λ (f : Tests). not (is_err f)) (same ∙ e))))
 
   -- ---- the answer, from what the code's tests and its assessment r of the point p said, which left the gradient g
 

@@ -1,6 +1,6 @@
 -- What stands where in a record that was written as a list of fields, and what the walk makes of it: folds over that list. Assumes nothing.
 use Prim.Native.Nat.{ℕ, ◌+◌, ◌-◌, ◌*◌}
-use Rattle.std.specs.Prelude.{◌≡◌, Bool, false, ◌&&◌, leb, drop, set, Float}
+use Rattle.std.specs.Prelude.{◌≡◌, Bool, false, ◌&&◌, leb, drop, set, Float, is_err, Err}
 use Rattle.std.proofs.Math.Path.{refl, ap}
 use Rattle.std.proofs.Common.{sym, subst, ◌∙◌, true≢false, add-zero, arith, le-leb, eq-eqb, eqb-true, length-append}
 use Rattle.std.proofs.Math.Bool.{true, not}
@@ -13,10 +13,8 @@ use Rattle.std.proofs.Math.Seq.{drop-append-add}
 use Rattle.numbers.specs.Pick.{pick}
 use Rattle.numbers.specs.Bits.{le_bytes}
 use Rattle.numbers.specs.laws.Pick.{is_hit, is_skip, pick_cong}
-use Rattle.numbers.specs.Refusal.{is_fault, ◌⨾◌, ask_at}
+use Rattle.numbers.specs.Refusal.{◌⨾◌, ask_at, At, Sound, Tests}
 use Rattle.numbers.specs.declared.refusal.Refusal.TheVariants.{Length, CutShort, ForeignTag, RepeatedTag}
-use Rattle.numbers.specs.declared.refusal.Fault.{Fault}
-use Rattle.numbers.specs.declared.refusal.Fault.TheVariants.{Sound, At}
 use Rattle.drivers.specs.declared.rules.Form.{Form}
 use Rattle.drivers.specs.Text.{joined}
 use Rattle.drivers.specs.laws.Text.{joined_append}
@@ -43,21 +41,21 @@ starts at [] = []
 starts at (f ∷ fs) = at ∷ starts (past at f) fs
 
 -- the walk, by the tags alone: 8, 9, and where the contents begin
-abbrev pub tag_fault : Form → List ℕ → ℕ → ℕ → Fault
+abbrev pub tag_fault : Form → List ℕ → ℕ → ℕ → Tests
 tag_fault form places at i = ask_at at (is_of form i) ForeignTag ⨾ ask_at at (not (is_met places i && not (repeats i))) RepeatedTag
 
-unfoldable pub walk_tags : Form → ℕ → List Field → List ℕ → Fault × List ℕ
+unfoldable pub walk_tags : Form → ℕ → List Field → List ℕ → Tests × List ℕ
 walk_tags form at [] places = (Sound, places)
 walk_tags form at (f ∷ fs) places =
     let i = index_of f.0 in
     let g = tag_fault form places at i in
-    pick (is_fault g) (g, places) (walk_tags form (past at f) fs (noted places i (at + 3)))
+    pick (is_err g) (g, places) (walk_tags form (past at f) fs (noted places i (at + 3)))
 
 -- the lengths, by tags and lengths alone
 abbrev pub is_sized : ℕ → Field → Bool
 is_sized n f = eqb (length f.1) (rule_length (index_of f.0) n)
 
-unfoldable pub sizes_fault : ℕ → ℕ → List Field → Fault
+unfoldable pub sizes_fault : ℕ → ℕ → List Field → Tests
 sizes_fault n at [] = Sound
 sizes_fault n at (f ∷ fs) = ask_at at (is_sized n f) Length ⨾ sizes_fault n (past at f) fs
 
@@ -83,9 +81,9 @@ all_rows n (f ∷ fs) = pick (is_row_field f) (numbers_at f.1 0 n) [] ++ all_row
 
 -- ---- the walk over some fields and then others, and over fields of one tag that may repeat
 
-first_sound : (g : Fault) (places : List ℕ) (r : Fault × List ℕ) (places' : List ℕ) → pick (is_fault g) (g, places) r ≡ (Sound, places') → is_fault g ≡ false
+first_sound : (g : Tests) (places : List ℕ) (r : Tests × List ℕ) (places' : List ℕ) → pick (is_err g) (g, places) r ≡ (Sound, places') → is_err g ≡ false
 first_sound Sound places r places' e = refl
-first_sound (At why place) places r places' e = absurd (true≢false (ap (λ (z : Fault × List ℕ). is_fault z.0) (sym (is_hit true (At why place, places) r refl) ∙ e)))
+first_sound (Err fault) places r places' e = absurd (true≢false (ap (λ (z : Tests × List ℕ). is_err z.0) (sym (is_hit true (Err fault, places) r refl) ∙ e)))
 
 pub walk_on : (form : Form) (fs gs : List Field) (at : ℕ) (places places' : List ℕ) → walk_tags form at fs places ≡ (Sound, places')
     → walk_tags form at (fs ++ gs) places ≡ walk_tags form (at + length (record_bytes fs)) gs places'
@@ -95,7 +93,7 @@ walk_on form (f ∷ fs) gs at places places' e =
     let g = tag_fault form places at (index_of f.0) in
     let n : past at f + length (record_bytes fs) ≡ at + length (record_bytes (f ∷ fs)) = omega (arith, length-append (field_bytes f) (record_bytes fs), length_field f) in
     let t = first_sound g places (walk_tags form (past at f) fs (noted places (index_of f.0) (at + 3))) places' e in
-    is_skip (is_fault g) (g, places) _ t ∙ walk_on form fs gs (past at f) (noted places (index_of f.0) (at + 3)) places' (sym (is_skip (is_fault g) (g, places) _ t) ∙ e)
+    is_skip (is_err g) (g, places) _ t ∙ walk_on form fs gs (past at f) (noted places (index_of f.0) (at + 3)) places' (sym (is_skip (is_err g) (g, places) _ t) ∙ e)
     ∙ ap (λ (k : ℕ). walk_tags form k gs places') n
 
 pub noted_met : (places : List ℕ) (i p : ℕ) → is_met places i ≡ true → noted places i p ≡ places
@@ -107,7 +105,7 @@ unfolding walk_tags Each
 walk_many form i [] at places o r m h = refl
 walk_many form i (f ∷ fs) at places o r m h =
     let e : index_of f.0 ≡ i = h.0 in
-    is_skip _ _ _ (ap is_fault (ap (tag_fault form places at) e ∙ sound))
+    is_skip _ _ _ (ap is_err (ap (tag_fault form places at) e ∙ sound))
     ∙ ap (walk_tags form (past at f) fs) (ap (λ (k : ℕ). noted places k (at + 3)) e ∙ noted_met places i (at + 3) m) ∙ walk_many form i fs (past at f) places o r m h.1
   where
     not_and : (b : Bool) → not (b && false) ≡ true
@@ -115,7 +113,7 @@ walk_many form i (f ∷ fs) at places o r m h =
     not_and false = refl
 
     sound : tag_fault form places at i ≡ Sound
-    sound = is_skip _ _ _ (ap is_fault (is_hit _ _ _ o)) ∙ is_hit _ _ _ (ap (λ (b : Bool). not (is_met places i && not b)) r ∙ not_and (is_met places i))
+    sound = is_skip _ _ _ (ap is_err (is_hit _ _ _ o)) ∙ is_hit _ _ _ (ap (λ (b : Bool). not (is_met places i && not b)) r ∙ not_and (is_met places i))
 
 -- ---- and what is read in a record whose bytes from `at` on are theirs
 
@@ -124,9 +122,9 @@ field_sound : (form : Form) (places : List ℕ) (at i : ℕ) (a b : Bool) → a 
 unfolding pick
 field_sound form places at i a b e h = rw (e, h, last_sound (ask_at at (not (is_met places i && not (repeats i))) RepeatedTag))
   where
-    last_sound : (f : Fault) → (f ⨾ Sound) ≡ f
+    last_sound : (f : Tests) → (f ⨾ Sound) ≡ f
     last_sound Sound = refl
-    last_sound (At why place) = refl
+    last_sound (Err fault) = refl
 
 module _ (bytes : List ℕ) where
   fields_are : (fs : List Field) (at : ℕ) → Each Writable fs → drop at bytes ≡ record_bytes fs → fields_after bytes at ≡ starts at fs
@@ -144,11 +142,11 @@ module _ (bytes : List ℕ) where
       let s = stands bytes at f (record_bytes fs) w.0 e in
       let i = index_of f.0 in
       let fault = ap (λ (k : ℕ). field_fault_of k) (index_is bytes s) ∙ field_sound form places at i _ _ (le-leb 3 (length bytes - at) (omega (arith, s.whole))) (not_over bytes s) in
-      ap (λ (g : Fault). pick (is_fault g) (g, places) (walk_of bytes form (starts (past at f) fs) (noted places (index_at bytes at) (content_of bytes at)))) fault
-      ∙ ap (λ (r : Fault × List ℕ). pick (is_fault (tag_fault form places at i)) (tag_fault form places at i, places) r)
+      ap (λ (g : Tests). pick (is_err g) (g, places) (walk_of bytes form (starts (past at f) fs) (noted places (index_at bytes at) (content_of bytes at)))) fault
+      ∙ ap (λ (r : Tests × List ℕ). pick (is_err (tag_fault form places at i)) (tag_fault form places at i, places) r)
       ((λ j. walk_of bytes form (starts (past at f) fs) (noted places (index_is bytes s j) (content_at bytes s j))) ∙ walk_is form fs (past at f) (noted places i (at + 3)) w.1 s.next_is)
     where
-      field_fault_of : ℕ → Fault
+      field_fault_of : ℕ → Tests
       field_fault_of k = ask_at at (leb 3 (length bytes - at)) CutShort ⨾ ask_at at (is_of form k) ForeignTag ⨾ ask_at at (not (is_met places k && not (repeats k))) RepeatedTag ⨾ ask_at at (not (overruns bytes at)) CutShort
 
   lengths_are : (n : ℕ) (fs : List Field) (at : ℕ) → Each Writable fs → drop at bytes ≡ record_bytes fs → lengths_fault n bytes (starts at fs) ≡ sizes_fault n at fs
@@ -190,7 +188,7 @@ module _ (fs : List Field) (w : Each Writable fs) where
   pub record_written : (form : Form) (places places' : List ℕ) → walk_tags form 0 fs places ≡ (Sound, places') → record_fault bytes form places ≡ (missing_fault (length bytes) form places', places')
   unfolding record_fault pick
   record_written form places places' e =
-      ap (λ (r : Fault × List ℕ). (r.0 ⨾ missing_fault (length bytes) form r.1, r.1)) (walk_written form places ∙ e)
+      ap (λ (r : Tests × List ℕ). (r.0 ⨾ missing_fault (length bytes) form r.1, r.1)) (walk_written form places ∙ e)
 
   pub lengths_written : (n : ℕ) → lengths_fault n bytes (fields_of bytes) ≡ sizes_fault n 0 fs
   lengths_written n = ap (lengths_fault n bytes) fields_written ∙ lengths_are bytes n fs 0 w refl

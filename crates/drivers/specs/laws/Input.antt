@@ -1,10 +1,8 @@
 -- Laws of Input: what a reader answers is what is taken, and slices that hold every job leave nothing of room to refuse. Assumes nothing.
-use Rattle.std.specs.Prelude.{ℕ, ◌*◌, ◌≤◌, ◌≡◌, refl, true, false, List, length, Float}
+use Rattle.std.specs.Prelude.{ℕ, ◌*◌, ◌≤◌, ◌≡◌, refl, true, false, List, length, Float, Err}
 use Rattle.std.proofs.Common.{sym, ap, ◌∙◌, mul-le-mul, le-leb}
-use Rattle.numbers.specs.Refusal.{◌⨾◌, unless}
+use Rattle.numbers.specs.Refusal.{◌⨾◌, unless, At, Sound, Tests}
 use Rattle.numbers.specs.declared.refusal.Refusal.TheVariants.{Room}
-use Rattle.numbers.specs.declared.refusal.Fault.{Fault}
-use Rattle.numbers.specs.declared.refusal.Fault.TheVariants.{Sound, At}
 use Rattle.numbers.specs.laws.Pick.{is_hit, is_skip}
 use Rattle.numbers.specs.laws.Refusal.{held, at_next, unless_map}
 use Rattle.drivers.specs.Record.{fronted}
@@ -40,7 +38,7 @@ unfolding read_job_answer take_job_answer
 take_job_is source bytes table xc mq out e =
     let f = full_job bytes in
     unless_map (taken_read source out) (read_job_tests bytes table xc mq) _ _
-    ∙ ap (λ (k : Fault). unless k (λ why place. with_slices table xc mq (job_refused (refused_line_answer source why place out))) (Taken f.job, fronted f.table table, fronted f.point xc, fronted f.matrix mq, out)) (at_next e refl)
+    ∙ ap (λ (k : Tests). unless k (λ why place. with_slices table xc mq (job_refused (refused_line_answer source why place out))) (Taken f.job, fronted f.table table, fronted f.point xc, fronted f.matrix mq, out)) (at_next e refl)
 
 abbrev pub answer_taken : List ℕ → AnswerRead × List Float → TakenAnswer × List Float × List ℕ
 answer_taken out (AnswerIn a, point) = (AnswerTaken a, point, out)
@@ -52,14 +50,14 @@ unfolding read_answer_answer take_answer_answer
 take_answer_is n bytes point out e =
     let places = (answer_walk bytes).1 in
     unless_map (answer_taken out) (read_answer_tests n bytes (length point)) _ _
-    ∙ ap (λ (f : Fault). unless f (λ why place. answer_refused point (refused_line_answer OfAnswer why place out)) (AnswerTaken (answer_at bytes places), fronted (point_at n bytes places) point, out)) (at_next e refl)
+    ∙ ap (λ (f : Tests). unless f (λ why place. answer_refused point (refused_line_answer OfAnswer why place out)) (AnswerTaken (answer_at bytes places), fronted (point_at n bytes places) point, out)) (at_next e refl)
 
 -- ---- with slices for 1,024 rows of 32 numbers there is room for every job
 
 -- a test that holds where the others find nothing adds nothing
-pub last_held : (f g : Fault) → (f ≡ Sound → Sound ≡ g) → (f ⨾ g) ≡ f
+pub last_held : (f g : Tests) → (f ≡ Sound → Sound ≡ g) → (f ⨾ g) ≡ f
 last_held Sound g h = is_skip false Sound g refl ∙ sym (h refl)
-last_held (At why place) g h = is_hit true (At why place) g refl
+last_held (Err fault) g h = is_hit true (Err fault) g refl
 
 -- a sound job fits into them
 room_enough : (j : Job) → JobSound j → has_room j 32768 32 1024 ≡ true
@@ -78,5 +76,5 @@ module _ (bytes : List ℕ) (table xc mq : List Float) (t : length table ≡ 327
   -- so that only the record's own faults are left
   pub own_faults : take_job_tests bytes table xc mq ≡ (input_tests bytes ⨾ job_fault bytes)
   own_faults =
-      ap (λ (f : Fault). input_tests bytes ⨾ f)
+      ap (λ (f : Tests). input_tests bytes ⨾ f)
       (last_held (job_fault bytes) (room_fault (full_job bytes).job (length table) (length xc) (length mq)) (λ e. held Room 0 (room_for_all e)))

@@ -1,14 +1,12 @@
 -- Laws of jobs: what a record without a fault has. Assumes nothing.
-use Rattle.std.specs.Prelude.{◌≡◌, true, false, ◌&&◌, List, ℕ, ◌≤◌, leb, eqb, ℤ, pos, ◌-ℤ◌}
+use Rattle.std.specs.Prelude.{◌≡◌, true, false, ◌&&◌, List, ℕ, ◌≤◌, leb, eqb, ℤ, pos, ◌-ℤ◌, is_err}
 use Rattle.std.proofs.Common.{sym, subst, ◌∙◌, leb-true}
 use Rattle.std.specs.Int.Signed.{le_z}
 use Rattle.numbers.specs.Arr.{is_dimension}
 use Rattle.numbers.specs.laws.Arr.{dimension_most}
 use Rattle.numbers.specs.declared.refusal.Refusal.TheVariants.{Dimension, Length, Band, Cursor}
-use Rattle.numbers.specs.declared.refusal.Fault.{Fault}
-use Rattle.numbers.specs.declared.refusal.Fault.TheVariants.{Sound}
 use Rattle.numbers.specs.laws.Pick.{is_hit, and_parts}
-use Rattle.numbers.specs.Refusal.{is_fault, ◌⨾◌, ask_at}
+use Rattle.numbers.specs.Refusal.{◌⨾◌, ask_at, Sound, Tests}
 use Rattle.numbers.specs.laws.Refusal.{no_fault, both_sound, ask_sound}
 use Rattle.oracles.specs.Scan.{none}
 use Rattle.oracles.specs.Table.{is_rows}
@@ -22,12 +20,12 @@ use Rattle.drivers.specs.Rules.{rule_length, bands_place, cursors_place, n_place
 
 -- ---- the tests behind the walk, as the code makes them: of the job's oracle, and before those tag 01's and the other lengths
 
-abbrev pub oracle_fault : Job → List ℕ → Fault
+abbrev pub oracle_fault : Job → List ℕ → Tests
 oracle_fault j places =
     ask_at (start_of (place places bands_place)) (bands_fit (job_oracle j) j.rows) Band
     ⨾ ask_at (start_of (place places cursors_place)) (cursors_fit (job_oracle j)) Cursor
 
-abbrev pub content_fault : List ℕ → List ℕ → Fault
+abbrev pub content_fault : List ℕ → List ℕ → Tests
 content_fault bytes places =
     let j = job_at bytes places in
     size_fault n_place 2 bytes (place places n_place) ⨾ lengths_fault j.n bytes (fields_of bytes) ⨾ oracle_fault j places
@@ -40,7 +38,7 @@ size_sound rule least bytes p e =
     let range = ask_at (start_of p) (leb least (half_at bytes p) && leb (half_at bytes p) 32) Dimension in
     ask_sound _ Dimension (start_of p) (both_sound own range e).1
 
-pub size_small : (rule least : ℕ) (bytes : List ℕ) (p : ℕ) (f : Fault) → f ≡ size_fault rule least bytes p → is_fault f ≡ false → half_at bytes p ≤ 32
+pub size_small : (rule least : ℕ) (bytes : List ℕ) (p : ℕ) (f : Tests) → f ≡ size_fault rule least bytes p → is_err f ≡ false → half_at bytes p ≤ 32
 size_small rule least bytes p f e t = leb-true (half_at bytes p) 32 (and_parts (leb least (half_at bytes p)) _ (size_sound rule least bytes p (sym e ∙ no_fault f t))).1
 
 -- ---- what a job has that is read

@@ -1,5 +1,5 @@
 -- A job that `read_job` has read can be run, and its run ends with an answer. Assumes nothing.
-use Rattle.std.specs.Prelude.{ℕ, zero, suc, ◌*◌, ◌≤◌, refl, Bool, true, false, ◌&&◌, leb, length, take, replicate}
+use Rattle.std.specs.Prelude.{ℕ, zero, suc, ◌*◌, ◌≤◌, refl, Bool, true, false, ◌&&◌, leb, length, take, replicate, Err}
 use Rattle.std.proofs.Math.Path.{◌≡◌, ap}
 use Rattle.std.proofs.Common.{sym, ◌∙◌, zero-mul, one-mul, add-mul, arith, leb-true, length-append, length-take-le}
 use mathlib.Core.List.{List, [], ◌∷◌}
@@ -8,7 +8,7 @@ use Rattle.numbers.specs.F64.{0ᶠ}
 use Rattle.numbers.specs.Pick.{pick}
 use Rattle.numbers.specs.laws.Arr.{length_tab}
 use Rattle.numbers.specs.laws.Pick.{and_parts}
-use Rattle.numbers.specs.Refusal.{unless}
+use Rattle.numbers.specs.Refusal.{unless, At, Sound, Tests}
 use Rattle.numbers.specs.laws.Refusal.{both_sound, ask_sound}
 use Rattle.oracles.specs.Ell.{EllBuffers, fresh_ell}
 use Rattle.oracles.specs.laws.EllCalls.{EllLong, ell_makes}
@@ -21,8 +21,6 @@ use Rattle.drivers.specs.Run.{run_of, new_run_answer, run_state}
 use Rattle.drivers.specs.laws.StepSound.{fits_sound}
 use Rattle.drivers.specs.laws.RunEnds.{RunEnded, run_ends}
 use Rattle.numbers.specs.declared.refusal.Refusal.TheVariants.{Room}
-use Rattle.numbers.specs.declared.refusal.Fault.{Fault}
-use Rattle.numbers.specs.declared.refusal.Fault.TheVariants.{Sound, At}
 use Rattle.drivers.specs.declared.job.Job.{Job}
 use Rattle.drivers.specs.declared.job.JobAnswer.{JobAnswer}
 use Rattle.drivers.specs.declared.job.JobAnswer.TheVariants.{Read, Refused}
@@ -108,7 +106,7 @@ module _ (bytes : List ℕ) (table xc mq : List Float) where
   job_sound j table' xc' mq' =
       go (full_job bytes) (read_job_tests bytes table xc mq) tests_held
     where
-      go : (f : FullJob) (fault : Fault) → (fault ≡ Sound → JobSound f.job × JobHeld f.job (fronted f.table table) (fronted f.point xc) (fronted f.matrix mq))
+      go : (f : FullJob) (fault : Tests) → (fault ≡ Sound → JobSound f.job × JobHeld f.job (fronted f.table table) (fronted f.point xc) (fronted f.matrix mq))
           → ◌≡◌ {A = JobAnswer × List Float × List Float × List Float}
           (unless fault (λ why place. (Refused why place, table, xc, mq)) (Read f.job, fronted f.table table, fronted f.point xc, fronted f.matrix mq)) (Read j, table', xc', mq')
           → JobSound j × JobHeld j table' xc' mq'
@@ -119,8 +117,8 @@ module _ (bytes : List ℕ) (table xc mq : List Float) where
           let x_is : fronted f.point xc ≡ xc' = ap (λ z. z.2) e in
           let m_is : fronted f.matrix mq ≡ mq' = ap (λ z. z.3) e in
           rw (← j_is, ← t_is, ← x_is, ← m_is) (h refl)
-      go f (At why place) h e =
-          let e₀ : Refused why place ≡ Read j = ap (λ z. z.0) e in
+      go f (Err fault) h e =
+          let e₀ : Refused fault.why fault.place ≡ Read j = ap (λ z. z.0) e in
           absurd (let z : ◌≡◌ {A = ℕ} 0 1 = cc in omega arith)
 
 -- ---- its run

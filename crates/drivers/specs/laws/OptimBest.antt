@@ -1,4 +1,5 @@
 -- What holds between the steps of `cutting_plane_optim`: the tests of a run pass, and a point that is found is the centre of a step, feasible, with the number that is left as its largest stop value. Assumes nothing.
+use Rattle.numbers.specs.Refusal.{Sound}
 use Prim.Native.Nat.{ℕ, zero, suc, ◌+◌, ◌≤◌, ◌<◌}
 use Rattle.std.specs.Prelude.{◌≡◌, refl, true, false, List, leb, length, take, ℤ, Float}
 use Rattle.std.proofs.Common.{sym, subst, ◌∙◌, true≢false, arith, le-leb, leb-true}
@@ -13,7 +14,6 @@ use Rattle.drivers.specs.CuttingPlaneOptim.{OptimState, plain, optim_step}
 use Rattle.drivers.specs.CuttingPlane.{check_state, kept}
 use Rattle.drivers.specs.laws.StepSound.{sound_fits}
 use Rattle.drivers.specs.laws.OptimSound.{offer_asked, Keeps, Passes, optim_step_sound}
-use Rattle.numbers.specs.declared.refusal.Fault.TheVariants.{Sound}
 use Rattle.numbers.specs.laws.Pick.{or_parts, is_hit, by_test}
 use Rattle.numbers.specs.laws.Over.{front_over, length_over}
 

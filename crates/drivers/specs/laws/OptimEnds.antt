@@ -1,4 +1,5 @@
 -- A run of `cutting_plane_optim` that passes its tests ends, or is halted by refusal 6 and by nothing else. Assumes nothing.
+use Rattle.numbers.specs.Refusal.{Sound}
 use Prim.Native.Nat.{ℕ, zero, suc, ◌≤◌, ◌<◌, ◌+◌}
 use Rattle.std.specs.Prelude.{◌≡◌, refl, true, false, List, ◌⊎◌, length, Float}
 use Rattle.std.proofs.Common.{sym, ap, subst, ◌∙◌, inr, arith, le-leb}
@@ -14,7 +15,6 @@ use Rattle.drivers.specs.laws.OptimSound.{offer_asked, OptimStepped, optim_step_
 use Rattle.drivers.specs.laws.OptimBest.{Best, best_later, BeforeStep, start, next}
 use Rattle.drivers.specs.declared.answer.Answer.{Answer}
 use Rattle.drivers.specs.declared.cutting_plane.Options.{Options}
-use Rattle.numbers.specs.declared.refusal.Fault.TheVariants.{Sound}
 use Rattle.drivers.specs.declared.cutting_plane_optim.OptimAnswer.TheVariants.{Ended as EndedOptim, Halted}
 use Rattle.numbers.specs.laws.Pick.{by_test}
 use Rattle.numbers.specs.laws.Refusal.{held, at_next, accepts}

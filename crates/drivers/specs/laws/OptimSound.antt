@@ -2,7 +2,7 @@
 use Rattle.std.specs.Prelude.{ℕ, ◌≡◌, refl, Bool, true, false, ◌&&◌, List, ◌⊎◌, eqb, length, ℤ, Float}
 use Rattle.std.proofs.Common.{sym, ap, ◌∙◌, true≢false, inl, inr, eqb-true}
 use Rattle.numbers.specs.Pick.{pick}
-use Rattle.numbers.specs.Refusal.{refusal_number}
+use Rattle.numbers.specs.Refusal.{refusal_number, Sound}
 use Rattle.numbers.specs.declared.refusal.Refusal.{Refusal}
 use Rattle.numbers.specs.declared.cut.CutChoice.{CutChoice}
 use Rattle.numbers.specs.laws.Pick.{and_parts}
@@ -28,7 +28,6 @@ use Rattle.drivers.specs.CuttingPlane.{check_state, kept}
 use Rattle.drivers.specs.Numbered.{optim_number}
 use Rattle.drivers.specs.laws.StepSound.{Fitting, sound_fits, fits_sound, oracle_accepts, ell_accepts}
 use Rattle.oracles.specs.laws.Untouched.{is_improved, untouched}
-use Rattle.numbers.specs.declared.refusal.Fault.TheVariants.{Sound}
 
 -- ---- a step
 

@@ -7,7 +7,7 @@ use Rattle.std.proofs.Math.ListN.{length, take, replicate, length-replicate}
 use Rattle.std.specs.Float.Ieee.{Float}
 use Rattle.numbers.specs.F64.{0ᶠ}
 use Rattle.numbers.specs.declared.refusal.Refusal.{Refusal}
-use Rattle.numbers.specs.Refusal.{◌⨾◌}
+use Rattle.numbers.specs.Refusal.{◌⨾◌, Sound}
 use Rattle.numbers.specs.laws.Refusal.{held, both_sound, refuses, accepts, by_tests}
 use Rattle.oracles.specs.Ell.{EllBuffers}
 use Rattle.drivers.specs.Record.{fronted}
@@ -22,7 +22,6 @@ use Rattle.drivers.specs.laws.Trace.{calls_print, text_in, printed_by}
 use Rattle.drivers.specs.laws.Calls.{calls_enough, run_all_text}
 use Rattle.drivers.specs.laws.JobRuns.{JobHeld, FullLong, full_long, room_held, tests_held, held_slices, job_run, job_run_sound, run_made, front_is}
 use Rattle.drivers.specs.Program.{first_state, job_text, program_text}
-use Rattle.numbers.specs.declared.refusal.Fault.TheVariants.{Sound}
 use Rattle.drivers.specs.declared.trace.Source.TheVariants.{Only}
 use Rattle.drivers.specs.declared.input.TakenJob.{TakenJob}
 use Rattle.drivers.specs.declared.run.Run.{Run}

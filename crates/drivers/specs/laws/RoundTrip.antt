@@ -12,15 +12,13 @@ use Rattle.numbers.specs.Pick.{pick, some}
 use Rattle.numbers.specs.Bits.{le_bytes}
 use Rattle.numbers.specs.Over.{over}
 use Rattle.numbers.specs.Arr.{is_dimension, sized}
-use Rattle.numbers.specs.Refusal.{ask}
+use Rattle.numbers.specs.Refusal.{ask, Sound, Tests}
 use Rattle.numbers.specs.laws.Over.{over_none, front_over}
 use Rattle.numbers.specs.laws.Bits.{word_low}
 use Rattle.numbers.specs.laws.Arr.{dimension_most}
 use Rattle.numbers.specs.laws.Refusal.{both_sound, ask_sound, held, at_next, accepts, by_tests}
 use Rattle.numbers.specs.declared.refusal.Refusal.{Refusal}
 use Rattle.numbers.specs.declared.refusal.Refusal.TheVariants.{Dimension, Length, Room}
-use Rattle.numbers.specs.declared.refusal.Fault.{Fault}
-use Rattle.numbers.specs.declared.refusal.Fault.TheVariants.{Sound}
 use Rattle.drivers.specs.Text.{joined}
 use Rattle.drivers.specs.Record.{byte_at, half_at, numbers_at, no_places, place, missing_fault, fronted}
 use Rattle.drivers.specs.Fields.{Field, record_bytes}
@@ -51,7 +49,7 @@ module _ (n : ℕ) (fs : List Field) (places : List ℕ) (point : List Float) wh
 
   module _ (t : Taken) where
     walk_is : answer_walk bytes ≡ (Sound, places)
-    walk_is = record_written fs t.writable answer_form no_places places t.walked ∙ ap (λ (f : Fault). (f, places)) t.none_missing
+    walk_is = record_written fs t.writable answer_form no_places places t.walked ∙ ap (λ (f : Tests). (f, places)) t.none_missing
 
     fault_is : Sound ≡ answer_fault n bytes
     unfolding answer_fault outcome_fault

@@ -1,4 +1,5 @@
 -- A run that passes its tests ends with an answer: a point that it finds is feasible, and where it finds none the point that it began with is not. Assumes nothing.
+use Rattle.numbers.specs.Refusal.{Sound}
 use Prim.Native.Nat.{ℕ, zero, suc, ◌+◌, ◌≤◌, ◌<◌}
 use Rattle.std.specs.Prelude.{◌≡◌, refl, Bool, true, false, List, Float}
 use Rattle.std.proofs.Math.Path.{sym}
@@ -8,7 +9,6 @@ use Rattle.drivers.specs.CuttingPlane.{State, check_state}
 use Rattle.drivers.specs.CuttingPlaneFeas.{feas_step, goes_on, feas_ended, feas_run}
 use Rattle.drivers.specs.laws.StepSound.{centre_asked, says_feasible, Stepped, step_sound}
 use Rattle.drivers.specs.declared.answer.Answer.{Answer}
-use Rattle.numbers.specs.declared.refusal.Fault.TheVariants.{Sound}
 use Rattle.drivers.specs.declared.cutting_plane_feas.StepAnswer.{StepAnswer}
 use Rattle.drivers.specs.declared.cutting_plane_feas.StepAnswer.TheVariants.{Feasible, Cut, Refused}
 use Rattle.drivers.specs.declared.cutting_plane_feas.FeasAnswer.{FeasAnswer}

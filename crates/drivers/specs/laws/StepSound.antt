@@ -1,4 +1,5 @@
 -- A step from a state that passes the tests of a run is not refused, and the state that it leaves passes them again. Assumes nothing.
+use Rattle.numbers.specs.Refusal.{Sound}
 use Rattle.std.specs.Prelude.{ℕ, ◌*◌, ◌≡◌, refl, Bool, false, List, eqb, length, Float}
 use Rattle.std.proofs.Common.{sym, ap, ◌∙◌, true≢false}
 use Rattle.std.proofs.Math.Bool.{true}
@@ -22,7 +23,6 @@ use Rattle.oracles.specs.declared.lowpass_oracle.Verdict.{Verdict}
 use Rattle.oracles.specs.declared.lowpass_oracle.Verdict.TheVariants.{Feasible as IsFeasible, Cut as IsCut, Refused as NotAssessed}
 use Rattle.drivers.specs.CuttingPlane.{State, run_fits, check_of, check_state}
 use Rattle.drivers.specs.CuttingPlaneFeas.{cut_answer, feas_cut, feas_step}
-use Rattle.numbers.specs.declared.refusal.Fault.TheVariants.{Sound}
 use Rattle.drivers.specs.declared.cutting_plane_feas.StepAnswer.{StepAnswer}
 use Rattle.drivers.specs.declared.cutting_plane_feas.StepAnswer.TheVariants.{Feasible, Cut, Refused}
 

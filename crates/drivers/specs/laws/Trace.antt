@@ -9,7 +9,7 @@ use native.Mathlib.Omega.{arith}
 use Rattle.std.proofs.lemmas.Bool.{lt-leb}
 use Rattle.std.proofs.Math.ListN.{take}
 use Rattle.numbers.specs.Pick.{pick}
-use Rattle.numbers.specs.Refusal.{refusal_number}
+use Rattle.numbers.specs.Refusal.{refusal_number, Sound}
 use Rattle.numbers.specs.Bits.{bits_of}
 use Rattle.numbers.specs.declared.refusal.Refusal.{Refusal}
 use Rattle.numbers.specs.declared.refusal.Refusal.TheVariants.{Room}
@@ -38,7 +38,6 @@ use Rattle.drivers.specs.declared.cutting_plane_feas.StepAnswer.{StepAnswer}
 use Rattle.drivers.specs.declared.cutting_plane_feas.StepAnswer.TheVariants.{Feasible, Cut, Refused as NotStepped}
 use Rattle.drivers.specs.declared.cutting_plane_feas.FeasAnswer.{FeasAnswer}
 use Rattle.drivers.specs.declared.cutting_plane_feas.FeasAnswer.TheVariants.{Ended, Refused as NotRun}
-use Rattle.numbers.specs.declared.refusal.Fault.TheVariants.{Sound}
 use Rattle.numbers.specs.laws.Refusal.{held, at_next, accepts, failed, refuses}
 use Rattle.drivers.specs.declared.run.Run.{Run}
 use Rattle.drivers.specs.declared.run.Printed.{Printed}

@@ -1,27 +1,18 @@
 -- The tests of a call that takes n and slices whose lengths n says: refusal 1, refusal 2, and what is left. Assumes nothing.
-use mathlib.Core.Path.{◌≡◌}
-use mathlib.Core.Bool.{Bool, true, false, not, ◌&&◌, and-eq-true_iff}
-use borrow.Author.Tests.{not-true, not-false, eqb-true}
-use Prim.Native.Nat.{ℕ}
-use lib.Dec.{eqb}
-use Rattle.numbers.specs.Refusal.{◌⨾◌, ask}
+use Rattle.std.specs.Prelude.{◌≡◌, Bool, Ok, Err, Result, ⊤}
+use Rattle.numbers.specs.Refusal.{◌⨾◌, ask, asked, At, Sound}
+use Rattle.numbers.specs.declared.refusal.Refusal.{Refusal}
 use Rattle.numbers.specs.declared.refusal.Refusal.TheVariants.{Dimension, Length}
-use Rattle.numbers.specs.declared.refusal.Fault.TheVariants.{Sound, At}
-use Rattle.numbers.specs.laws.Pick.{says_no, says_yes}
-use Rattle.numbers.specs.laws.Refusal.{failed, held, at_first, at_next}
+use Rattle.numbers.specs.laws.Refusal.{at_first, at_next, asked_fault, asked_sound}
 
--- `sized`, over any two tests: r is what was answered to the first, `fit` is the second
-module _ (t r fit : Bool) (e : r ≡ t) where
-  pub no_dimension : not r ≡ true → At Dimension 0 ≡ (ask t Dimension ⨾ ask fit Length)
-  no_dimension h = at_first _ (failed (says_no r t e h))
+-- `sized`, over any two tests: r is what was answered to the first, s to the second
+module _ (t fit : Bool) {r : Result ⊤ Refusal} (d : r ≡ asked t Dimension) where
+  pub no_dimension : {e : Refusal} → r ≡ Err e → At e 0 ≡ (ask t Dimension ⨾ ask fit Length)
+  no_dimension h = at_first _ (asked_fault _ _ d h)
 
-  module _ (h : not r ≡ false) where
-    pub no_length : not fit ≡ true → At Length 0 ≡ (ask t Dimension ⨾ ask fit Length)
-    no_length k = at_next (held _ _ (says_yes r t e h)) (failed (not-true fit k))
+  module _ {u : ⊤} {s : Result ⊤ Refusal} (h : r ≡ Ok u) (l : s ≡ asked fit Length) where
+    pub no_length : {e : Refusal} → s ≡ Err e → At e 0 ≡ (ask t Dimension ⨾ ask fit Length)
+    no_length k = at_next (asked_sound _ _ d h) (asked_fault _ _ l k)
 
-    pub all_fit : not fit ≡ false → Sound ≡ (ask t Dimension ⨾ ask fit Length)
-    all_fit k = at_next (held _ _ (says_yes r t e h)) (held _ _ (not-false fit k))
-
--- the lengths that a test of two says
-pub two_fit : (a b c d : ℕ) → not (eqb a c && eqb b d) ≡ false → (a ≡ c) × (b ≡ d)
-two_fit a b c d h = let p = (and-eq-true_iff (eqb a c) (eqb b d)).0 (not-false _ h) in (eqb-true a c p.0, eqb-true b d p.1)
+    pub all_fit : {v : ⊤} → s ≡ Ok v → Sound ≡ (ask t Dimension ⨾ ask fit Length)
+    all_fit k = at_next (asked_sound _ _ d h) (asked_sound _ _ l k)

@@ -1,4 +1,6 @@
 -- Laws that the proofs of both ellipsoids use. Assumes nothing.
+use Rattle.std.specs.Prelude.{Err, Ok, Result, ⊤}
+use Rattle.numbers.specs.Refusal.{Sound, Tests}
 use mathlib.Core.Path.{◌≡◌, refl, sym, ap, ◌∙◌}
 use mathlib.Core.Bool.{Bool, true, false, not, ◌&&◌}
 use mathlib.Core.List.{List}
@@ -14,27 +16,19 @@ use Rattle.numbers.specs.EllCalc.{made, new_answer, new_tests}
 use Rattle.numbers.specs.laws.Pick.{hit, skip, and_parts}
 use Rattle.numbers.specs.laws.Refusal.{held, at_next, accepts, unless_map}
 use Rattle.numbers.specs.declared.refusal.Refusal.{Refusal}
-use Rattle.numbers.specs.declared.refusal.Fault.{Fault}
-use Rattle.numbers.specs.declared.refusal.Fault.TheVariants.{Sound}
-use Rattle.numbers.specs.declared.arr.Written.{Written}
 use Rattle.numbers.specs.declared.cut.CutAnswer.{CutAnswer}
 use Rattle.numbers.specs.declared.cut.CutStatus.TheVariants.{NoEffect}
 use Rattle.numbers.specs.declared.ell_calc.EllCalc.{EllCalc}
-use Rattle.numbers.specs.declared.ell_calc.NewEllCalc.{NewEllCalc}
-use Rattle.numbers.specs.declared.ell_calc.NewEllCalc.TheVariants.{Made as MadeCalc, Refused as NoCalc}
 use Rattle.oracles.specs.declared.ell_common.Update.TheVariants.{Status}
 use Rattle.oracles.specs.EllCommon.{is_tiny, is_success, new_of, Work, Change, change, answer_of, update_of}
 
 -- what the calls of numbers that fill a list leave in it, where they refuse nothing
-filled : (tests : Fault) (new old : List Float) (p : Written × List Float) → p ≡ fills tests new old → Sound ≡ tests → p.1 ≡ new
-filled tests new old p e h = ap (λ (q : Written × List Float). q.1) (e ∙ sym (accepts _ _ tests h refl))
+filled : (tests : Tests) (new old : List Float) (p : Result ⊤ Refusal × List Float) → p ≡ fills tests new old → Sound ≡ tests → p.1 ≡ new
+filled tests new old p e h = ap (λ (q : Result ⊤ Refusal × List Float). q.1) (e ∙ sym (accepts _ _ tests h refl))
 
-pub multiplied : (n : ℕ) (mat x out : List Float) (p : Written × List Float) → p ≡ dot_mv_into_answer n mat x out → is_dimension n ≡ true
+pub multiplied : (n : ℕ) (mat x out : List Float) (p : Result ⊤ Refusal × List Float) → p ≡ dot_mv_into_answer n mat x out → is_dimension n ≡ true
     → length mat ≡ n * n → length x ≡ n → length out ≡ n → p.1 ≡ mv_of n mat x
 multiplied n mat x out p e d h k l = filled (dot_mv_into_tests n mat x out) (mv_of n mat x) out p e (at_next (held _ _ d) (held _ _ (rw (eq-eqb (length mat) (n * n) h, eq-eqb (length x) n k, eq-eqb (length out) n l))))
-
-pub copied : (n : ℕ) (dst src : List Float) (p : Written × List Float) → p ≡ copy_from_answer n dst src → is_dimension n ≡ true → length dst ≡ n → length src ≡ n → p.1 ≡ src
-copied n dst src p e d h k = filled (copy_from_tests n dst src) src dst p e (at_next (held _ _ d) (held _ _ (rw (eq-eqb (length dst) n h, eq-eqb (length src) n k))))
 
 pub dimension_least : (n : ℕ) → is_dimension n ≡ true → 1 ≤ n
 dimension_least n h = omega (arith, leb-true 2 n (and_parts (leb 2 n) (leb n 32) h).0)
@@ -58,13 +52,13 @@ lengths n grad mq xc h =
 
 -- ---- what `new_with_matrix` makes of the calculators' answer
 
-abbrev from_calc : {X : Type 0} → (Refusal → X) → (EllCalc → X) → NewEllCalc → X
-from_calc refused fresh (MadeCalc helper) = fresh helper
-from_calc refused fresh (NoCalc why) = refused why
+abbrev from_calc : {X : Type 0} → (Refusal → X) → (EllCalc → X) → Result EllCalc Refusal → X
+from_calc refused fresh (Ok helper) = fresh helper
+from_calc refused fresh (Err why) = refused why
 
-pub made_from : {X : Type 0} (refused : Refusal → X) (fresh : EllCalc → X) (n : ℕ) (a : NewEllCalc) → a ≡ new_answer n → from_calc refused fresh a ≡ new_of refused (fresh (made n)) n
+pub made_from : {X : Type 0} (refused : Refusal → X) (fresh : EllCalc → X) (n : ℕ) (a : (Result EllCalc Refusal)) → a ≡ new_answer n → from_calc refused fresh a ≡ new_of refused (fresh (made n)) n
 unfolding new_answer
-made_from refused fresh n a e = ap (from_calc refused fresh) e ∙ unless_map (from_calc refused fresh) (new_tests n) (λ why place. NoCalc why) (MadeCalc (made n))
+made_from refused fresh n a e = ap (from_calc refused fresh) e ∙ unless_map (from_calc refused fresh) (new_tests n) (λ why place. Err why) (Ok (made n))
 
 -- ---- the ways through an update, from what its calls answered; c is what it leaves
 

@@ -1,4 +1,6 @@
 -- What the public calls of an oracle answer, by what the tests say. Assumes nothing.
+use Rattle.std.specs.Prelude.{is_err}
+use Rattle.numbers.specs.Refusal.{At, Sound, Tests}
 use mathlib.Core.Path.{◌≡◌, refl, sym, ap, ◌∙◌, subst}
 use mathlib.Core.Bool.{Bool, true, false, not, ◌&&◌, true≢false}
 use mathlib.Core.List.{List, [], ◌∷◌}
@@ -15,10 +17,7 @@ use lib.ListN.{length}
 use lib.Ieee.{Float}
 use Rattle.numbers.specs.laws.Arr.{dimension_least, dimension_most}
 use Rattle.numbers.specs.Arr.{is_dimension}
-use Rattle.numbers.specs.Refusal.{is_fault}
 use Rattle.numbers.specs.declared.refusal.Refusal.{Refusal}
-use Rattle.numbers.specs.declared.refusal.Fault.{Fault}
-use Rattle.numbers.specs.declared.refusal.Fault.TheVariants.{Sound, At}
 use Rattle.numbers.specs.laws.Refusal.{refuses}
 use Rattle.oracles.specs.Table.{table_fits}
 use Rattle.oracles.specs.Scan.{first_fault}
@@ -45,18 +44,18 @@ module _ (o : LowpassOracle) (n rows : ℕ) (table x grad : List Float) where
   with_rule r grad' e = (e, λ h. subst (FeasRule (asked o o.sp_sq n rows table x)) (sym (ap (λ (p : Answer). p.0) e)) (feas_rule o n rows table x grad h))
 
   -- the fault is that of the tests
-  pub tests_found : {f : Fault} {d t b k : Bool} → f ≡ first_fault d (t && eqb (length grad) n) b k
+  pub tests_found : {f : Tests} {d t b k : Bool} → f ≡ first_fault d (t && eqb (length grad) n) b k
       → d ≡ is_dimension n → t ≡ table_fits n rows table x → b ≡ bands_fit o rows → k ≡ cursors_fit o → f ≡ assess_tests o n rows table x grad
   tests_found e hd ht hb hk = fault_by e hd (ap (λ (z : Bool). z && eqb (length grad) n) ht) hb hk
 
   -- the answer by what the tests found
-  pub tests_refuse : {f : Fault} {why : Refusal} {place : ℕ} → f ≡ At why place → f ≡ assess_tests o n rows table x grad
+  pub tests_refuse : {f : Tests} {why : Refusal} {place : ℕ} → f ≡ At why place → f ≡ assess_tests o n rows table x grad
       → (◌≡◌ {A = Answer} (refused_of o why, grad) (assess_feas_answer o n rows table x grad)) × ByFeasRule o n rows table x grad (refused_of o why)
   unfolding assess_feas_answer
   tests_refuse e h = with_rule _ grad (refuses _ _ _ (sym e ∙ h) refl)
 
-  pub tests_accept : {f : Fault} → f ≡ Sound → f ≡ assess_tests o n rows table x grad → is_accepted o n rows table x grad ≡ true
-  tests_accept e h = ap (λ (g : Fault). not (is_fault g)) (sym h ∙ e)
+  pub tests_accept : {f : Tests} → f ≡ Sound → f ≡ assess_tests o n rows table x grad → is_accepted o n rows table x grad ≡ true
+  tests_accept e h = ap (λ (g : Tests). not (is_err g)) (sym h ∙ e)
 
   pub assessed : (r : Assessed) (grad' : List Float) → is_accepted o n rows table x grad ≡ true → ◌≡◌ {A = Answer} (r, grad') (assess_of o n table x grad)
       → (◌≡◌ {A = Answer} (r, grad') (assess_feas_answer o n rows table x grad)) × ByFeasRule o n rows table x grad r

@@ -1,14 +1,12 @@
 -- Laws of an assessment: what its tests say, and the ways it can go. Assumes nothing.
-use Rattle.std.specs.Prelude.{◌≡◌, refl, Bool, true, false, not, ◌&&◌, List, ℕ, ◌*◌, ◌≤◌, leb, eqb, length, get_or, set, replicate, ℤ, pos, negsuc, nat_abs, Float}
+use Rattle.numbers.specs.Refusal.{Sound, Tests}
+use Rattle.std.specs.Prelude.{◌≡◌, refl, Bool, true, false, not, ◌&&◌, List, ℕ, ◌*◌, ◌≤◌, leb, eqb, length, get_or, set, replicate, ℤ, pos, negsuc, nat_abs, Float, is_err}
 use Rattle.std.proofs.Common.{sym, ap, true≢false, mul-le-mul_right, le_refl, arith, leb-true, le-leb, eqb-true}
 use Rattle.std.specs.Int.Signed.{le_z}
 use Rattle.std.specs.Float.{nan}
 use Rattle.std.specs.Float.Ieee.{lt, neg}
 use Rattle.numbers.specs.F64.{0ᶠ}
-use Rattle.numbers.specs.Refusal.{is_fault}
 use Rattle.numbers.specs.Arr.{is_dimension}
-use Rattle.numbers.specs.declared.refusal.Fault.{Fault}
-use Rattle.numbers.specs.declared.refusal.Fault.TheVariants.{Sound}
 use Rattle.numbers.specs.laws.Refusal.{sound_is, held, at_next, accepts}
 use Rattle.numbers.specs.declared.cut.CutChoice.TheVariants.{Single}
 use Rattle.numbers.specs.laws.Pick.{and_parts, by_test}
@@ -125,7 +123,7 @@ accepted_of o n rows table x grad h =
 
 -- from its tests
 pub accepted_by : (o : LowpassOracle) (n rows : ℕ) (table x grad : List Float) → OracleFits o n rows (table_fits n rows table x && eqb (length grad) n) → is_accepted o n rows table x grad ≡ true
-accepted_by o n rows table x grad f = ap (λ (g : Fault). not (is_fault g)) (sym (fits_oracle o n rows (table_fits n rows table x && eqb (length grad) n) f))
+accepted_by o n rows table x grad f = ap (λ (g : Tests). not (is_err g)) (sym (fits_oracle o n rows (table_fits n rows table x && eqb (length grad) n) f))
 
 -- it is assessed
 pub accepted_is : (o : LowpassOracle) (n rows : ℕ) (table x grad : List Float) → is_accepted o n rows table x grad ≡ true → assess_feas_answer o n rows table x grad ≡ assess_of o n table x grad

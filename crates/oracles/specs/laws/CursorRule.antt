@@ -1,5 +1,5 @@
 -- Demand 3: the verdict on a point and its largest stop value follow from the point alone; a cut's row is one of the broken group's and breaks it, wherever the cursors stand. Assumes nothing.
-use Rattle.std.specs.Prelude.{◌≡◌, Bool, true, false, not, ◌&&◌, List, ℕ, ◌≤◌, ◌<◌, ◌+◌, ◌-◌, eqb, get_or, length, ℤ, pos, nat_abs, Float}
+use Rattle.std.specs.Prelude.{◌≡◌, Bool, true, false, not, ◌&&◌, List, ℕ, ◌≤◌, ◌<◌, ◌+◌, ◌-◌, eqb, get_or, length, ℤ, pos, nat_abs, Float, is_err}
 use Rattle.std.proofs.Math.Path.{refl}
 use Rattle.std.proofs.Common.{sym, ap, subst, ◌∙◌, true≢false, inl, inr, arith, le-leb, lt-ltb, le-ltb}
 use Rattle.std.proofs.Math.Nat.{sub-zero}
@@ -8,10 +8,8 @@ use Rattle.std.specs.Float.{nan}
 use Rattle.std.specs.Float.Ieee.{lt, neg, is_nan}
 use Rattle.numbers.specs.F64.{0ᶠ}
 use Rattle.numbers.specs.Pick.{pick, some}
-use Rattle.numbers.specs.Refusal.{refusal_number, is_fault, unless}
+use Rattle.numbers.specs.Refusal.{refusal_number, unless, Sound, Tests}
 use Rattle.numbers.specs.declared.refusal.Refusal.{Refusal}
-use Rattle.numbers.specs.declared.refusal.Fault.{Fault}
-use Rattle.numbers.specs.declared.refusal.Fault.TheVariants.{Sound}
 use Rattle.numbers.specs.declared.cut.CutChoice.TheVariants.{Single}
 use Rattle.numbers.specs.laws.Pick.{none_some, some_holds}
 use Rattle.numbers.specs.laws.Refusal.{of_test, of_chain, by_tests}
@@ -203,7 +201,7 @@ optim_rule o gamma n rows table x grad h =
 -- ---- what is not accepted is refused, by 1 to 4
 
 -- a fault, if it is one, is not by refusal 6
-pub record NotSix (f : Fault) : Type 0 where
+pub record NotSix (f : Tests) : Type 0 where
   pub no : unless f (λ why place. eqb (refusal_number why) 6) false ≡ false
 
 pub not_six : (o : LowpassOracle) (n rows : ℕ) (fit : Bool) → NotSix (oracle_tests o n rows fit)
@@ -213,7 +211,7 @@ not_six o n rows fit =
     (of_chain NotSix _ _ (of_test NotSix _ _ _ z (record { no = refl })) (of_test NotSix _ _ _ z (record { no = refl })))
 
 no_fault_no : (o : LowpassOracle) (n rows : ℕ) (table x grad : List Float) → is_accepted o n rows table x grad ≡ false → assess_tests o n rows table x grad ≡ Sound → ⊥
-no_fault_no o n rows table x grad h e = true≢false (ap (λ (f : Fault). not (is_fault f)) (sym e) ∙ h)
+no_fault_no o n rows table x grad h e = true≢false (ap (λ (f : Tests). not (is_err f)) (sym e) ∙ h)
 
 -- `assess_feas`
 pub refused_unless : (o : LowpassOracle) (n rows : ℕ) (table x grad : List Float) → is_accepted o n rows table x grad ≡ false → judgement (assess_feas_answer o n rows table x grad).0.verdict ≡ refused

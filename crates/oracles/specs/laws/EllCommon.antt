@@ -1,4 +1,5 @@
 -- Laws that the calls of both ellipsoids share. Assumes nothing.
+use Rattle.numbers.specs.Refusal.{Sound, Tests}
 use Rattle.std.specs.Prelude.{◌≡◌, refl, true, false, not, List, ℕ, ◌<◌, length, Float}
 use Rattle.std.proofs.Common.{sym, ap, ◌∙◌, true≢false, arith}
 use Rattle.std.proofs.lemmas.Bool.{not-true, not-false}
@@ -10,8 +11,6 @@ use Rattle.numbers.specs.laws.Arr.{length_tab, tab_entry}
 use Rattle.numbers.specs.laws.Pick.{hit, skip, by_test}
 use Rattle.numbers.specs.laws.Refusal.{held, accepts, by_tests, ask_sound, unless_map}
 use Rattle.numbers.specs.declared.refusal.Refusal.{Refusal}
-use Rattle.numbers.specs.declared.refusal.Fault.{Fault}
-use Rattle.numbers.specs.declared.refusal.Fault.TheVariants.{Sound}
 use Rattle.numbers.specs.declared.cut.CutStatus.{CutStatus}
 use Rattle.numbers.specs.declared.cut.CutStatus.TheVariants.{Success, NoSoln, NoEffect}
 use Rattle.oracles.specs.declared.ell_common.Update.TheVariants.{Status, Refused}
@@ -49,10 +48,10 @@ module _ {X : Type 0} (refused : Refusal → X) (fresh : X) (n : ℕ) where
 -- ---- an update
 
 -- what a call leaves: its refusal changes nothing
-abbrev pub call_of : {B : Type 0} → Fault → Work B → Change B
+abbrev pub call_of : {B : Type 0} → Tests → Work B → Change B
 call_of tests w = update_answer (λ c. c) tests w.kappa w.tsq w.before (update_of w)
 
-pub call_is : {B X : Type 0} (after : Change B → X) (tests : Fault) (w : Work B)
+pub call_is : {B X : Type 0} (after : Change B → X) (tests : Tests) (w : Work B)
     → update_answer after tests w.kappa w.tsq w.before (after (update_of w)) ≡ after (call_of tests w)
 call_is after tests w = sym (unless_map after tests _ _)
 
@@ -82,7 +81,7 @@ module _ {B : Type 0} (w : Work B) where
   pub update_leaves : (P : B → Type 0) → P w.prepared → P (success_of w).1 → P (update_of w).buffers
   update_leaves P p s = by_ways (λ c. P c.buffers) (λ t. p) (λ t u. p) (λ t u. s)
 
-  module _ (tests : Fault) where
+  module _ (tests : Tests) where
     by_answers : (P : Change B → Type 0) → ((why : Refusal) → P (change (Refused why) w.kappa w.tsq w.before)) → P (update_of w) → P (call_of tests w)
     by_answers P f g = by_tests P tests _ _ (λ why place h. f why) (λ h. g)
 

@@ -1,6 +1,7 @@
 -- Document 01, "Known values (P: proved)": all of them, of both layers, as one table with a single proof.
 -- A row has what a definition gives and what the document says, each as words: a float as its bits, an answer as its numbers in order.
-use Rattle.std.specs.Prelude.{ℕ, ◌-◌, ◌≡◌, refl, true, cond, List, [], ◌∷◌, ◌++◌, map, ℤ, pos, negsuc, Float}
+use Rattle.numbers.specs.declared.refusal.Refusal.{Refusal}
+use Rattle.std.specs.Prelude.{ℕ, ◌-◌, ◌≡◌, refl, true, cond, List, [], ◌∷◌, ◌++◌, map, ℤ, pos, negsuc, Float, Err, Ok, Result}
 use Rattle.std.specs.Float.{binary64}
 use Rattle.std.specs.Float.Ieee.{add, neg, lt, sub, mul, div, le, of_int, of_bits, to_bits}
 use Rattle.numbers.specs.Pick.{pick}
@@ -24,8 +25,6 @@ use Rattle.oracles.specs.declared.lowpass_oracle.Group.{Group}
 use Rattle.oracles.specs.declared.lowpass_oracle.Group.TheVariants.{Pass, Stop, Middle, Sign}
 use Rattle.oracles.specs.declared.lowpass_oracle.Verdict.{Verdict}
 use Rattle.oracles.specs.declared.lowpass_oracle.Verdict.TheVariants.{Feasible, Cut, Refused as NotAssessed}
-use Rattle.numbers.specs.declared.arr.Number.{Number}
-use Rattle.numbers.specs.declared.arr.Number.TheVariants.{Value, Refused as NoNumber}
 use Rattle.numbers.specs.declared.cut.CutAnswer.{CutAnswer}
 use Rattle.numbers.specs.declared.cut.CutStatus.{CutStatus}
 use Rattle.numbers.specs.declared.cut.CutStatus.TheVariants.{Success, NoSoln, NoEffect}
@@ -87,9 +86,9 @@ place Definite = 0 ∷ 0 ∷ []
 place (Stopped p) = p.start ∷ p.end ∷ []
 place (Refused why) = []
 
-abbrev number : Number → List ℕ
-number (Value x) = to_bits binary64 x ∷ []
-number (NoNumber why) = []
+abbrev number : Result Float Refusal → List ℕ
+number (Ok x) = to_bits binary64 x ∷ []
+number (Err why) = []
 
 -- three rows of 2, and a fresh oracle over them: nwpass 1, nwstop 2, limits 1, 2, 4
 abbrev table : List Float

@@ -1,5 +1,5 @@
 -- Laws of the definitions of LdltMgr. Assumes nothing.
-use Rattle.std.specs.Prelude.{◌≡◌, Bool, ◌&&◌, ◌⊎◌, List, [], ltb, eqb, length, Float}
+use Rattle.std.specs.Prelude.{◌≡◌, Bool, ◌&&◌, ◌⊎◌, List, [], ltb, eqb, length, Float, Ok}
 use Rattle.std.proofs.Math.Path.{refl, sym, ap}
 use Rattle.std.proofs.Common.{◌∙◌, inl, inr, zero-mul, eq-or-lt_of_le, arith}
 use Rattle.std.proofs.Math.Bool.{true, false}
@@ -12,7 +12,6 @@ use Rattle.numbers.specs.Pick.{pick}
 use Rattle.numbers.specs.Refusal.{ask}
 use Rattle.numbers.specs.declared.refusal.Refusal.{Refusal}
 use Rattle.numbers.specs.declared.refusal.Refusal.TheVariants.{Dimension}
-use Rattle.numbers.specs.declared.arr.Number.TheVariants.{Value}
 use Rattle.numbers.specs.laws.Pick.{hit, skip}
 use Rattle.numbers.specs.laws.Refusal.{ask_sound, both_sound, held, at_next, accepts, by_tests}
 use Rattle.oracles.specs.Matrix.{at, total}
@@ -287,7 +286,7 @@ factor_stopped m mat storage pos out =
     (λ e h. rows_stopped (get_elem m mat [] []) m storage pos out (ask_sound (is_order m) _ _ (both_sound (ask (is_order m) Dimension) _ e).0) h)
 
 pub witness_follows : (m : ℕ) (pos : Pos) (out wit : List Float) → StoppedAt m pos out → length wit ≡ m
-    → witness_answer m pos out wit ≡ (Value (neg (at m out (pos.end - 1) (pos.end - 1))), witness_of m pos out wit)
+    → witness_answer m pos out wit ≡ (Ok (neg (at m out (pos.end - 1) (pos.end - 1))), witness_of m pos out wit)
 witness_follows m pos out wit h l =
     sym
     (accepts _ _ (witness_tests m pos out wit)

@@ -2,10 +2,8 @@
 use Rattle.std.specs.Prelude.{◌≡◌, Bool, true, ◌&&◌, ◌⊎◌, List, ℕ, suc, ◌≤◌, ◌<◌, ◌+◌, ◌-◌, ◌*◌, eqb, length, ℤ, pos, nat_abs, ◌-ℤ◌, Float}
 use Rattle.std.proofs.Common.{sym, ap, ◌∙◌, inl, inr, eq-or-lt_of_le, mul-le-mul_right, le_trans, le_of_eq, arith, leb-true, eqb-true}
 use Rattle.std.specs.Int.Signed.{le_z}
-use Rattle.numbers.specs.Refusal.{◌⨾◌, ask}
+use Rattle.numbers.specs.Refusal.{◌⨾◌, ask, Sound, Tests}
 use Rattle.numbers.specs.declared.refusal.Refusal.TheVariants.{Dimension, Length, Band}
-use Rattle.numbers.specs.declared.refusal.Fault.{Fault}
-use Rattle.numbers.specs.declared.refusal.Fault.TheVariants.{Sound}
 use Rattle.numbers.specs.laws.Pick.{and_parts}
 use Rattle.numbers.specs.laws.Refusal.{both_sound, ask_sound}
 use Rattle.oracles.specs.Table.{is_rows}
@@ -30,7 +28,7 @@ all_hold d l b c e =
     (ask_sound _ _ _ q.0, ask_sound _ _ _ q.1, ask_sound _ _ _ r.0, ask_sound _ _ _ r.1)
 
 -- the same fault from equal tests
-pub fault_by : {f : Fault} {d l b c d' l' b' c' : Bool} → f ≡ first_fault d l b c → d ≡ d' → l ≡ l' → b ≡ b' → c ≡ c' → f ≡ first_fault d' l' b' c'
+pub fault_by : {f : Tests} {d l b c d' l' b' c' : Bool} → f ≡ first_fault d l b c → d ≡ d' → l ≡ l' → b ≡ b' → c ≡ c' → f ≡ first_fault d' l' b' c'
 fault_by e hd hl hb hc = e ∙ (λ i. first_fault (hd i) (hl i) (hb i) (hc i))
 
 -- rows that the tests allow can be read

@@ -1,12 +1,11 @@
 -- The smallest inputs of docs/DIFFERENCES.md, where a definition shows them. Assumes nothing.
-use Rattle.std.specs.Prelude.{◌≡◌, refl, true, List, [], ◌∷◌, pos, negsuc, Float}
+use Rattle.std.specs.Prelude.{◌≡◌, refl, true, List, [], ◌∷◌, pos, negsuc, Float, Err, Ok}
 use Rattle.std.specs.Float.{nan, binary64}
 use Rattle.std.specs.Float.Ieee.{of_bits, add, sub, mul, div, neg, le, lt}
 use Rattle.numbers.specs.F64.{0ᶠ, 1ᶠ, 2ᶠ}
 use Rattle.numbers.specs.Pick.{pick}
 use Rattle.numbers.specs.Arr.{tab, dot_from, dot_of}
 use Rattle.numbers.specs.declared.refusal.Refusal.TheVariants.{Dimension, Band, Position, NoStopValue}
-use Rattle.numbers.specs.declared.arr.Number.TheVariants.{Value, Refused as NoNumber}
 use Rattle.oracles.specs.RoundRobin.{fresh, advanced, new_range_answer, advance_answer}
 use Rattle.oracles.specs.Scan.{−∞, none, scan_from, scan_of}
 use Rattle.oracles.specs.Table.{value_of}
@@ -53,11 +52,11 @@ unfolding add mul le lt of_bits pick dot_from dot_of advanced value_of scan_from
 no_stop_row = refl
 
 -- a witness of nothing, and a quadratic form from 2 to 1
-pub no_witness : witness_answer 1 (position_of 0) (0ᶠ ∷ []) (0ᶠ ∷ []) ≡ (NoNumber Position, 0ᶠ ∷ [])
+pub no_witness : witness_answer 1 (position_of 0) (0ᶠ ∷ []) (0ᶠ ∷ []) ≡ (Err Position, 0ᶠ ∷ [])
 unfolding pick
 no_witness = refl
 
-pub no_form : sym_quad_answer 2 (record { start = 2; end = 1 }) (0ᶠ ∷ 0ᶠ ∷ []) (0ᶠ ∷ 0ᶠ ∷ 0ᶠ ∷ 0ᶠ ∷ []) ≡ NoNumber Position
+pub no_form : sym_quad_answer 2 (record { start = 2; end = 1 }) (0ᶠ ∷ 0ᶠ ∷ []) (0ᶠ ∷ 0ᶠ ∷ 0ᶠ ∷ 0ᶠ ∷ []) ≡ Err Position
 unfolding pick
 no_form = refl
 
@@ -77,7 +76,7 @@ pub lower_read : (factor_answer 2 lopsided zeros).0 ≡ Stopped (position_of 2)
 unfolding add sub mul div le of_bits pick tab total get_elem taken reduced stored stop_from stop_of grid filled factor_rows factor_of
 lower_read = refl
 
-pub upper_read : sym_quad_answer 2 (position_of 2) (witness_answer 2 (position_of 2) (factor_answer 2 lopsided zeros).1 (0ᶠ ∷ 0ᶠ ∷ [])).1 lopsided ≡ Value (of_bits binary64 0x4014_0000_0000_0000)
+pub upper_read : sym_quad_answer 2 (position_of 2) (witness_answer 2 (position_of 2) (factor_answer 2 lopsided zeros).1 (0ᶠ ∷ 0ᶠ ∷ [])).1 lopsided ≡ Ok (of_bits binary64 0x4014_0000_0000_0000)
 unfolding add sub mul div neg le of_bits pick tab total get_elem taken reduced stored stop_from stop_of grid filled factor_rows factor_of witness_tail witness_of quad_term quad_of
 upper_read = refl
 

@@ -1,57 +1,56 @@
 -- `drivers::answer::content_fault` meets its contract, a fault at a time. Assumes nothing.
+use Rattle.std.specs.Prelude.{is_err}
 use mathlib.Core.Path.{◌≡◌, sym, ◌∙◌}
 use mathlib.Core.Bool.{true, false, ◌&&◌}
 use mathlib.Core.List.{List}
 use Prim.Native.Nat.{ℕ}
 use lib.Dec.{ltb}
 use Rattle.numbers.specs.declared.refusal.Refusal.TheVariants.{Room}
-use Rattle.numbers.specs.Refusal.{is_fault, ◌⨾◌}
+use Rattle.numbers.specs.Refusal.{◌⨾◌, At, Sound, Tests}
 use Rattle.numbers.specs.laws.Refusal.{stops, passes, failed, held}
-use Rattle.numbers.specs.declared.refusal.Fault.{Fault}
-use Rattle.numbers.specs.declared.refusal.Fault.TheVariants.{Sound, At}
 use Rattle.drivers.specs.Record.{fields_of, lengths_fault}
 use Rattle.drivers.specs.Answer.{has_point, point_at, outcome_fault, point_room}
 use Rattle.drivers.specs.laws.Answer.{content_fault, no_room, room_there}
 use Rattle.drivers.proofs.answer.content_fault.Goals as goal
 
 -- the lengths' test said f, the outcome's g
-module _ (n : ℕ) (bytes places : List ℕ) (room : ℕ) (f : Fault) (e : f ≡ lengths_fault n bytes (fields_of bytes)) where
-  at_lengths : is_fault f ≡ true → f ≡ content_fault n bytes places room
+module _ (n : ℕ) (bytes places : List ℕ) (room : ℕ) (f : Tests) (e : f ≡ lengths_fault n bytes (fields_of bytes)) where
+  at_lengths : is_err f ≡ true → f ≡ content_fault n bytes places room
   at_lengths t = rw (← e) (stops f _ t)
 
-  module _ (t : is_fault f ≡ false) (g : Fault) (d : g ≡ outcome_fault bytes places) where
-    answer : (r : Fault) → r ≡ (g ⨾ point_room (point_at n bytes places) room) → r ≡ content_fault n bytes places room
+  module _ (t : is_err f ≡ false) (g : Tests) (d : g ≡ outcome_fault bytes places) where
+    answer : (r : Tests) → r ≡ (g ⨾ point_room (point_at n bytes places) room) → r ≡ content_fault n bytes places room
     answer r h = rw (← e, ← d) (passes f _ r t h)
 
-    at_outcome : is_fault g ≡ true → g ≡ content_fault n bytes places room
+    at_outcome : is_err g ≡ true → g ≡ content_fault n bytes places room
     at_outcome u = answer g (stops g _ u)
 
-    module _ (u : is_fault g ≡ false) where
+    module _ (u : is_err g ≡ false) where
       at_room : (has_point places && ltb room n) ≡ true → At Room 0 ≡ content_fault n bytes places room
       at_room h = answer (At Room 0) (passes g _ (At Room 0) u (failed (no_room n bytes places room h)))
 
       sound : (has_point places && ltb room n) ≡ false → Sound ≡ content_fault n bytes places room
       sound h = answer Sound (passes g _ Sound u (held Room 0 (room_there n bytes places room h)))
 
-pub returns-then-is_fault : goal.returns-then-is_fault
-returns-then-is_fault c =
+pub returns-then-is_err : goal.returns-then-is_err
+returns-then-is_err c =
     let a = c.args in
-    at_lengths a.n a.bytes.now a.places.now a.room _ c.lengths_fault-fault.ensures (sym c.is_fault.ensures ∙ c.if-is_fault.true)
+    at_lengths a.n a.bytes.now a.places.now a.room _ c.lengths_fault-fault.ensures (sym c.is_err.ensures.value ∙ c.if-is_err.true)
 
-pub returns-then-is_fault-2 : goal.returns-then-is_fault-2
-returns-then-is_fault-2 c =
+pub returns-then-is_err-2 : goal.returns-then-is_err-2
+returns-then-is_err-2 c =
     let a = c.args in
-    at_outcome a.n a.bytes.now a.places.now a.room _ c.lengths_fault-fault.ensures (sym c.is_fault.ensures ∙ c.if-is_fault.false)
-    _ c.outcome_fault-fault.ensures (sym c.is_fault-2.ensures ∙ c.if-is_fault-2.true)
+    at_outcome a.n a.bytes.now a.places.now a.room _ c.lengths_fault-fault.ensures (sym c.is_err.ensures.value ∙ c.if-is_err.false)
+    _ c.outcome_fault-fault.ensures (sym c.is_err-2.ensures.value ∙ c.if-is_err-2.true)
 
 pub returns-then-places-room : goal.returns-then-places-room
 returns-then-places-room c =
     let a = c.args in
-    at_room a.n a.bytes.now a.places.now a.room _ c.lengths_fault-fault.ensures (sym c.is_fault.ensures ∙ c.if-is_fault.false)
-    _ c.outcome_fault-fault.ensures (sym c.is_fault-2.ensures ∙ c.if-is_fault-2.false) c.if-places-room.true
+    at_room a.n a.bytes.now a.places.now a.room _ c.lengths_fault-fault.ensures (sym c.is_err.ensures.value ∙ c.if-is_err.false)
+    _ c.outcome_fault-fault.ensures (sym c.is_err-2.ensures.value ∙ c.if-is_err-2.false) c.if-places-room.true
 
 pub returns : goal.returns
 returns c =
     let a = c.args in
-    sound a.n a.bytes.now a.places.now a.room _ c.lengths_fault-fault.ensures (sym c.is_fault.ensures ∙ c.if-is_fault.false)
-    _ c.outcome_fault-fault.ensures (sym c.is_fault-2.ensures ∙ c.if-is_fault-2.false) c.if-places-room.false
+    sound a.n a.bytes.now a.places.now a.room _ c.lengths_fault-fault.ensures (sym c.is_err.ensures.value ∙ c.if-is_err.false)
+    _ c.outcome_fault-fault.ensures (sym c.is_err-2.ensures.value ∙ c.if-is_err-2.false) c.if-places-room.false

@@ -1,11 +1,11 @@
 -- `drivers::answer::outcome_fault` meets its contract. Assumes nothing.
+use Rattle.numbers.specs.Refusal.{At, Sound}
 use mathlib.Core.Path.{◌≡◌, ap, ◌∙◌}
 use mathlib.Core.List.{List}
 use Prim.Native.Nat.{ℕ}
 use borrow.Author.Tests.{eq-eqb, ne_eqb}
 use Rattle.numbers.specs.declared.refusal.Refusal.TheVariants.{Outcome}
 use Rattle.numbers.specs.laws.Refusal.{failed, held}
-use Rattle.numbers.specs.declared.refusal.Fault.TheVariants.{Sound, At}
 use Rattle.drivers.specs.Rules.{outcome_place}
 use Rattle.drivers.specs.Record.{byte_at, start_of, place}
 use Rattle.drivers.specs.Answer.{outcome_byte, has_point, outcome_fault}

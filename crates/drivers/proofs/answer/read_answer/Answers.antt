@@ -1,4 +1,5 @@
 -- `drivers::answer::read_answer` meets its contract. Assumes nothing.
+use Rattle.numbers.specs.Refusal.{At, Sound, Tests}
 use mathlib.Core.Path.{◌≡◌, refl, sym, ◌∙◌}
 use mathlib.Core.List.{List}
 use Prim.Native.Nat.{ℕ}
@@ -10,14 +11,12 @@ use Rattle.numbers.specs.laws.Refusal.{refuses, accepts}
 use Rattle.drivers.specs.Record.{fronted}
 use Rattle.drivers.specs.Answer.{answer_at, point_at, answer_walk, read_answer_answer, read_answer_tests}
 use Rattle.drivers.specs.laws.Answer.{AnswerSound, answer_sound}
-use Rattle.numbers.specs.declared.refusal.Fault.{Fault}
-use Rattle.numbers.specs.declared.refusal.Fault.TheVariants.{Sound, At}
 use Rattle.drivers.specs.declared.answer.Answer.{Answer}
 use Rattle.drivers.specs.declared.answer.AnswerRead.TheVariants.{Read, Refused}
 use Rattle.drivers.proofs.answer.read_answer.Goals as goal
 
 -- the tests found f, and without a fault the places are the walk's
-module _ (n : ℕ) (bytes : List ℕ) (point : List Float) (f : Fault) (e : f ≡ read_answer_tests n bytes (length point)) where
+module _ (n : ℕ) (bytes : List ℕ) (point : List Float) (f : Tests) (e : f ≡ read_answer_tests n bytes (length point)) where
   refused : (why : Refusal) (place : ℕ) → f ≡ At why place → (Refused why place, point) ≡ read_answer_answer n bytes point
   unfolding read_answer_answer
   refused why place v = refuses _ _ _ (sym v ∙ e) refl
@@ -34,20 +33,20 @@ pub fill_answer-requires : goal.fill_answer-requires
 fill_answer-requires c =
     let a = c.args in
     let f = c.answer_fault-fault.ensures in
-    let q = sound a.n a.bytes.now a.point.now _ f.value c.in-Sound.is _ f.places_after in
+    let q = sound a.n a.bytes.now a.point.now _ f.value c.in-Ok.is _ f.places_after in
     (dimension_most a.n q.dimension, q.has_room)
 
-pub returns-in-At : goal.returns-in-At
-returns-in-At c =
+pub returns-in-Err : goal.returns-in-Err
+returns-in-Err c =
     let a = c.args in
-    refused a.n a.bytes.now a.point.now _ c.answer_fault-fault.ensures.value _ _ c.in-At.is
+    refused a.n a.bytes.now a.point.now _ c.answer_fault-fault.ensures.value _ _ c.in-Err.is
 
-pub returns-in-Sound : goal.returns-in-Sound
-returns-in-Sound c =
+pub returns-in-Ok : goal.returns-in-Ok
+returns-in-Ok c =
     let a = c.args in
     let f = c.answer_fault-fault.ensures in
     let r = c.fill_answer.ensures in
-    read a.n a.bytes.now a.point.now _ f.value c.in-Sound.is _ f.places_after _ _ r.value r.point_after
+    read a.n a.bytes.now a.point.now _ f.value c.in-Ok.is _ f.places_after _ _ r.value r.point_after
 
 pub answer_fault-fault-requires : goal.answer_fault-fault-requires
 answer_fault-fault-requires c = refl

@@ -1,11 +1,11 @@
 -- `drivers::job::content_fault` meets its contract, a fault at a time. Assumes nothing.
+use Rattle.std.specs.Prelude.{is_err}
 use mathlib.Core.Path.{◌≡◌, sym, ◌∙◌}
 use mathlib.Core.Bool.{true, false}
 use mathlib.Core.List.{List}
 use Prim.Native.Nat.{ℕ, ◌≤◌}
-use Rattle.numbers.specs.Refusal.{is_fault, ◌⨾◌}
+use Rattle.numbers.specs.Refusal.{◌⨾◌, Tests}
 use Rattle.numbers.specs.laws.Refusal.{stops, passes}
-use Rattle.numbers.specs.declared.refusal.Fault.{Fault}
 use Rattle.drivers.specs.Rules.{n_place}
 use Rattle.drivers.specs.Record.{size_fault, fields_of, half_at, lengths_fault, place}
 use Rattle.drivers.specs.Job.{job_at}
@@ -18,37 +18,37 @@ unfolding job_at
 n_small bytes places j d h = rw d h
 
 -- the first test said f, the lengths' g
-module _ (bytes places : List ℕ) (f : Fault) (e : f ≡ size_fault n_place 2 bytes (place places n_place)) where
-  at_size : is_fault f ≡ true → f ≡ content_fault bytes places
+module _ (bytes places : List ℕ) (f : Tests) (e : f ≡ size_fault n_place 2 bytes (place places n_place)) where
+  at_size : is_err f ≡ true → f ≡ content_fault bytes places
   at_size t = rw (← e) (stops f _ t)
 
-  module _ (t : is_fault f ≡ false) (j : Job) (d : j ≡ job_at bytes places) (g : Fault) (e₂ : g ≡ lengths_fault j.n bytes (fields_of bytes)) where
-    answer : (r : Fault) → r ≡ (g ⨾ oracle_fault j places) → r ≡ content_fault bytes places
+  module _ (t : is_err f ≡ false) (j : Job) (d : j ≡ job_at bytes places) (g : Tests) (e₂ : g ≡ lengths_fault j.n bytes (fields_of bytes)) where
+    answer : (r : Tests) → r ≡ (g ⨾ oracle_fault j places) → r ≡ content_fault bytes places
     answer r h = rw (← d, ← e, ← e₂) (passes f _ r t h)
 
-    at_lengths : is_fault g ≡ true → g ≡ content_fault bytes places
+    at_lengths : is_err g ≡ true → g ≡ content_fault bytes places
     at_lengths u = answer g (stops g _ u)
 
-    behind : is_fault g ≡ false → (r : Fault) → r ≡ oracle_fault j places → r ≡ content_fault bytes places
+    behind : is_err g ≡ false → (r : Tests) → r ≡ oracle_fault j places → r ≡ content_fault bytes places
     behind u r h = answer r (passes g _ r u h)
 
-pub returns-then-is_fault : goal.returns-then-is_fault
-returns-then-is_fault c =
+pub returns-then-is_err : goal.returns-then-is_err
+returns-then-is_err c =
     let a = c.args in
-    at_size a.bytes.now a.places.now _ c.size_fault-fault.ensures (sym c.is_fault.ensures ∙ c.if-is_fault.true)
+    at_size a.bytes.now a.places.now _ c.size_fault-fault.ensures (sym c.is_err.ensures.value ∙ c.if-is_err.true)
 
 pub lengths_fault-fault-requires : goal.lengths_fault-fault-requires
 lengths_fault-fault-requires c =
-    n_small _ _ _ c.job_at-job.ensures (size_small n_place 2 _ _ _ c.size_fault-fault.ensures (sym c.is_fault.ensures ∙ c.if-is_fault.false))
+    n_small _ _ _ c.job_at-job.ensures (size_small n_place 2 _ _ _ c.size_fault-fault.ensures (sym c.is_err.ensures.value ∙ c.if-is_err.false))
 
-pub returns-then-is_fault-2 : goal.returns-then-is_fault-2
-returns-then-is_fault-2 c =
+pub returns-then-is_err-2 : goal.returns-then-is_err-2
+returns-then-is_err-2 c =
     let a = c.args in
-    at_lengths a.bytes.now a.places.now _ c.size_fault-fault.ensures (sym c.is_fault.ensures ∙ c.if-is_fault.false)
-    _ c.job_at-job.ensures _ c.lengths_fault-fault.ensures (sym c.is_fault-2.ensures ∙ c.if-is_fault-2.true)
+    at_lengths a.bytes.now a.places.now _ c.size_fault-fault.ensures (sym c.is_err.ensures.value ∙ c.if-is_err.false)
+    _ c.job_at-job.ensures _ c.lengths_fault-fault.ensures (sym c.is_err-2.ensures.value ∙ c.if-is_err-2.true)
 
 pub returns : goal.returns
 returns c =
     let a = c.args in
-    behind a.bytes.now a.places.now _ c.size_fault-fault.ensures (sym c.is_fault.ensures ∙ c.if-is_fault.false)
-    _ c.job_at-job.ensures _ c.lengths_fault-fault.ensures (sym c.is_fault-2.ensures ∙ c.if-is_fault-2.false) _ c.oracle_fault.ensures
+    behind a.bytes.now a.places.now _ c.size_fault-fault.ensures (sym c.is_err.ensures.value ∙ c.if-is_err.false)
+    _ c.job_at-job.ensures _ c.lengths_fault-fault.ensures (sym c.is_err-2.ensures.value ∙ c.if-is_err-2.false) _ c.oracle_fault.ensures

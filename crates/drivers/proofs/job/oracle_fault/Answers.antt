@@ -1,10 +1,10 @@
 -- `drivers::job::oracle_fault` meets its contract. Assumes nothing.
+use Rattle.numbers.specs.Refusal.{At, Sound}
 use mathlib.Core.Path.{◌≡◌, ap, ◌∙◌}
 use mathlib.Core.Bool.{Bool, true, false, not}
 use mathlib.Core.List.{List}
 use Prim.Native.Nat.{ℕ}
 use Rattle.numbers.specs.declared.refusal.Refusal.TheVariants.{Band, Cursor}
-use Rattle.numbers.specs.declared.refusal.Fault.TheVariants.{Sound, At}
 use Rattle.numbers.specs.laws.Pick.{says_no, says_yes}
 use Rattle.numbers.specs.laws.Refusal.{failed, held, at_first, at_next}
 use Rattle.oracles.specs.LowpassOracle.{bands_fit, cursors_fit}

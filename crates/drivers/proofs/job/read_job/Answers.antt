@@ -6,17 +6,15 @@ use Prim.Native.Nat.{ℕ, ◌≤◌}
 use lib.ListN.{length}
 use lib.Ieee.{Float}
 use Rattle.numbers.specs.declared.refusal.Refusal.{Refusal}
-use Rattle.numbers.specs.Refusal.{◌⨾◌}
+use Rattle.numbers.specs.Refusal.{◌⨾◌, At, Sound, Tests}
 use Rattle.numbers.specs.laws.Pick.{is_hit}
 use Rattle.drivers.specs.Job.{job_at, full_job_at, job_walk, full_job, job_fault, room_fault, read_into, read_job_answer}
 use Rattle.drivers.specs.laws.Job.{n_to, rows_to, sound_job}
-use Rattle.numbers.specs.declared.refusal.Fault.{Fault}
-use Rattle.numbers.specs.declared.refusal.Fault.TheVariants.{Sound, At}
 use Rattle.drivers.specs.declared.job.JobAnswer.{JobAnswer}
 use Rattle.drivers.specs.declared.job.JobAnswer.TheVariants.{Refused}
 use Rattle.drivers.proofs.job.read_job.Goals as goal
 
-module _ (bytes : List ℕ) (table xc mq : List Float) (fault : Fault) (e : fault ≡ job_fault bytes) where
+module _ (bytes : List ℕ) (table xc mq : List Float) (fault : Tests) (e : fault ≡ job_fault bytes) where
   refused : (why : Refusal) (place : ℕ) → fault ≡ At why place → (Refused why place, table, xc, mq) ≡ read_job_answer bytes table xc mq
   unfolding read_job_answer
   refused why place d =
@@ -29,20 +27,20 @@ module _ (bytes : List ℕ) (table xc mq : List Float) (fault : Fault) (e : faul
   unfolding read_job_answer
   read d places p r h = rw (← e, d, ← p) h
 
-small : (bytes : List ℕ) (fault : Fault) → fault ≡ job_fault bytes → fault ≡ Sound → (places : List ℕ) → places ≡ (job_walk bytes).1
+small : (bytes : List ℕ) (fault : Tests) → fault ≡ job_fault bytes → fault ≡ Sound → (places : List ℕ) → places ≡ (job_walk bytes).1
     → ((job_at bytes places).n ≤ 32) × ((job_at bytes places).rows ≤ 1024)
 small bytes fault e d places p = let h = sound_job bytes (sym e ∙ d) in rw p (n_to _ h, rows_to _ h)
 
 pub read_sound-requires : goal.read_sound-requires
 read_sound-requires c =
-    small _ _ c.job_fault-fault.ensures.value c.in-Sound.is _ c.job_fault-fault.ensures.places_after
+    small _ _ c.job_fault-fault.ensures.value c.in-Ok.is _ c.job_fault-fault.ensures.places_after
 
-pub returns-in-Sound : goal.returns-in-Sound
-returns-in-Sound c =
-    read _ _ _ _ _ c.job_fault-fault.ensures.value c.in-Sound.is _ c.job_fault-fault.ensures.places_after _ c.read_sound.ensures
+pub returns-in-Ok : goal.returns-in-Ok
+returns-in-Ok c =
+    read _ _ _ _ _ c.job_fault-fault.ensures.value c.in-Ok.is _ c.job_fault-fault.ensures.places_after _ c.read_sound.ensures
 
 pub job_fault-fault-requires : goal.job_fault-fault-requires
 job_fault-fault-requires c = refl
 
-pub returns-in-At : goal.returns-in-At
-returns-in-At c = refused _ _ _ _ _ c.job_fault-fault.ensures.value _ _ c.in-At.is
+pub returns-in-Err : goal.returns-in-Err
+returns-in-Err c = refused _ _ _ _ _ c.job_fault-fault.ensures.value _ _ c.in-Err.is

@@ -8,9 +8,7 @@ use lib.Dec.{leb}
 use lib.ListN.{length}
 use lib.Ieee.{Float}
 use Rattle.numbers.specs.declared.refusal.Refusal.TheVariants.{Room}
-use Rattle.numbers.specs.declared.refusal.Fault.{Fault}
-use Rattle.numbers.specs.declared.refusal.Fault.TheVariants.{Sound, At}
-use Rattle.numbers.specs.Refusal.{◌⨾◌}
+use Rattle.numbers.specs.Refusal.{◌⨾◌, At, Sound, Tests}
 use Rattle.numbers.specs.laws.Pick.{is_hit, is_skip, and_parts}
 use Rattle.drivers.specs.Record.{numbers_at, fields_of, row_count, rows_of, fronted, place}
 use Rattle.drivers.specs.Job.{job_at, full_job_at, has_room, room_fault, read_into}
@@ -31,7 +29,7 @@ module _ (bytes places : List ℕ) (table xc mq : List Float) (j : Job) (d : j �
   has : has_room (job_at bytes places) (length table) (length xc) (length mq) ≡ t
   has = rw (← d) (sym e)
 
-  abbrev fault : Fault
+  abbrev fault : Tests
   fault = room_fault (job_at bytes places) (length table) (length xc) (length mq)
 
   refused : not t ≡ true → ◌≡◌ {A = Answer} (Refused Room 0, table, xc, mq) (read_into (full_job_at bytes places) Sound table xc mq)

@@ -1,4 +1,5 @@
 -- `drivers::record::field_fault` meets its contract, a test at a time. Assumes nothing.
+use Rattle.numbers.specs.Refusal.{At, Sound}
 use mathlib.Core.Path.{◌≡◌, sym, ap, ◌∙◌}
 use mathlib.Core.Bool.{Bool, true, false, not, ◌&&◌}
 use mathlib.Core.List.{List}
@@ -9,7 +10,6 @@ use lib.Dec.{eqb}
 use lib.ListN.{length}
 use Rattle.numbers.specs.laws.Refusal.{failed, held, at_first, at_next}
 use Rattle.numbers.specs.declared.refusal.Refusal.TheVariants.{CutShort, ForeignTag, RepeatedTag}
-use Rattle.numbers.specs.declared.refusal.Fault.TheVariants.{Sound, At}
 use Rattle.drivers.specs.Record.{index_at, length_at, place, field_fault}
 use Rattle.drivers.specs.declared.rules.Rule.{Rule}
 use Rattle.drivers.specs.declared.rules.Form.{Form}

@@ -7,15 +7,13 @@ use lib.Dec.{eqb}
 use lib.ListN.{length}
 use Rattle.numbers.specs.laws.Refusal.{failed, held, at_first, at_next}
 use Rattle.numbers.specs.declared.refusal.Refusal.TheVariants.{Length}
-use Rattle.numbers.specs.Refusal.{◌⨾◌, ask_at}
+use Rattle.numbers.specs.Refusal.{◌⨾◌, ask_at, At, Sound, Tests}
 use Rattle.drivers.specs.Record.{index_at, length_at, after, lengths_fault}
 use Rattle.drivers.specs.laws.Record.{fields_after, fields_start, fields_turn, fields_end, left_less}
 use Rattle.drivers.specs.Rules.{index_of, rule_length}
-use Rattle.numbers.specs.declared.refusal.Fault.{Fault}
-use Rattle.numbers.specs.declared.refusal.Fault.TheVariants.{Sound, At}
 use Rattle.drivers.proofs.record.lengths_fault.Goals as goal
 
-module _ (bytes : List ℕ) (n at : ℕ) (w : Fault) (left : lengths_fault n bytes (fields_after bytes at) ≡ w) where
+module _ (bytes : List ℕ) (n at : ℕ) (w : Tests) (left : lengths_fault n bytes (fields_after bytes at) ≡ w) where
   module _ (h : at < length bytes) (l r : ℕ) (a : l ≡ length_at bytes at) (b : r ≡ rule_length (index_at bytes at) n) where
     -- the test of this field, then those of the rest
     turn : (ask_at at (eqb l r) Length ⨾ lengths_fault n bytes (fields_after bytes (after bytes at))) ≡ w

@@ -1,4 +1,5 @@
 -- `drivers::record::missing_fault` meets its contract. Assumes nothing.
+use Rattle.numbers.specs.Refusal.{At, Sound}
 use mathlib.Core.Path.{◌≡◌, sym, ap, ◌∙◌}
 use mathlib.Core.Bool.{Bool, true, false, not, ◌&&◌}
 use mathlib.Core.List.{List}
@@ -14,7 +15,6 @@ use Rattle.drivers.specs.Record.{place, is_missing, missing_fault}
 use Rattle.drivers.specs.declared.rules.Form.{Form}
 use Rattle.drivers.specs.declared.rules.Rule.{Rule}
 use Rattle.drivers.specs.Rules.{tags, maybe, rule_at}
-use Rattle.numbers.specs.declared.refusal.Fault.TheVariants.{Sound, At}
 use borrow.Author.Rules.{rules}
 use Rattle.drivers.proofs.record.missing_fault.Goals as goal
 

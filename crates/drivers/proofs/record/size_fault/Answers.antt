@@ -5,14 +5,13 @@ use mathlib.Core.List.{List}
 use Prim.Native.Nat.{ℕ}
 use borrow.Author.Tests.{eq-eqb, ne_eqb, not-true, not-false}
 use lib.Dec.{leb, eqb}
-use Rattle.numbers.specs.Refusal.{ask_at}
+use Rattle.numbers.specs.Refusal.{ask_at, At, Sound}
 use Rattle.numbers.specs.laws.Refusal.{stops, passes}
 use Rattle.numbers.specs.declared.refusal.Refusal.TheVariants.{Dimension, Length}
 use Rattle.numbers.specs.laws.Pick.{hit, skip, is_hit, is_skip}
 use Rattle.drivers.specs.Record.{length_at, start_of, half_at}
 use Rattle.drivers.specs.Record.{size_fault}
 use Rattle.drivers.specs.Rules.{rule_length}
-use Rattle.numbers.specs.declared.refusal.Fault.TheVariants.{Sound, At}
 use Rattle.std.proofs.Math.Path.{ap}
 use Rattle.drivers.proofs.record.size_fault.Goals as goal
 

@@ -1,4 +1,5 @@
 -- `drivers::record::walk` meets its contract. Assumes nothing.
+use Rattle.std.specs.Prelude.{is_err}
 use mathlib.Core.Path.{◌≡◌, sym, ap, ◌∙◌}
 use mathlib.Core.Bool.{true, false, not, ◌&&◌}
 use mathlib.Core.List.{List}
@@ -7,12 +8,10 @@ use native.Mathlib.Omega.{arith}
 use lib.Dec.{leb}
 use lib.ListN.{length, set}
 use Rattle.numbers.specs.Pick.{pick}
-use Rattle.numbers.specs.Refusal.{is_fault, ◌⨾◌, ask_at}
+use Rattle.numbers.specs.Refusal.{◌⨾◌, ask_at, Sound, Tests}
 use Rattle.numbers.specs.laws.Pick.{is_hit, is_skip}
 use Rattle.numbers.specs.laws.Refusal.{no_fault, both_sound, ask_sound}
 use Rattle.numbers.specs.declared.refusal.Refusal.TheVariants.{CutShort, ForeignTag, RepeatedTag}
-use Rattle.numbers.specs.declared.refusal.Fault.{Fault}
-use Rattle.numbers.specs.declared.refusal.Fault.TheVariants.{Sound}
 use Rattle.drivers.specs.Record.{is_met, overruns, index_at, content_of, after, place, first_place, noted, field_fault, walk_of}
 use Rattle.drivers.specs.laws.Record.{fields_after, fields_start, fields_turn, fields_end, left_less}
 use Rattle.drivers.specs.declared.rules.Form.{Form}
@@ -22,7 +21,7 @@ use Rattle.drivers.proofs.record.walk.Goals as goal
 
 module _ (bytes : List ℕ) (form : Form) where
   -- a field without a fault has a tag of the form
-  known : (places : List ℕ) (at : ℕ) → is_fault (field_fault bytes form places at) ≡ false → index_at bytes at < 12
+  known : (places : List ℕ) (at : ℕ) → is_err (field_fault bytes form places at) ≡ false → index_at bytes at < 12
   unfolding field_fault
   known places at h =
       let i = index_at bytes at in
@@ -31,33 +30,33 @@ module _ (bytes : List ℕ) (form : Form) where
       let e = (both_sound (ask_at at (leb 3 (length bytes - at)) CutShort) (of_form ⨾ rest) (no_fault (field_fault bytes form places at) h)).1 in
       is_of_listed form i (ask_sound (is_of form i) ForeignTag at (both_sound of_form rest e).0)
 
-  module _ (places : List ℕ) (at : ℕ) (f : Fault) (h : at < length bytes) (e : f ≡ field_fault bytes form places at) (w : Fault × List ℕ) (left : walk_of bytes form (fields_after bytes at) places ≡ w) where
+  module _ (places : List ℕ) (at : ℕ) (f : Tests) (h : at < length bytes) (e : f ≡ field_fault bytes form places at) (w : Tests × List ℕ) (left : walk_of bytes form (fields_after bytes at) places ≡ w) where
     turn : walk_of bytes form (fields_after bytes at) places
-        ≡ pick (is_fault f) (f, places) (walk_of bytes form (fields_after bytes (after bytes at)) (noted places (index_at bytes at) (content_of bytes at)))
+        ≡ pick (is_err f) (f, places) (walk_of bytes form (fields_after bytes (after bytes at)) (noted places (index_at bytes at) (content_of bytes at)))
     unfolding walk_of
     turn = ap (λ (l : List ℕ). walk_of bytes form l places) (fields_turn bytes at h) ∙ rw e
 
-    stops : is_fault f ≡ true → (f, places) ≡ w
+    stops : is_err f ≡ true → (f, places) ≡ w
     stops t = sym (turn ∙ is_hit _ _ _ t) ∙ left
 
-    goes_on : is_fault f ≡ false → (i p q next : ℕ) → i ≡ index_at bytes at → p ≡ content_of bytes at → q ≡ first_place (place places i) p → next ≡ after bytes at
+    goes_on : is_err f ≡ false → (i p q next : ℕ) → i ≡ index_at bytes at → p ≡ content_of bytes at → q ≡ first_place (place places i) p → next ≡ after bytes at
         → walk_of bytes form (fields_after bytes next) (set places i q) ≡ w
     goes_on t i p q next a b c d = rw (c, a, b, d) (sym (turn ∙ is_skip _ _ _ t) ∙ left)
 
-    listed : is_fault f ≡ false → (i : ℕ) → i ≡ index_at bytes at → i < 12
+    listed : is_err f ≡ false → (i : ℕ) → i ≡ index_at bytes at → i < 12
     listed t i a = rw a (known places at (rw (← e) t))
 
-  ends : (places : List ℕ) (at : ℕ) (w : Fault × List ℕ) → walk_of bytes form (fields_after bytes at) places ≡ w → length bytes ≤ at → (Sound, places) ≡ w
+  ends : (places : List ℕ) (at : ℕ) (w : Tests × List ℕ) → walk_of bytes form (fields_after bytes at) places ≡ w → length bytes ≤ at → (Sound, places) ≡ w
   unfolding walk_of
   ends places at w left h = sym (ap (λ (l : List ℕ). walk_of bytes form l places) (fields_end bytes at h)) ∙ left
 
-pub returns-then-is_fault : goal.returns-then-is_fault
-returns-then-is_fault c =
-    stops _ _ _ _ _ c.loop-at-test.true c.field_fault-fault.ensures _ c.loop-at.invariant (sym c.is_fault.ensures ∙ c.if-is_fault.true)
+pub returns-then-is_err : goal.returns-then-is_err
+returns-then-is_err c =
+    stops _ _ _ _ _ c.loop-at-test.true c.field_fault-fault.ensures _ c.loop-at.invariant (sym c.is_err.ensures.value ∙ c.if-is_err.true)
 
 pub bounds-places-i : goal.bounds-places-i
 bounds-places-i c =
-    listed _ _ _ _ _ c.loop-at-test.true c.field_fault-fault.ensures _ c.loop-at.invariant (sym c.is_fault.ensures ∙ c.if-is_fault.false) _
+    listed _ _ _ _ _ c.loop-at-test.true c.field_fault-fault.ensures _ c.loop-at.invariant (sym c.is_err.ensures.value ∙ c.if-is_err.false) _
     (c.rule_index-i.ensures ∙ ap index_of c.byte_at.ensures)
 
 pub loop-at-smaller : goal.loop-at-smaller
@@ -66,21 +65,21 @@ loop-at-smaller c =
 
 pub loop-at-preserved : goal.loop-at-preserved
 loop-at-preserved c =
-    goes_on _ _ _ _ _ c.loop-at-test.true c.field_fault-fault.ensures _ c.loop-at.invariant (sym c.is_fault.ensures ∙ c.if-is_fault.false) _ _ _ _
+    goes_on _ _ _ _ _ c.loop-at-test.true c.field_fault-fault.ensures _ c.loop-at.invariant (sym c.is_err.ensures.value ∙ c.if-is_err.false) _ _ _ _
     (c.rule_index-i.ensures ∙ ap index_of c.byte_at.ensures) c.content_at.ensures c.first_place.ensures c.next_field-at.ensures
 
 pub loop-at-init : goal.loop-at-init
 loop-at-init c = rw (fields_start _)
 
 pub offset_bounds-places-i : goal.offset_bounds-places-i
-offset_bounds-places-i c = record { fits = omega (arith, listed _ _ _ _ _ c.loop-at-test.true c.field_fault-fault.ensures _ c.loop-at.invariant (sym c.is_fault.ensures ∙ c.if-is_fault.false) _ (c.rule_index-i.ensures ∙ ap index_of c.byte_at.ensures)) }
+offset_bounds-places-i c = record { fits = omega (arith, listed _ _ _ _ _ c.loop-at-test.true c.field_fault-fault.ensures _ c.loop-at.invariant (sym c.is_err.ensures.value ∙ c.if-is_err.false) _ (c.rule_index-i.ensures ∙ ap index_of c.byte_at.ensures)) }
 
 pub offset_bounds-places-i-in-loop-at : goal.offset_bounds-places-i-in-loop-at
-offset_bounds-places-i-in-loop-at c = record { fits = omega (arith, listed _ _ _ _ _ c.loop-at-test.true c.field_fault-fault.ensures _ c.loop-at.invariant (sym c.is_fault.ensures ∙ c.if-is_fault.false) _ (c.rule_index-i.ensures ∙ ap index_of c.byte_at.ensures)) }
+offset_bounds-places-i-in-loop-at c = record { fits = omega (arith, listed _ _ _ _ _ c.loop-at-test.true c.field_fault-fault.ensures _ c.loop-at.invariant (sym c.is_err.ensures.value ∙ c.if-is_err.false) _ (c.rule_index-i.ensures ∙ ap index_of c.byte_at.ensures)) }
 
 pub bounds-places-i-in-loop-at : goal.bounds-places-i-in-loop-at
 bounds-places-i-in-loop-at c =
-    listed _ _ _ _ _ c.loop-at-test.true c.field_fault-fault.ensures _ c.loop-at.invariant (sym c.is_fault.ensures ∙ c.if-is_fault.false) _
+    listed _ _ _ _ _ c.loop-at-test.true c.field_fault-fault.ensures _ c.loop-at.invariant (sym c.is_err.ensures.value ∙ c.if-is_err.false) _
     (c.rule_index-i.ensures ∙ ap index_of c.byte_at.ensures)
 
 pub returns : goal.returns

@@ -10,4 +10,4 @@ pub returns-then-given : goal.returns-then-given
 returns-then-given c = fill_given c.args.s.now _ _ _ _ _ (search rules) c.if-given.true c.floats.ensures
 
 pub returns : goal.returns
-returns c = fill_zeros c.args.s.now _ _ _ _ _ (search rules) c.if-given.false c.fill_zero.ensures
+returns c = fill_zeros c.args.s.now _ _ _ _ _ (search rules) c.if-given.false (c.fill.ensures.after (λ y e. e))

@@ -1,20 +1,17 @@
 -- `numbers::arr::copy_from` meets its contract. Assumes nothing.
-use mathlib.Core.Path.{refl, sym, ◌∙◌}
-use Rattle.numbers.specs.laws.Refusal.{refuses, accepts}
-use Rattle.numbers.proofs.arr.Sized.{no_dimension, no_length, all_fit, two_fit}
-use Rattle.std.proofs.Math.Path.{ap}
-use Rattle.std.proofs.Math.Bool.{not}
+use Rattle.std.proofs.Common.{refl, ap, ◌∙◌, List}
+use Rattle.std.specs.Prelude.{Ok, Float}
+use Rattle.numbers.specs.laws.Refusal.{exits, accepts}
+use Rattle.numbers.proofs.arr.Sized.{no_dimension, no_length, all_fit}
 use Rattle.numbers.proofs.arr.copy_from.Goals as goal
 
-pub returns-then-not-is_dimension : goal.returns-then-not-is_dimension
-returns-then-not-is_dimension c = refuses _ _ _ (no_dimension _ _ _ c.is_dimension.ensures (ap not c.if-not-is_dimension.true)) refl
+pub returns-in_err-dimension : goal.returns-in_err-dimension
+returns-in_err-dimension c = exits (λ r. (r, c.args.dst.now)) _ _ c.from_residual.ensures.1 (no_dimension _ _ c.dimension.ensures.value c.in_err-dimension.was)
 
-pub returns-then-not-dst-n : goal.returns-then-not-dst-n
-returns-then-not-dst-n c = refuses _ _ _ (no_length _ _ _ c.is_dimension.ensures (ap not c.if-not-is_dimension.false) (ap not c.if-not-dst-n.true)) refl
-
-pub copy_all-requires : goal.copy_all-requires
-copy_all-requires c = let e = two_fit _ _ _ _ (ap not c.if-not-dst-n.false) in e.0 ∙ sym e.1
+pub returns-in_err-lengths : goal.returns-in_err-lengths
+returns-in_err-lengths c =
+    exits (λ r. (r, c.args.dst.now)) _ _ c.from_residual-in_err-lengths.ensures.1
+    (no_length _ _ c.dimension.ensures.value c.in_ok-dimension.was c.lengths.ensures.value c.in_err-lengths.was)
 
 pub returns : goal.returns
-returns c =
-    rw c.copy_all.ensures (accepts _ _ _ (all_fit _ _ _ c.is_dimension.ensures (ap not c.if-not-is_dimension.false) (ap not c.if-not-dst-n.false)) refl)
+returns c = ap (λ (l : List Float). (Ok tt, l)) c.copy_from_slice.ensures.after ∙ accepts _ _ _ (all_fit _ _ c.dimension.ensures.value c.in_ok-dimension.was c.lengths.ensures.value c.in_ok-lengths.was) refl

@@ -8,4 +8,4 @@ pub returns : goal.returns
 returns c =
     let a = c.args in
     c.set_diagonal.ensures
-    ∙ diagonal a.n a.v.now a.out.now _ (search rules) c.fill_zero.ensures
+    ∙ diagonal a.n a.v.now a.out.now _ (search rules) (c.fill.ensures.after (λ y e. e))

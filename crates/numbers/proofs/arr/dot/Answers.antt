@@ -1,17 +1,16 @@
 -- `numbers::arr::dot` meets its contract. Assumes nothing.
-use mathlib.Core.Path.{refl, ap, ◌∙◌}
-use Rattle.numbers.specs.declared.arr.Number.TheVariants.{Value}
-use Rattle.numbers.specs.laws.Refusal.{refuses, accepts}
+use Rattle.std.proofs.Common.{refl, ap, ◌∙◌}
+use Rattle.std.specs.Prelude.{Ok}
+use Rattle.numbers.specs.laws.Refusal.{exits, accepts}
 use Rattle.numbers.proofs.arr.Sized.{no_dimension, no_length, all_fit}
-use Rattle.std.proofs.Math.Bool.{not}
 use Rattle.numbers.proofs.arr.dot.Goals as goal
 
-pub returns-then-not-is_dimension : goal.returns-then-not-is_dimension
-returns-then-not-is_dimension c = refuses _ _ _ (no_dimension _ _ _ c.is_dimension.ensures (ap not c.if-not-is_dimension.true)) refl
+pub returns-in_err-dimension : goal.returns-in_err-dimension
+returns-in_err-dimension c = exits (λ r. r) _ _ c.from_residual.ensures.1 (no_dimension _ _ c.dimension.ensures.value c.in_err-dimension.was)
 
-pub returns-then-not-a-n : goal.returns-then-not-a-n
-returns-then-not-a-n c = refuses _ _ _ (no_length _ _ _ c.is_dimension.ensures (ap not c.if-not-is_dimension.false) (ap not c.if-not-a-n.true)) refl
+pub returns-in_err-lengths : goal.returns-in_err-lengths
+returns-in_err-lengths c =
+    exits (λ r. r) _ _ c.from_residual-in_err-lengths.ensures.1 (no_length _ _ c.dimension.ensures.value c.in_ok-dimension.was c.lengths.ensures.value c.in_err-lengths.was)
 
 pub returns : goal.returns
-returns c =
-    ap Value c.dot_zip.ensures ∙ accepts _ _ _ (all_fit _ _ _ c.is_dimension.ensures (ap not c.if-not-is_dimension.false) (ap not c.if-not-a-n.false)) refl
+returns c = ap Ok c.dot_zip.ensures ∙ accepts _ _ _ (all_fit _ _ c.dimension.ensures.value c.in_ok-dimension.was c.lengths.ensures.value c.in_ok-lengths.was) refl

@@ -6,7 +6,4 @@ use Rattle.numbers.specs.Arr.{set_diag}
 use Rattle.numbers.proofs.arr.set_diagonal.Given as goal
 
 abbrev pub invariant-loop-i : goal.invariant-loop-i
-invariant-loop-i l = (l.i ≤ l.n) × (length l.out ≡ length l.initial.out) × (l.out ≡ set_diag l.n l.v l.i l.initial.out)
-
-abbrev pub decreases-loop-i : goal.decreases-loop-i
-decreases-loop-i l = l.n - l.i
+invariant-loop-i l = (length l.out ≡ length l.initial.out) × (l.out ≡ set_diag l.n l.v l.i l.initial.out)

@@ -2,15 +2,17 @@
 use Rattle.numbers.proofs.sqrt.Laws.{digits_start, digit_one, digit_zero, digits_done}
 use borrow.Author.Rules.{rules}
 use Rattle.numbers.proofs.sqrt.root_digits.Goals as goal
+use Rattle.numbers.proofs.sqrt.root_digits.Goals.{then-a-rest, else-a-rest}
 
-pub loop-i-preserved-then-a-rest : goal.loop-i-preserved-then-a-rest
-loop-i-preserved-then-a-rest c = digit_one _ _ _ _ _ c.loop-i.invariant (search rules) (search rules)
+pub loop-preserved : goal.loop-preserved
+loop-preserved c =
+    elim c.if-a-rest.branch [
+      | then-a-rest w ↦ rw (w.a-is, w.rest-is) (digit_one _ _ _ _ _ c.loop.invariant (search rules) w.if-a-rest.true)
+      | else-a-rest w ↦ rw (w.a-is, w.rest-is) (digit_zero _ _ _ _ _ c.loop.invariant (search rules) w.if-a-rest.false)
+    ]
 
-pub loop-i-preserved : goal.loop-i-preserved
-loop-i-preserved c = digit_zero _ _ _ _ _ c.loop-i.invariant (search rules) (search rules)
-
-pub loop-i-init : goal.loop-i-init
-loop-i-init c = digits_start _ (search rules)
+pub loop-init : goal.loop-init
+loop-init c = digits_start _ (search rules)
 
 pub returns : goal.returns
-returns c = digits_done _ _ _ _ _ c.loop-i.invariant (search rules)
+returns c = digits_done _ _ _ _ _ c.loop.invariant (search rules)

@@ -1,4 +1,6 @@
 -- `oracles::band_cut::gradient_into` meets its contract. Assumes nothing.
+use Rattle.numbers.specs.declared.refusal.Refusal.{Refusal}
+use Rattle.std.specs.Prelude.{Result, ⊤}
 use mathlib.Core.Path.{◌≡◌, refl, sym, ap, ◌∙◌}
 use mathlib.Core.Bool.{Bool, true, false, ◌&&◌}
 use mathlib.Core.List.{List, map}
@@ -11,7 +13,6 @@ use lib.Seq.{length-take-le}
 use lib.Ieee.{Float, neg}
 use Rattle.numbers.specs.Arr.{is_dimension, row_of, copy_from_tests, copy_from_answer}
 use Rattle.numbers.specs.laws.Refusal.{held, at_next, accepts}
-use Rattle.numbers.specs.declared.arr.Written.{Written}
 use Rattle.numbers.specs.laws.Pick.{hit, skip}
 use Rattle.oracles.specs.Scan.{band_gradient}
 use Rattle.oracles.proofs.band_cut.gradient_into.Goals as goal
@@ -20,17 +21,9 @@ use Rattle.oracles.proofs.band_cut.gradient_into.Goals as goal
 row_is : (n row : ℕ) (table : List Float) → take (row * n + n - row * n) (drop (row * n) table) ≡ row_of n table row
 row_is n row table = let e : row * n + n - row * n ≡ n = omega arith in rw e
 
-row_long : (n row : ℕ) (table : List Float) → row * n + n ≤ length table → length (row_of n table row) ≡ n
-row_long n row table h = length-take-le n (drop (row * n) table) (rw (length-drop (row * n) table) (omega arith))
-
-copied : (n row : ℕ) (over : Bool) (table grad grad' : List Float) {r : Written}
-    → ◌≡◌ {A = Written × List Float} (r, grad') (copy_from_answer n grad (take (row * n + n - row * n) (drop (row * n) table)))
-    → 2 ≤ n → n ≤ 32 → row * n + n ≤ length table → length grad ≡ n → over ≡ true → grad' ≡ band_gradient n table row over
+copied : (n row : ℕ) (over : Bool) (table grad' : List Float) → grad' ≡ take (row * n + n - row * n) (drop (row * n) table) → over ≡ true → grad' ≡ band_gradient n table row over
 unfolding band_gradient
-copied n row over table grad grad' e two most h long o =
-    let f : is_dimension n ≡ true = rw (le-leb 2 n two, le-leb n 32 most) in
-    let q : (eqb (length grad) n && eqb (length (row_of n table row)) n) ≡ true = rw (eq-eqb (length grad) n long, eq-eqb (length (row_of n table row)) n (row_long n row table h)) in
-    hit over _ _ _ o (ap (λ (p : Written × List Float). p.1) (rw (row_is n row table) at e ∙ sym (accepts _ _ (copy_from_tests n grad (row_of n table row)) (at_next (held _ _ f) (held _ _ q)) refl)))
+copied n row over table grad' e o = hit over _ _ _ o (rw (row_is n row table) at e)
 
 negated : (n row : ℕ) (over : Bool) (table grad' : List Float) → grad' ≡ map neg (take (row * n + n - row * n) (drop (row * n) table)) → over ≡ false → grad' ≡ band_gradient n table row over
 unfolding band_gradient
@@ -39,7 +32,7 @@ negated n row over table grad' e o = skip over _ _ _ o (rw (row_is n row table) 
 pub returns-then-is_over : goal.returns-then-is_over
 returns-then-is_over c =
     let a = c.args in
-    copied a.n a.row a.is_over a.table.now a.grad.now _ c.copy_from.ensures c.requires.0 c.requires.1 c.requires.2 c.requires.3 c.if-is_over.true
+    copied a.n a.row a.is_over a.table.now _ c.copy_from_slice.ensures.after c.if-is_over.true
 
 pub returns-else-is_over : goal.returns-else-is_over
 returns-else-is_over c =

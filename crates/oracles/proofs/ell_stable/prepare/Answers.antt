@@ -3,7 +3,6 @@ use mathlib.Core.Path.{◌≡◌}
 use borrow.Author.Rules.{rules}
 use lib.ListN.{length}
 use Rattle.numbers.specs.laws.Arr.{dimension_most}
-use Rattle.oracles.proofs.ell_common.Laws.{copied}
 use Rattle.oracles.proofs.ell_stable.Laws.{prepare_done}
 use Rattle.oracles.proofs.ell_stable.prepare.Goals as goal
 
@@ -16,10 +15,10 @@ scale_into-requires c = (dimension_most _ c.requires.0, search rules, search rul
 pub returns : goal.returns
 returns c =
     let a = c.args in
-    let k = c.copy_from in
+    let k = c.copy_from_slice in
     let w = c.forward in
     let f = w.ensures in
     let o = c.omega_into.ensures in
     prepare_done a.n a.mq.now a.grad.now _ _ _ _ _ _ _
-    (copied a.n a.inv_ml_g.now a.grad.now (k.result, k.new.dst) k.ensures c.requires.0 c.requires.3 c.requires.1)
+    k.ensures.after
     f.0 f.1 c.scale_into.ensures (let l : length w.new.column ≡ a.n = search rules in l) o.0 o.1

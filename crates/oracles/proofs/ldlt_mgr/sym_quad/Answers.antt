@@ -1,4 +1,5 @@
 -- `oracles::ldlt_mgr::sym_quad` meets its contract. Assumes nothing.
+use Rattle.std.specs.Prelude.{Ok}
 use mathlib.Core.Path.{refl, ap}
 use native.Mathlib.Nat.{mul-le-mul}
 use native.Mathlib.Omega.{arith}
@@ -6,7 +7,6 @@ use borrow.Author.Tests.{le-leb, lt-leb, eq-eqb, ne_eqb}
 use borrow.Author.Rules.{rules}
 use Rattle.numbers.specs.laws.Pick.{says_no, says_yes}
 use Rattle.numbers.specs.laws.Refusal.{failed, held, at_first, at_next, refuses, accepts}
-use Rattle.numbers.specs.declared.arr.Number.TheVariants.{Value}
 use Rattle.oracles.proofs.ldlt_mgr.Laws.{order_most}
 use Rattle.std.proofs.Math.Bool.{not}
 use Rattle.oracles.proofs.ldlt_mgr.sym_quad.Goals as goal
@@ -49,4 +49,4 @@ returns c =
     accepts _ _ _
     (at_next (at_next (held _ _ (says_yes _ _ c.is_order.ensures (ap not c.if-not-is_order.false))) (held _ _ (rw (eq-eqb _ _ c.if-wit-m.false, eq-eqb _ _ c.if-mat-m.false))))
     (held _ _ (rw (le-leb _ _ c.if-pos.false, le-leb _ _ c.if-pos-m.false))))
-    (ap Value c.quad.ensures)
+    (ap Ok c.quad.ensures)

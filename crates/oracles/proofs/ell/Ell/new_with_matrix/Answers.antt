@@ -6,14 +6,14 @@ use Rattle.oracles.specs.declared.ell.NewEll.TheVariants.{Made, Refused}
 use Rattle.oracles.proofs.ell_common.Laws.{made_from}
 use Rattle.oracles.proofs.ell.Ell.new_with_matrix.Goals as goal
 
-pub returns-in-Made : goal.returns-in-Made
+pub returns-in-Ok : goal.returns-in-Ok
 unfolding new_ell_answer
-returns-in-Made c =
+returns-in-Ok c =
     let a = c.args in
-    made_from Refused (λ helper. Made (record { ndim = a.n; kappa = a.kappa; helper = helper; tsq = 0ᶠ })) a.n _ (sym c.in-Made.is ∙ c.new.ensures)
+    made_from Refused (λ helper. Made (record { ndim = a.n; kappa = a.kappa; helper = helper; tsq = 0ᶠ })) a.n _ (sym c.in-Ok.is ∙ c.new.ensures)
 
-pub returns-in-Refused : goal.returns-in-Refused
+pub returns-in-Err : goal.returns-in-Err
 unfolding new_ell_answer
-returns-in-Refused c =
+returns-in-Err c =
     let a = c.args in
-    made_from Refused (λ helper. Made (record { ndim = a.n; kappa = a.kappa; helper = helper; tsq = 0ᶠ })) a.n _ (sym c.in-Refused.is ∙ c.new.ensures)
+    made_from Refused (λ helper. Made (record { ndim = a.n; kappa = a.kappa; helper = helper; tsq = 0ᶠ })) a.n _ (sym c.in-Err.is ∙ c.new.ensures)

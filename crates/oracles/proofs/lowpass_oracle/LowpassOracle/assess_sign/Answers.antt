@@ -29,7 +29,7 @@ pub returns-then-x0 : goal.returns-then-x0
 unfolding Ieee.neg Ieee.of_bits
 returns-then-x0 c =
     let a = c.args in
-    broken a.self a.x.now a.grad.now c.if-x0.true _ c.fill_zero.ensures
+    broken a.self a.x.now a.grad.now c.if-x0.true _ (c.fill.ensures.after (λ y e. e))
 
 pub returns : goal.returns
 returns c = let a = c.args in kept a.self a.x.now a.grad.now c.if-x0.false
