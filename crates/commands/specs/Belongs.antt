@@ -1,9 +1,8 @@
 -- `jobfile belongs`: whether an answer belongs to a job, of the bytes of both. Definitions only.
-use Rattle.std.specs.Prelude.{ℕ, Bool, List, Float}
+use Rattle.std.specs.Prelude.{ℕ, Bool, List, Float, Option}
 use Rattle.numbers.specs.Pick.{pick}
 use Rattle.numbers.specs.Refusal.{◌⨾◌, unless}
 use Rattle.streams.specs.Input.{of_read}
-use Rattle.streams.specs.declared.input.Input.{Input}
 use Rattle.streams.specs.declared.output.Stream.TheVariants.{Stdout}
 use Rattle.drivers.specs.Text.{bytes_of}
 use Rattle.drivers.specs.Job.{full_job, job_fault}
@@ -24,7 +23,7 @@ judged_written j table x bytes =
     unless (input_tests bytes ⨾ answer_fault j.n bytes) (refusal_written OfAnswer) (yes_or_no (is_of j table x (answer_at bytes places) (point_at j.n bytes places)))
 
 -- the job is taken first, whole; then what was read of the answer's file
-unfoldable pub belongs_written : List ℕ → Input → List ℕ → Written
+unfoldable pub belongs_written : List ℕ → Option ℕ → List ℕ → Written
 belongs_written job read bytes =
     let f = full_job job in
     unless (input_tests job ⨾ job_fault job) (refusal_written OfJob) (of_read read bytes (judged_written f.job f.table f.point) nothing_written)

@@ -1,10 +1,11 @@
 -- What a command writes: all of it goes to one stream. Definitions only.
-use Rattle.std.specs.Prelude.{ℕ, List, []}
+use Rattle.std.specs.Prelude.{ℕ, List, [], Option}
 use Rattle.numbers.specs.declared.refusal.Refusal.{Refusal}
-use Rattle.streams.specs.Output.{handed}
+use Rattle.streams.specs.Output.{Hands, HandedOver}
 use Rattle.streams.specs.declared.output.Stream.{Stream}
 use Rattle.streams.specs.declared.output.Stream.TheVariants.{Stdout, Stderr}
 use Rattle.streams.specs.declared.output.Handed.{Handed}
+use Rattle.streams.specs.declared.output.Console.{Console}
 use Rattle.drivers.specs.Text.{bytes_of}
 use Rattle.drivers.specs.Trace.{refused_text}
 use Rattle.drivers.specs.declared.trace.Source.{Source}
@@ -23,6 +24,10 @@ nothing_written = (Stdout, [])
 abbrev pub usage_written : Written
 usage_written = (Stderr, bytes_of "usage: jobfile answer < JOB > ANSWER\n       jobfile belongs JOB ANSWER\n")
 
--- handed over
-abbrev pub handed_over : Written → Handed
-handed_over w = handed w.0 w.1
+-- handed over by a console, and nothing else
+abbrev pub Writes : {W E : Type 0} → (W → Option (List ℕ)) → Console W E → Console W E → Written → Type 0
+Writes contents before after w = Hands contents before after w.0 w.1
+
+-- handed over by a program, and nothing else
+abbrev pub WroteOnly : {W : Type 0} → (W → Option (List ℕ)) → W → W → Handed → Written → Type 0
+WroteOnly contents held holds handed w = HandedOver contents held holds handed w.0 w.1

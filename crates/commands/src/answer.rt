@@ -2,49 +2,46 @@
 ghost use Rattle.std.specs.Prelude.{◌≡◌, true, ◌*◌, ◌≤◌, length};
 ghost use Rattle.numbers.specs.Arr.{is_dimension};
 ghost use Rattle.oracles.specs.Ell.{ell_buffers, fresh_ell};
+ghost use Rattle.streams.specs.Output.{Hands};
 ghost use Rattle.streams.specs.declared.output.Stream.TheVariants.{Stdout};
 ghost use Rattle.drivers.specs.Answer.{answer_bytes};
 ghost use Rattle.drivers.specs.laws.Job.{JobSound};
 ghost use Rattle.drivers.specs.laws.JobRuns.{JobHeld, JobSlices};
-ghost use Rattle.commands.specs.Output.{handed_over};
+ghost use Rattle.commands.specs.Output.{Writes, WroteOnly};
 ghost use Rattle.commands.specs.Answer.{answer_written};
 ghost use Rattle.commands.specs.laws.Answer.{run_written, fronts_written};
 
-use crate::handing::{hand_front, hand_text};
-use drivers::answer::{Answer, AnswerWritten, write_answer};
-use drivers::cutting_plane_feas::{FeasAnswer, cutting_plane_feas};
-use drivers::input::{TakenJob, take_job};
+use crate::taking::take_or_refuse;
+use drivers::answer::{Answer, write_answer};
+use drivers::cutting_plane_feas::cutting_plane_feas;
 use drivers::job::Job;
 use drivers::trace::Source;
-use oracles::ell::{Ell, NewEll};
+use oracles::ell::Ell;
+use runner::buffers::{Buffers, MAX_N};
+use runner::handing::hand_front;
 use std::io::Write;
-use streams::output::{Handed, Stream, hand};
-
-// The longest answer's record: three headers, an outcome, steps and 32 numbers.
-const LONGEST_ANSWER: usize = 268;
+use streams::output::{Console, Handed, Stream};
 
 fn hand_record<W: Write, E: Write>(
-    output: &mut W,
-    errors: &mut E,
+    console: &mut Console<'_, W, E>,
     n: usize,
     answer: Answer,
     point: &[f64],
     out: &mut [u8],
-) -> Handed
+)
     requires { (is_dimension n ≡ true) × (n ≤ 32) × (length point.now ≡ n) × (268 ≤ length out.old) }
-    ensures { result ≡ handed_over (Stdout, answer_bytes answer point.now) }
+    ensures { Hands W.contents console.old console.new Stdout (answer_bytes answer point.now) }
 {
     let written = write_answer(n, answer, point, out);
     match written {
-        AnswerWritten::Bytes(count) => hand_front(output, errors, Stream::Stdout, out, count),
-        AnswerWritten::Refused(_) => hand(output, errors, Stream::Stdout, b""),
+        Ok(count) => hand_front(console, Stream::Stdout, out, count),
+        Err(_) => {}
     }
 }
 
 // The run in slices of the job's own lengths.
 fn run_sized<W: Write, E: Write>(
-    output: &mut W,
-    errors: &mut E,
+    console: &mut Console<'_, W, E>,
     job: Job,
     ell: Ell,
     table: &[f64],
@@ -54,10 +51,10 @@ fn run_sized<W: Write, E: Write>(
     grad_t: &mut [f64],
     best: &mut [f64],
     out: &mut [u8],
-) -> Handed
+)
     requires { JobSound job × (ell ≡ fresh_ell job.n job.kappa) × JobSlices job table.now (ell_buffers mq.old xc.old grad_t.old) grad.old
         × (length best.old ≡ job.n) × (268 ≤ length out.old) }
-    ensures { result ≡ handed_over (run_written job table.now (ell_buffers mq.old xc.old grad_t.old) grad.old) }
+    ensures { Writes W.contents console.old console.new (run_written job table.now (ell_buffers mq.old xc.old grad_t.old) grad.old) }
 {
     let oracle = job.oracle();
     let options = job.options;
@@ -66,92 +63,79 @@ fn run_sized<W: Write, E: Write>(
     );
     let answer = run.answer;
     match answer {
-        FeasAnswer::Ended(ended) => hand_record(output, errors, job.n, ended, best, out),
-        FeasAnswer::Refused(_) => hand(output, errors, Stream::Stdout, b""),
+        Ok(ended) => hand_record(console, job.n, ended, best, out),
+        Err(_) => {}
     }
 }
 
-// The run in the fronts, which the job fills, of slices that hold every job, and scratch of zeros.
+// The run in the fronts, which the job fills, of arrays that hold every job, and scratch of zeros.
 fn run_fronts<W: Write, E: Write>(
-    output: &mut W,
-    errors: &mut E,
+    console: &mut Console<'_, W, E>,
     job: Job,
     ell: Ell,
-    table: &[f64],
-    mq: &mut [f64],
-    xc: &mut [f64],
-    out: &mut [u8],
-) -> Handed
-    requires { JobSound job × (ell ≡ fresh_ell job.n job.kappa) × JobHeld job table.now xc.old mq.old × (268 ≤ length out.old) }
-    ensures { result ≡ handed_over (fronts_written job table.now xc.old mq.old) }
+    buffers: &mut Buffers,
+)
+    requires { JobSound job × (ell ≡ fresh_ell job.n job.kappa) × JobHeld job buffers.old.table buffers.old.xc buffers.old.mq }
+    ensures { Writes W.contents console.old console.new (fronts_written job buffers.old.table buffers.old.xc buffers.old.mq) }
 {
     let n = job.n;
     let numbers = job.rows * n;
     let square = n * n;
-    let mut grad = [0.0f64; 32];
-    let mut grad_t = [0.0f64; 32];
-    let mut best = [0.0f64; 32];
+    let mut grad = [0.0f64; MAX_N];
+    let mut grad_t = [0.0f64; MAX_N];
+    let mut best = [0.0f64; MAX_N];
+    let mq = &mut buffers.mq[..];
+    let xc = &mut buffers.xc[..];
     run_sized(
-        output,
-        errors,
+        console,
         job,
         ell,
-        &table[..numbers],
+        &buffers.table[..numbers],
         &mut mq[..square],
         &mut xc[..n],
         &mut grad[..n],
         &mut grad_t[..n],
         &mut best[..n],
-        out,
+        &mut buffers.out,
     )
 }
 
-fn run_job<W: Write, E: Write>(
-    output: &mut W,
-    errors: &mut E,
-    job: Job,
-    table: &[f64],
-    mq: &mut [f64],
-    xc: &mut [f64],
-    out: &mut [u8],
-) -> Handed
-    requires { JobSound job × JobHeld job table.now xc.old mq.old × (268 ≤ length out.old) }
-    ensures { result ≡ handed_over (fronts_written job table.now xc.old mq.old) }
+fn run_job<W: Write, E: Write>(console: &mut Console<'_, W, E>, job: Job, buffers: &mut Buffers)
+    requires { JobSound job × JobHeld job buffers.old.table buffers.old.xc buffers.old.mq }
+    ensures { Writes W.contents console.old console.new (fronts_written job buffers.old.table buffers.old.xc buffers.old.mq) }
 {
     let made = Ell::new_with_matrix(job.n, job.kappa);
     match made {
-        NewEll::Made(ell) => run_fronts(output, errors, job, ell, table, mq, xc, out),
-        NewEll::Refused(_) => hand(output, errors, Stream::Stdout, b""),
+        Ok(ell) => run_fronts(console, job, ell, buffers),
+        Err(_) => {}
     }
 }
 
 fn answer_lent<W: Write, E: Write>(
-    output: &mut W,
-    errors: &mut E,
+    console: &mut Console<'_, W, E>,
     bytes: &[u8],
-    table: &mut [f64; 32768],
-    xc: &mut [f64; 32],
-    mq: &mut [f64; 1024],
-    out: &mut [u8; LONGEST_ANSWER],
-) -> Handed
-    ensures { result ≡ handed_over (answer_written bytes.now) }
+    buffers: &mut Buffers,
+)
+    ensures { Writes W.contents console.old console.new (answer_written bytes.now) }
 {
-    let taken = take_job(Source::Only, bytes, table, xc, mq, out);
-    match taken {
-        TakenJob::Taken(job) => run_job(output, errors, job, table, mq, xc, out),
-        TakenJob::Refused(text) => hand_text(output, errors, Stream::Stderr, out, text),
+    let taken = take_or_refuse(console, Source::Only, bytes, buffers);
+    if let Some(job) = taken {
+        run_job(console, job, buffers);
     }
 }
 
 // Answers the job that these bytes record.
-pub fn answer_input<W: Write, E: Write>(output: &mut W, errors: &mut E, bytes: &[u8]) -> Handed
-    ensures { result ≡ handed_over (answer_written bytes.now) }
+pub(crate) fn answer_job<W: Write, E: Write>(console: &mut Console<'_, W, E>, bytes: &[u8])
+    ensures { Writes W.contents console.old console.new (answer_written bytes.now) }
 {
-    let mut table = [0.0f64; 32768];
-    let mut xc = [0.0f64; 32];
-    let mut mq = [0.0f64; 1024];
-    let mut out = [0u8; LONGEST_ANSWER];
-    answer_lent(
-        output, errors, bytes, &mut table, &mut xc, &mut mq, &mut out,
-    )
+    let mut buffers = Buffers::new();
+    answer_lent(console, bytes, &mut buffers);
+}
+
+pub fn answer_input<W: Write, E: Write>(output: &mut W, errors: &mut E, bytes: &[u8]) -> Handed
+    ensures { WroteOnly W.contents output.old output.new result (answer_written bytes.now) }
+{
+    let mut console = Console::new(output, errors);
+    answer_job(&mut console, bytes);
+    console.end()
 }

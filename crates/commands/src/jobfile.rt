@@ -1,162 +1,96 @@
-// The program `jobfile`: its arguments, its inputs, and its commands. `Wrote` says what is handed over.
+// The program `jobfile`: its arguments, its inputs, and its commands. `JobfileRan` says what is handed over.
 ghost use Rattle.std.specs.Prelude.{◌≡◌, ◌*◌, ◌≤◌, length, take};
-ghost use Rattle.streams.specs.Input.{Within, of_read};
 ghost use Rattle.drivers.specs.laws.Job.{JobSound};
 ghost use Rattle.commands.specs.Arguments.{command_of};
-ghost use Rattle.commands.specs.Output.{nothing_written, handed_over};
-ghost use Rattle.commands.specs.Answer.{answer_written};
-ghost use Rattle.commands.specs.Belongs.{judged_written};
 ghost use Rattle.commands.specs.Jobfile.{Wrote, JobfileRan};
 ghost use Rattle.commands.specs.declared.arguments.Command.TheVariants.{Answer, Belongs, Usage};
-ghost use Rattle.commands.specs.laws.Jobfile.{Judged, JobJudged, FileJudged};
+ghost use Rattle.commands.specs.laws.Jobfile.{Writing, Judged, JobJudged};
 
-use crate::answer::answer_input;
+use crate::answer::answer_job;
 use crate::arguments::{Command, command_of};
 use crate::belongs::judge_answer;
-use crate::handing::hand_text;
-use drivers::input::{INPUT_ROOM, TakenJob, take_job};
+use crate::taking::take_or_refuse;
+use drivers::input::INPUT_ROOM;
 use drivers::job::Job;
 use drivers::trace::Source;
+use runner::buffers::Buffers;
 use std::env::FillError;
 use std::io::{Read, Write};
 use std::rt::{Env, Files};
-use streams::input::{Input, read_all, read_argument};
-use streams::output::{Handed, Stream, hand};
+use streams::output::{Console, Handed, Stream};
 
-fn print_usage<W: Write, E: Write>(output: &mut W, errors: &mut E) -> Handed
-    ensures { Wrote Usage result }
+fn print_usage<W: Write, E: Write>(console: &mut Console<'_, W, E>)
+    ensures { Writing W.contents console.old console.new (Wrote Usage) }
 {
-    hand(
-        output,
-        errors,
+    console.hand(
         Stream::Stderr,
         b"usage: jobfile answer < JOB > ANSWER\n       jobfile belongs JOB ANSWER\n",
-    )
+    );
 }
 
-// ---- answer
-
-fn answer_read<W: Write, E: Write>(
-    output: &mut W,
-    errors: &mut E,
-    bytes: &[u8],
-    read: Input,
-) -> Handed
-    requires { Within read (length bytes.now) }
-    ensures { result ≡ handed_over (of_read read bytes.now answer_written nothing_written) }
-{
-    match read {
-        Input::Bytes(count) => answer_input(output, errors, &bytes[..count]),
-        Input::Failed => hand(output, errors, Stream::Stdout, b""),
-    }
-}
-
-fn run_answer<I: Read, W: Write, E: Write>(input: &mut I, output: &mut W, errors: &mut E) -> Handed
-    ensures { Wrote Answer result }
+// Three functions read and then go on, each with other slices: one function for them would take a closure, and its contract would be longer than their bodies.
+fn run_answer<I: Read, W: Write, E: Write>(input: &mut I, console: &mut Console<'_, W, E>)
+    ensures { Writing W.contents console.old console.new (Wrote Answer) }
 {
     let mut bytes = [0u8; INPUT_ROOM];
-    let read = read_all(input, errors, b"standard input", &mut bytes);
-    answer_read(output, errors, &bytes, read)
+    let read = console.read_all(input, b"standard input", &mut bytes);
+    if let Some(count) = read {
+        answer_job(console, &bytes[..count]);
+    }
 }
 
 // ---- belongs
 
-fn judge_read<W: Write, E: Write>(
-    output: &mut W,
-    errors: &mut E,
-    job: Job,
-    table: &[f64],
-    xc: &[f64],
-    bytes: &[u8],
-    read: Input,
-    out: &mut [u8],
-) -> Handed
-    requires { JobSound job × (job.rows * job.n ≤ length table.now) × (job.n ≤ length xc.now) × (128 ≤ length out.old) × Within read (length bytes.now) }
-    ensures { result ≡ handed_over (of_read read bytes.now
-        (judged_written job (take (job.rows * job.n) table.now) (take job.n xc.now)) nothing_written) }
-{
-    match read {
-        Input::Bytes(count) => judge_answer(output, errors, job, table, xc, &bytes[..count], out),
-        Input::Failed => hand(output, errors, Stream::Stdout, b""),
-    }
-}
-
 // The answer's file is looked at when the job has been taken.
 fn judge_file<R: Files + Env, W: Write, E: Write>(
     rt: &R,
-    output: &mut W,
-    errors: &mut E,
+    console: &mut Console<'_, W, E>,
     job: Job,
-    table: &[f64],
-    xc: &[f64],
-    out: &mut [u8],
-) -> Handed
-    requires { JobSound job × (job.rows * job.n ≤ length table.now) × (job.n ≤ length xc.now) × (128 ≤ length out.old) }
-    ensures { Judged job (take (job.rows * job.n) table.now) (take job.n xc.now) result }
+    buffers: &mut Buffers,
+)
+    requires { JobSound job × (job.rows * job.n ≤ length buffers.old.table) × (job.n ≤ length buffers.old.xc) }
+    ensures { Writing W.contents console.old console.new (Judged job (take (job.rows * job.n) buffers.old.table) (take job.n buffers.old.xc)) }
 {
     let mut bytes = [0u8; INPUT_ROOM];
-    let read = read_argument(rt, errors, 3, &mut bytes);
-    judge_read(output, errors, job, table, xc, &bytes, read, out)
+    let read = console.read_argument(rt, 3, &mut bytes);
+    if let Some(count) = read {
+        judge_answer(console, job, buffers, &bytes[..count]);
+    }
 }
 
 fn belongs_lent<R: Files + Env, W: Write, E: Write>(
     rt: &R,
-    output: &mut W,
-    errors: &mut E,
+    console: &mut Console<'_, W, E>,
     bytes: &[u8],
-    table: &mut [f64; 32768],
-    xc: &mut [f64; 32],
-    mq: &mut [f64; 1024],
-    out: &mut [u8; 128],
-) -> Handed
-    ensures { JobJudged bytes.now result }
+    buffers: &mut Buffers,
+)
+    ensures { Writing W.contents console.old console.new (JobJudged bytes.now) }
 {
-    let taken = take_job(Source::Job, bytes, table, xc, mq, out);
-    match taken {
-        TakenJob::Taken(job) => judge_file(rt, output, errors, job, table, xc, out),
-        TakenJob::Refused(text) => hand_text(output, errors, Stream::Stderr, out, text),
+    let taken = take_or_refuse(console, Source::Job, bytes, buffers);
+    if let Some(job) = taken {
+        judge_file(rt, console, job, buffers);
     }
 }
 
 fn belongs_job<R: Files + Env, W: Write, E: Write>(
     rt: &R,
-    output: &mut W,
-    errors: &mut E,
+    console: &mut Console<'_, W, E>,
     bytes: &[u8],
-) -> Handed
-    ensures { JobJudged bytes.now result }
+)
+    ensures { Writing W.contents console.old console.new (JobJudged bytes.now) }
 {
-    let mut table = [0.0f64; 32768];
-    let mut xc = [0.0f64; 32];
-    let mut mq = [0.0f64; 1024];
-    let mut out = [0u8; 128];
-    belongs_lent(
-        rt, output, errors, bytes, &mut table, &mut xc, &mut mq, &mut out,
-    )
+    let mut buffers = Buffers::new();
+    belongs_lent(rt, console, bytes, &mut buffers);
 }
 
-fn belongs_read<R: Files + Env, W: Write, E: Write>(
-    rt: &R,
-    output: &mut W,
-    errors: &mut E,
-    bytes: &[u8],
-    read: Input,
-) -> Handed
-    requires { Within read (length bytes.now) }
-    ensures { FileJudged read bytes.now result }
-{
-    match read {
-        Input::Bytes(count) => belongs_job(rt, output, errors, &bytes[..count]),
-        Input::Failed => hand(output, errors, Stream::Stdout, b""),
-    }
-}
-
-fn run_belongs<R: Files + Env, W: Write, E: Write>(rt: &R, output: &mut W, errors: &mut E) -> Handed
-    ensures { Wrote Belongs result }
+fn run_belongs<R: Files + Env, W: Write, E: Write>(rt: &R, console: &mut Console<'_, W, E>)
+    ensures { Writing W.contents console.old console.new (Wrote Belongs) }
 {
     let mut bytes = [0u8; INPUT_ROOM];
-    let read = read_argument(rt, errors, 2, &mut bytes);
-    belongs_read(rt, output, errors, &bytes, read)
+    let read = console.read_argument(rt, 2, &mut bytes);
+    if let Some(count) = read {
+        belongs_job(rt, console, &bytes[..count]);
+    }
 }
 
 // ---- the program
@@ -164,30 +98,17 @@ fn run_belongs<R: Files + Env, W: Write, E: Write>(rt: &R, output: &mut W, error
 fn run_command<R: Files + Env, I: Read, W: Write, E: Write>(
     rt: &R,
     input: &mut I,
-    output: &mut W,
-    errors: &mut E,
-    command: Command,
-) -> Handed
-    ensures { Wrote command result }
-{
-    match command {
-        Command::Answer => run_answer(input, output, errors),
-        Command::Belongs => run_belongs(rt, output, errors),
-        Command::Usage => print_usage(output, errors),
-    }
-}
-
-fn run_word<R: Files + Env, I: Read, W: Write, E: Write>(
-    rt: &R,
-    input: &mut I,
-    output: &mut W,
-    errors: &mut E,
+    console: &mut Console<'_, W, E>,
     count: usize,
     word: &[u8],
-) -> Handed
-    ensures { Wrote (command_of count word.now) result }
+)
+    ensures { Writing W.contents console.old console.new (Wrote (command_of count word.now)) }
 {
-    run_command(rt, input, output, errors, command_of(count, word))
+    match command_of(count, word) {
+        Command::Answer => run_answer(input, console),
+        Command::Belongs => run_belongs(rt, console),
+        Command::Usage => print_usage(console),
+    }
 }
 
 // How many arguments there are, the program's own name among them.
@@ -208,10 +129,12 @@ pub fn run_arguments<R: Files + Env, I: Read, W: Write, E: Write>(
     output: &mut W,
     errors: &mut E,
 ) -> Handed
-    ensures { JobfileRan result }
+    ensures { JobfileRan W.contents output.old output.new result }
 {
     let mut word = [0u8; 16];
     let length = rt.arg(1, &mut word).unwrap_or(0);
     let count = count_arguments(rt);
-    run_word(rt, input, output, errors, count, &word[..length])
+    let mut console = Console::new(output, errors);
+    run_command(rt, input, &mut console, count, &word[..length]);
+    console.end()
 }

@@ -4,5 +4,5 @@
 pub mod answer;
 pub mod arguments;
 pub mod belongs;
-mod handing;
 pub mod jobfile;
+mod taking;

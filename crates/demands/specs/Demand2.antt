@@ -1,6 +1,6 @@
 -- Demand 2: "Every accepted call gives the Rust's bits, all NaNs counted as one, and the square root is proved to be IEEE 754's. An answer record written and read again is the same answer."
 -- That the definitions have the Rust's operations, in its order, is read beside docs/src and compared (docs/LISTS.md): the Rust is not in the logic, so no theorem says it. What can be proved stands here. Assumes nothing.
-use Rattle.std.specs.Prelude.{ℕ, suc, ◌≤◌, ◌<◌, ◌≡◌, refl, Bool, true, false, List, map, T, length, take, ℤ, Float}
+use Rattle.std.specs.Prelude.{ℕ, suc, ◌≤◌, ◌<◌, ◌≡◌, refl, Bool, true, false, List, map, T, length, take, ℤ, Float, Ok}
 use Rattle.std.proofs.Common.{sym, ◌∙◌, true≢false}
 use Rattle.std.specs.Float.{nan, inf, fin, binary64}
 use Rattle.std.specs.Float.Ieee.{fits, is_nan, nan_bits, to_bits}
@@ -18,8 +18,6 @@ use Rattle.drivers.specs.laws.RoundTrip as again
 use Rattle.drivers.specs.laws.OneField.{AllF64}
 use Rattle.drivers.specs.laws.Worked as worked_example
 use Rattle.drivers.specs.declared.answer.Answer.{Answer}
-use Rattle.drivers.specs.declared.answer.AnswerRead.TheVariants.{Read}
-use Rattle.drivers.specs.declared.answer.AnswerWritten.TheVariants.{Bytes}
 
 -- ---- "all NaNs counted as one": every pattern of a NaN is read as the one NaN, which is written as document 01 says
 
@@ -65,8 +63,8 @@ root_nearest = sqrt_nearest
 
 -- ---- "An answer record written and read again is the same answer", whatever stood in the outputs
 pub answer_again : (n : ℕ) (a : Answer) (x point : List Float) → a.steps < 65536 → AllF64 x → (a.found ≡ true → n ≤ length point)
-    → (out out' : List ℕ) (k : ℕ) → write_answer_answer n a x out ≡ (Bytes k, out')
-    → read_answer_answer n (take k out') point ≡ (Read a, pick a.found (fronted x point) point)
+    → (out out' : List ℕ) (k : ℕ) → write_answer_answer n a x out ≡ (Ok k, out')
+    → read_answer_answer n (take k out') point ≡ (Ok a, pick a.found (fronted x point) point)
 answer_again n a x point small f64 room = again.written_again n a x point small f64 room
 
 -- ---- document 01's known values marked P, of both lower layers, and its worked job

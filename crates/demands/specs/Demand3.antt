@@ -1,19 +1,18 @@
 -- Demand 3, the cursor rule, clause by clause, of `assess_feas` and of `assess_optim`. Assumes nothing.
-use Rattle.std.specs.Prelude.{ℕ, ◌≤◌, ◌<◌, ◌≡◌, refl, Bool, true, false, ◌&&◌, ◌||◌, List, leb, ltb, get_or, Float}
+use Rattle.std.specs.Prelude.{ℕ, ◌≤◌, ◌<◌, ◌≡◌, refl, Bool, true, false, ◌&&◌, ◌||◌, List, leb, ltb, get_or, Float, Some, None, Ok, Err}
 use Rattle.std.proofs.Common.{sym, ◌∙◌, true≢false, leb-true, ltb-true}
 use Rattle.std.specs.Float.{nan, inf, fin}
 use Rattle.std.specs.Float.Ieee.{is_nan, lt, eq}
 use Rattle.numbers.specs.F64.{0ᶠ}
 use Rattle.numbers.specs.Pick.{pick}
 use Rattle.numbers.specs.laws.Pick.{and_parts}
-use Rattle.oracles.specs.LowpassOracle.{offered, assess_feas_answer, assess_optim_answer}
-use Rattle.oracles.specs.Verdict.{Judgement, feasible, pass, stop, middle, sign, refused, Question, pass_end, stop_start, value_in, pass_breaks, stop_breaks, middle_breaks, sign_breaks, pass_broken, stop_broken, middle_broken, judge, Unbroken, no_stop_value, asked, limits, is_accepted, judgement, side_breaks, cut_breaks, Has, Peak, as_feas, is_six, is_feasible}
+use Rattle.oracles.specs.LowpassOracle.{Verdict, offered, assess_feas_answer, assess_optim_answer}
+use Rattle.oracles.specs.Verdict.{Judgement, feasible, pass, stop, middle, sign, refused, Question, pass_end, stop_start, value_in, pass_breaks, stop_breaks, middle_breaks, sign_breaks, pass_broken, stop_broken, middle_broken, judge, Unbroken, no_stop_value, asked, limits, is_accepted, judgement, side_breaks, group_breaks, cut_breaks, Has, Peak, as_feas, is_six, is_feasible}
 use Rattle.oracles.specs.laws.Judge.{judge_pass, judge_stop, judge_middle, judge_sign, judge_none, judge_feasible, unbroken_feasible}
 use Rattle.oracles.specs.laws.CursorRule.{feas_rule, optim_rule}
 use Rattle.oracles.specs.laws.TwoOracles.{same_verdict, same_peak, same_optim, same_optim_peak}
 use Rattle.oracles.specs.declared.lowpass_oracle.LowpassOracle.{LowpassOracle}
-use Rattle.oracles.specs.declared.lowpass_oracle.Verdict.{Verdict}
-use Rattle.oracles.specs.declared.lowpass_oracle.Verdict.TheVariants.{Feasible, Cut, Refused}
+use Rattle.oracles.specs.declared.lowpass_oracle.Group.{Group}
 use Rattle.oracles.specs.declared.lowpass_oracle.Group.TheVariants.{Pass, Stop, Middle, Sign}
 
 -- ---- the words
@@ -28,13 +27,16 @@ First q sign = (pass_broken q ≡ false) × (stop_broken q ≡ false) × (middle
 First q refused = ⊥
 
 -- "the cut's row, if any, is one of that group's and breaks it"
+abbrev pub GroupBreaks : Question → Group → Type 0
+GroupBreaks q (Pass row over) = (row < pass_end q) × (pass_breaks q row ≡ true)
+GroupBreaks q (Stop row over) = (stop_start q ≤ row) × (row < q.rows) × (stop_breaks q row ≡ true)
+GroupBreaks q (Middle row) = (pass_end q ≤ row) × (row < stop_start q) × (middle_breaks q row ≡ true)
+GroupBreaks q Sign = sign_breaks q ≡ true
+
 abbrev pub RowBreaks : Question → Verdict → Type 0
-RowBreaks q Feasible = Unit {0}
-RowBreaks q (Cut (Pass row over) beta) = (row < pass_end q) × (pass_breaks q row ≡ true)
-RowBreaks q (Cut (Stop row over) beta) = (stop_start q ≤ row) × (row < q.rows) × (stop_breaks q row ≡ true)
-RowBreaks q (Cut (Middle row) beta) = (pass_end q ≤ row) × (row < stop_start q) × (middle_breaks q row ≡ true)
-RowBreaks q (Cut Sign beta) = sign_breaks q ≡ true
-RowBreaks q (Refused why) = Unit {0}
+RowBreaks q (Ok None) = Unit {0}
+RowBreaks q (Ok (Some c)) = GroupBreaks q c.group
+RowBreaks q (Err why) = Unit {0}
 
 -- "It is feasible exactly when no pass row's rounded dot product lies outside its two limits, no stop row's above its limit or below zero, no middle row's below zero, and the first
 -- coefficient isn't below zero" .. "Otherwise the verdict is the first broken group, in that order, and the cut's row, if any, is one of that group's and breaks it."
@@ -81,21 +83,24 @@ either_side false upper lower v e = go (lt upper v)
     go true = refl
     go false = e
 
-row_of : (q : Question) (v : Verdict) → cut_breaks q v ≡ true → RowBreaks q v
-row_of q Feasible e = tt
-row_of q (Cut (Pass row over) beta) e =
+group_of : (q : Question) (g : Group) → group_breaks q g ≡ true → GroupBreaks q g
+group_of q (Pass row over) e =
     let a = and_parts (ltb row (pass_end q)) (side_breaks over q.limits.up_sq q.limits.lp_sq (value_in q row)) e in
     (ltb-true row (pass_end q) a.0, either_side over _ _ _ a.1)
-row_of q (Cut (Stop row over) beta) e =
+group_of q (Stop row over) e =
     let a = and_parts (leb (stop_start q) row && ltb row q.rows) (side_breaks over q.limits.sp_sq 0ᶠ (value_in q row)) e in
     let b = and_parts (leb (stop_start q) row) (ltb row q.rows) a.0 in
     (leb-true (stop_start q) row b.0, ltb-true row q.rows b.1, either_side over _ _ _ a.1)
-row_of q (Cut (Middle row) beta) e =
+group_of q (Middle row) e =
     let a = and_parts (leb (pass_end q) row && ltb row (stop_start q)) (lt (value_in q row) 0ᶠ) e in
     let b = and_parts (leb (pass_end q) row) (ltb row (stop_start q)) a.0 in
     (leb-true (pass_end q) row b.0, ltb-true row (stop_start q) b.1, a.1)
-row_of q (Cut Sign beta) e = e
-row_of q (Refused why) e = tt
+group_of q Sign e = e
+
+row_of : (q : Question) (v : Verdict) → cut_breaks q v ≡ true → RowBreaks q v
+row_of q (Ok None) e = tt
+row_of q (Ok (Some c)) e = group_of q c.group e
+row_of q (Err why) e = tt
 
 agrees : (q : Question) (v : Verdict) → judgement v ≡ judge q → cut_breaks q v ≡ true → Agrees q v
 agrees q v e c = record {

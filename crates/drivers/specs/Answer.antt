@@ -1,18 +1,16 @@
 -- The answer record (document 01, "Job and answer records"): its reader and its writer. Definitions only.
-use Rattle.std.specs.Prelude.{ℕ, Bool, List, [], ◌∷◌, leb, eqb, length, Float}
+use Rattle.numbers.specs.declared.refusal.Refusal.{Refusal}
+use Rattle.numbers.specs.declared.refusal.Fault.{Fault}
+use Rattle.std.specs.Prelude.{ℕ, Bool, List, [], ◌∷◌, leb, eqb, length, Float, Err, Ok, Result}
 use Rattle.numbers.specs.Pick.{pick}
 use Rattle.numbers.specs.Bits.{le_bytes}
 use Rattle.numbers.specs.Arr.{is_dimension, sized}
 use Rattle.numbers.specs.declared.refusal.Refusal.TheVariants.{Dimension, Room, Outcome}
-use Rattle.numbers.specs.Refusal.{◌⨾◌, unless, ask, ask_at, Tests}
+use Rattle.numbers.specs.Refusal.{◌⨾◌, unless, ask, ask_at, Tests, At}
 use Rattle.drivers.specs.Fields.{Field, record_bytes, number_bytes}
 use Rattle.drivers.specs.Record.{byte_at, start_of, half_at, numbers_at, fields_of, no_places, place, is_met, record_fault, lengths_fault, fronted}
 use Rattle.numbers.specs.Over.{over}
 use Rattle.drivers.specs.declared.answer.Answer.{Answer}
-use Rattle.drivers.specs.declared.answer.AnswerRead.{AnswerRead}
-use Rattle.drivers.specs.declared.answer.AnswerRead.TheVariants.{Read, Refused}
-use Rattle.drivers.specs.declared.answer.AnswerWritten.{AnswerWritten}
-use Rattle.drivers.specs.declared.answer.AnswerWritten.TheVariants.{Bytes, Refused as NotWritten}
 use Rattle.drivers.specs.Rules.{outcome_tag, steps_tag, found_tag, outcome_place, steps_place, found_place, answer_form}
 
 -- ---- what a record says; `places` has where the contents begin
@@ -58,10 +56,10 @@ abbrev pub read_answer_tests : ℕ → List ℕ → ℕ → Tests
 read_answer_tests n bytes room = answer_fault n bytes ⨾ point_room (point_at n bytes (answer_walk bytes).1) room
 
 -- `read_answer`: the point, if there is one, to the front of `out`
-unfoldable pub read_answer_answer : ℕ → List ℕ → List Float → AnswerRead × List Float
+unfoldable pub read_answer_answer : ℕ → List ℕ → List Float → Result Answer Fault × List Float
 read_answer_answer n bytes out =
     let places = (answer_walk bytes).1 in
-    unless (read_answer_tests n bytes (length out)) (λ why place. (Refused why place, out)) (Read (answer_at bytes places), fronted (point_at n bytes places) out)
+    unless (read_answer_tests n bytes (length out)) (λ why place. (At why place, out)) (Ok (answer_at bytes places), fronted (point_at n bytes places) out)
 
 -- ---- the writer
 
@@ -85,8 +83,8 @@ answer_bytes a point = record_bytes (answer_fields a point)
 abbrev pub write_answer_tests : ℕ → Answer → List Float → List ℕ → Tests
 write_answer_tests n a point out = sized n (eqb (length point) n) ⨾ ask (leb (length (answer_bytes a point)) (length out)) Room
 
-unfoldable pub write_answer_answer : ℕ → Answer → List Float → List ℕ → AnswerWritten × List ℕ
+unfoldable pub write_answer_answer : ℕ → Answer → List Float → List ℕ → Result ℕ Refusal × List ℕ
 unfolding over
 write_answer_answer n a point out =
     let bytes = answer_bytes a point in
-    unless (write_answer_tests n a point out) (λ why place. (NotWritten why, out)) (Bytes (length bytes), over out 0 bytes)
+    unless (write_answer_tests n a point out) (λ why place. (Err why, out)) (Ok (length bytes), over out 0 bytes)

@@ -1,5 +1,6 @@
 -- Whether an answer belongs to a job (document 01, "Job and answer records"). Definitions only.
-use Rattle.std.specs.Prelude.{Bool, not, ◌&&◌, List, eqb, length, Float}
+use Rattle.numbers.specs.declared.refusal.Refusal.{Refusal}
+use Rattle.std.specs.Prelude.{Bool, not, ◌&&◌, List, eqb, length, Float, Err, Ok, Result}
 use Rattle.numbers.specs.Pick.{pick}
 use Rattle.numbers.specs.Refusal.{unless, Tests}
 use Rattle.oracles.specs.Table.{table_fits}
@@ -8,11 +9,6 @@ use Rattle.oracles.specs.Verdict.{asked, judge, is_feasible}
 use Rattle.drivers.specs.Job.{job_oracle}
 use Rattle.drivers.specs.declared.answer.Answer.{Answer}
 use Rattle.drivers.specs.declared.job.Job.{Job}
-use Rattle.drivers.specs.declared.belongs.Belonging.{Belonging}
-use Rattle.drivers.specs.declared.belongs.Belonging.TheVariants.{Yes, No, Refused}
-
-abbrev pub yes_if : Bool → Belonging
-yes_if is_so = pick is_so Yes No
 
 -- a point is feasible for a job: nothing of the job's cursors is asked
 abbrev pub feasible_for : Job → List Float → List Float → Bool
@@ -31,7 +27,7 @@ abbrev pub belongs_tests : Job → List Float → List Float → List Float → 
 belongs_tests j table x point grad =
     oracle_tests (job_oracle j) j.n j.rows (table_fits j.n j.rows table x && eqb (length point) j.n && eqb (length grad) j.n)
 
-unfoldable pub belongs_answer : Job → List Float → List Float → Answer → List Float → List Float → Belonging × List Float
+unfoldable pub belongs_answer : Job → List Float → List Float → Answer → List Float → List Float → Result Bool Refusal × List Float
 belongs_answer j table x a point grad =
-    unless (belongs_tests j table x point grad) (λ why place. (Refused why, grad))
-    (yes_if (is_of j table x a point), (assess_feas_answer (job_oracle j) j.n j.rows table (asked_point a x point) grad).1)
+    unless (belongs_tests j table x point grad) (λ why place. (Err why, grad))
+    (Ok (is_of j table x a point), (assess_feas_answer (job_oracle j) j.n j.rows table (asked_point a x point) grad).1)

@@ -1,9 +1,10 @@
 -- The job record (document 01, "Job and answer records"): what its reader refuses, and what it reads. Definitions only.
-use Rattle.std.specs.Prelude.{ℕ, ◌*◌, ◌/◌, ◌%◌, ◌^◌, Bool, ◌&&◌, List, leb, ltb, length, drop, ℤ, pos, ◌-ℤ◌, Float}
+use Rattle.numbers.specs.declared.refusal.Fault.{Fault}
+use Rattle.std.specs.Prelude.{ℕ, ◌*◌, ◌/◌, ◌%◌, ◌^◌, Bool, ◌&&◌, List, leb, ltb, length, drop, ℤ, pos, ◌-ℤ◌, Float, Ok, Result}
 use Rattle.numbers.specs.Pick.{pick}
 use Rattle.numbers.specs.Bits.{float_of, word_at}
 use Rattle.numbers.specs.declared.refusal.Refusal.TheVariants.{Band, Cursor, Room}
-use Rattle.numbers.specs.Refusal.{◌⨾◌, unless, ask_at, ask, Tests}
+use Rattle.numbers.specs.Refusal.{◌⨾◌, unless, ask_at, ask, Tests, At}
 use Rattle.oracles.specs.Scan.{none}
 use Rattle.oracles.specs.Table.{is_rows}
 use Rattle.oracles.specs.LowpassOracle.{start_oracle, bands_fit, cursors_fit}
@@ -11,8 +12,6 @@ use Rattle.oracles.specs.declared.lowpass_oracle.LowpassOracle.{LowpassOracle}
 use Rattle.drivers.specs.Record.{start_of, half_at, number_at, numbers_at, fields_of, no_places, place, record_fault, size_fault, lengths_fault, row_count, rows_of, fronted}
 use Rattle.drivers.specs.declared.cutting_plane.Options.{Options}
 use Rattle.drivers.specs.declared.job.Job.{Job}
-use Rattle.drivers.specs.declared.job.JobAnswer.{JobAnswer}
-use Rattle.drivers.specs.declared.job.JobAnswer.TheVariants.{Read, Refused}
 use Rattle.drivers.specs.Rules.{n_place, bands_place, limits_place, point_place, cursors_place, kappa_place, matrix_place, settings_place, job_form}
 
 -- part k of a word of 16-bit numbers, the lowest first
@@ -113,14 +112,14 @@ abbrev pub read_tests : FullJob → Tests → List Float → List Float → List
 read_tests f fault table xc mq = fault ⨾ room_fault f.job (length table) (length xc) (length mq)
 
 -- a job put to the fronts of three slices, if nothing is at fault and they have room; else they stay
-abbrev pub read_into : FullJob → Tests → List Float → List Float → List Float → JobAnswer × List Float × List Float × List Float
+abbrev pub read_into : FullJob → Tests → List Float → List Float → List Float → Result Job Fault × List Float × List Float × List Float
 read_into f fault table xc mq =
-    unless (read_tests f fault table xc mq) (λ why place. (Refused why place, table, xc, mq))
-    (Read f.job, fronted f.table table, fronted f.point xc, fronted f.matrix mq)
+    unless (read_tests f fault table xc mq) (λ why place. (At why place, table, xc, mq))
+    (Ok f.job, fronted f.table table, fronted f.point xc, fronted f.matrix mq)
 
 -- `read_job`
 abbrev pub read_job_tests : List ℕ → List Float → List Float → List Float → Tests
 read_job_tests bytes table xc mq = read_tests (full_job bytes) (job_fault bytes) table xc mq
 
-unfoldable pub read_job_answer : List ℕ → List Float → List Float → List Float → JobAnswer × List Float × List Float × List Float
+unfoldable pub read_job_answer : List ℕ → List Float → List Float → List Float → Result Job Fault × List Float × List Float × List Float
 read_job_answer bytes table xc mq = read_into (full_job bytes) (job_fault bytes) table xc mq

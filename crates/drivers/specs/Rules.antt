@@ -1,25 +1,11 @@
 -- The table of tags (document 01, "Job and answer records"): the forms of record that have a tag, how often it stands there, and the length of its content. Definitions only.
-use Rattle.std.specs.Prelude.{ℕ, suc, ◌+◌, ◌*◌, ◌/◌, ◌%◌, ◌^◌, Bool, List, [], ◌∷◌, eqb, get_or}
+use Rattle.std.specs.Prelude.{ℕ, suc, ◌+◌, ◌*◌, ◌^◌, Bool, true, false, List, [], ◌∷◌, Some, None, eqb, get_or}
 use Rattle.numbers.specs.Pick.{pick}
 use Rattle.drivers.specs.declared.rules.Rule.{Rule}
 use Rattle.drivers.specs.declared.rules.Form.{Form}
-
--- the forms of record that have a tag, a bit for each
-abbrev pub in_job : ℕ
-in_job = 1
-
-abbrev pub in_answer : ℕ
-in_answer = 2
-
--- how often a tag stands in a record: exactly once, at least once, at most once
-abbrev pub once : ℕ
-once = 0
-
-abbrev pub many : ℕ
-many = 1
-
-abbrev pub maybe : ℕ
-maybe = 2
+use Rattle.drivers.specs.declared.rules.Form.TheVariants.{Job, Answer}
+use Rattle.drivers.specs.declared.rules.Often.{Often}
+use Rattle.drivers.specs.declared.rules.Often.TheVariants.{Once, Many, Maybe}
 
 -- the tags of an answer, which are written too
 abbrev pub outcome_tag : ℕ
@@ -31,21 +17,25 @@ steps_tag = 0x21
 abbrev pub found_tag : ℕ
 found_tag = 0x22
 
--- document 01's table: tag, forms, base, factor and power of n, how often
+-- a tag's rule: the form of record that has it, base, factor and power of n, how often it stands
+abbrev pub rule : ℕ → Form → ℕ → ℕ → ℕ → Often → Rule
+rule tag form base factor power often = record { tag = tag; form = Some form; base = base; factor = factor; power = power; often = often }
+
+-- document 01's table
 unfoldable pub rules : List Rule
 rules =
-    (0x01, in_job, 2, 0, 0, once)
-    ∷ (0x02, in_job, 4, 0, 0, once)
-    ∷ (0x03, in_job, 24, 0, 0, once)
-    ∷ (0x04, in_job, 0, 8, 1, many)
-    ∷ (0x05, in_job, 0, 8, 1, once)
-    ∷ (0x06, in_job, 6, 0, 0, once)
-    ∷ (0x07, in_job, 8, 0, 0, once)
-    ∷ (0x08, in_job, 0, 8, 2, once)
-    ∷ (0x09, in_job, 10, 0, 0, once)
-    ∷ (outcome_tag, in_answer, 1, 0, 0, once)
-    ∷ (steps_tag, in_answer, 2, 0, 0, once)
-    ∷ (found_tag, in_answer, 0, 8, 1, maybe)
+    rule 0x01 Job 2 0 0 Once
+    ∷ rule 0x02 Job 4 0 0 Once
+    ∷ rule 0x03 Job 24 0 0 Once
+    ∷ rule 0x04 Job 0 8 1 Many
+    ∷ rule 0x05 Job 0 8 1 Once
+    ∷ rule 0x06 Job 6 0 0 Once
+    ∷ rule 0x07 Job 8 0 0 Once
+    ∷ rule 0x08 Job 0 8 2 Once
+    ∷ rule 0x09 Job 10 0 0 Once
+    ∷ rule outcome_tag Answer 1 0 0 Once
+    ∷ rule steps_tag Answer 2 0 0 Once
+    ∷ rule found_tag Answer 0 8 1 Maybe
     ∷ []
 
 -- its rows by name, and how many there are
@@ -90,34 +80,54 @@ tags = 12
 
 -- what no tag of the table has: no form
 abbrev pub no_rule : Rule
-no_rule = (0, 0, 0, 0, 0, once)
+no_rule = record { tag = 0; form = None; base = 0; factor = 0; power = 0; often = Once }
 
 -- rule i; past the table that of no tag
 unfoldable pub rule_at : ℕ → Rule
 unfolding rules
 rule_at i = get_or rules i no_rule
 
--- a form of record, by its bit
+-- the two forms of record
 abbrev pub job_form : Form
-job_form = record { bit = in_job }
+job_form = Job
 
 abbrev pub answer_form : Form
-answer_form = record { bit = in_answer }
+answer_form = Answer
 
--- rule i's tag is one of the form's; how often it may stand
+abbrev pub same_form : Form → Form → Bool
+same_form Job Job = true
+same_form Job Answer = false
+same_form Answer Job = false
+same_form Answer Answer = true
+
+-- a rule's tag is one of the form's
+abbrev pub has_tag : Form → Rule → Bool
+has_tag form r = elim r.form [ None ↦ false | Some own ↦ same_form own form ]
+
 abbrev pub is_of : Form → ℕ → Bool
-is_of form i = eqb ((rule_at i).1 / form.bit % 2) 1
+is_of form i = has_tag form (rule_at i)
+
+-- how often it may stand
+abbrev pub is_many : Often → Bool
+is_many Once = false
+is_many Many = true
+is_many Maybe = false
+
+abbrev pub is_maybe : Often → Bool
+is_maybe Once = false
+is_maybe Many = false
+is_maybe Maybe = true
 
 abbrev pub repeats : ℕ → Bool
-repeats i = eqb (rule_at i).5 many
+repeats i = is_many (rule_at i).often
 
 abbrev pub optional : ℕ → Bool
-optional i = eqb (rule_at i).5 maybe
+optional i = is_maybe (rule_at i).often
 
 -- a tag's place in the table, 12 where it is not there
 unfoldable pub index_in : List Rule → ℕ → ℕ
 index_in [] tag = 0
-index_in (r ∷ rs) tag = pick (eqb r.0 tag) 0 (suc (index_in rs tag))
+index_in (r ∷ rs) tag = pick (eqb r.tag tag) 0 (suc (index_in rs tag))
 
 unfoldable pub index_of : ℕ → ℕ
 unfolding rules index_in
@@ -126,4 +136,4 @@ index_of tag = index_in rules tag
 -- the bytes that a field's content must have: base + factor × n ^ power
 unfoldable pub rule_length : ℕ → ℕ → ℕ
 unfolding rule_at
-rule_length i n = (rule_at i).2 + (rule_at i).3 * n ^ (rule_at i).4
+rule_length i n = (rule_at i).base + (rule_at i).factor * n ^ (rule_at i).power

@@ -1,5 +1,5 @@
 -- The text of a run (document 01, "The program `filterrun`"): a line for each cut, then the answer, or one line that refuses the job. Definitions only.
-use Rattle.std.specs.Prelude.{ℕ, Bool, true, false, List, [], ◌∷◌, ◌++◌, length}
+use Rattle.std.specs.Prelude.{ℕ, Bool, true, false, List, [], ◌∷◌, ◌++◌, length, Some, None, Result, Ok, Err}
 use Rattle.numbers.specs.Pick.{pick}
 use Rattle.numbers.specs.Bits.{bits_of}
 use Rattle.numbers.specs.Refusal.{refusal_number, unless, Tests}
@@ -14,16 +14,10 @@ use Rattle.oracles.specs.declared.lowpass_oracle.Group.{Group}
 use Rattle.oracles.specs.declared.lowpass_oracle.Group.TheVariants.{Pass, Stop, Middle, Sign}
 use Rattle.drivers.specs.Text.{bytes_of, joined, decimal, hex}
 use Rattle.drivers.specs.declared.answer.Answer.{Answer}
-use Rattle.drivers.specs.declared.cutting_plane_feas.StepAnswer.{StepAnswer}
-use Rattle.drivers.specs.declared.cutting_plane_feas.StepAnswer.TheVariants.{Feasible, Cut, Refused as NotStepped}
-use Rattle.drivers.specs.declared.cutting_plane_feas.FeasAnswer.{FeasAnswer}
-use Rattle.drivers.specs.declared.cutting_plane_feas.FeasAnswer.TheVariants.{Ended, Refused as NotRun}
-use Rattle.drivers.specs.declared.trace.Text.{Text}
-use Rattle.drivers.specs.declared.trace.Text.TheVariants.{Bytes, Refused}
 use Rattle.drivers.specs.declared.trace.Source.{Source}
 use Rattle.drivers.specs.declared.trace.Source.TheVariants.{Only, Job, Answer as OfAnswer}
 use Rattle.drivers.specs.CuttingPlane.{room_test}
-use Rattle.drivers.specs.CuttingPlaneFeas.{feas_ended}
+use Rattle.drivers.specs.CuttingPlaneFeas.{feas_ended, StepAnswer}
 
 -- ---- a cut's line: step, group, row or -, over or under, beta0, beta1 or -, status. The words stand here with the spaces beside them.
 
@@ -58,9 +52,9 @@ cut_pieces step group beta status = (decimal step ∷ group_word group ∷ row_t
 
 -- what a step prints of itself: nothing, or its cut
 abbrev pub answer_pieces : ℕ → StepAnswer → List (List ℕ)
-answer_pieces step Feasible = []
-answer_pieces step (Cut group beta status) = cut_pieces step group beta status
-answer_pieces step (NotStepped why) = []
+answer_pieces step (Ok None) = []
+answer_pieces step (Ok (Some made)) = cut_pieces step made.cut.group made.cut.beta made.status
+answer_pieces step (Err why) = []
 
 -- ---- the last line: `found` or `none`, and the steps
 
@@ -71,9 +65,9 @@ outcome_word false = bytes_of "none "
 abbrev pub last_pieces : Answer → List (List ℕ)
 last_pieces a = outcome_word a.found ∷ decimal a.steps ∷ bytes_of "\n" ∷ []
 
-abbrev pub ended_pieces : FeasAnswer → List (List ℕ)
-ended_pieces (Ended a) = last_pieces a
-ended_pieces (NotRun why) = []
+abbrev pub ended_pieces : Result Answer Refusal → List (List ℕ)
+ended_pieces (Ok a) = last_pieces a
+ended_pieces (Err why) = []
 
 -- ---- the line of a refusal: `refused`, number, place and, where a command takes two inputs, which of them
 
@@ -95,9 +89,13 @@ room = 128
 abbrev pub text_room : List ℕ → Tests
 text_room out = room_test room (length out)
 
+-- how many bytes a text has, or why nothing was written
+abbrev pub Text : Type 0
+Text = Result ℕ Refusal
+
 -- a text at the front of `out`, and its length
 unfoldable pub printed : List ℕ → List ℕ → Text × List ℕ
-printed text out = unless (text_room out) (λ why place. (Refused why, out)) (Bytes (length text), over out 0 text)
+printed text out = unless (text_room out) (λ why place. (Err why, out)) (Ok (length text), over out 0 text)
 
 -- `refused_line`
 abbrev pub refused_line_answer : Source → Refusal → ℕ → List ℕ → Text × List ℕ

@@ -21,3 +21,4 @@ pub mod JobRuns
 pub mod FoundFeasible
 pub mod Worked
 pub mod Program
+pub mod Writer

@@ -8,12 +8,12 @@ ghost use Rattle.drivers.specs.Answer.{outcome_byte, answer_walk, outcome_fault,
 ghost use Rattle.drivers.specs.laws.Answer.{content_fault};
 ghost use Rattle.drivers.specs.laws.Text.{put_all};
 
-use crate::fields::{put_integer_field, put_numbers_field};
 use crate::record::{
     HEADER, byte_at, half_at, lengths_fault, numbers_into, record_fault, start_of,
 };
 use crate::rules::{ANSWER, FOUND, FOUND_TAG, OUTCOME, OUTCOME_TAG, STEPS, STEPS_TAG, TAGS};
-use numbers::arr::is_dimension;
+use crate::text::Writer;
+use numbers::arr::{dimension, lengths};
 use numbers::refusal::{Fault, Refusal};
 
 // What a run answers, and a record keeps, beside the point: whether there is one, and the steps.
@@ -21,19 +21,6 @@ use numbers::refusal::{Fault, Refusal};
 pub struct Answer {
     pub found: bool,
     pub steps: u16,
-}
-
-#[derive(Clone, Copy)]
-pub enum AnswerRead {
-    Read(Answer),
-    Refused(Refusal, usize),
-}
-
-// The count of bytes written, or why nothing was written.
-#[derive(Clone, Copy)]
-pub enum AnswerWritten {
-    Bytes(usize),
-    Refused(Refusal),
 }
 
 // The outcome, one byte of a record.
@@ -52,7 +39,10 @@ fn outcome_fault(bytes: &[u8], places: &[usize; TAGS]) -> Result<(), Fault>
 {
     let outcome = places[OUTCOME];
     if byte_at(bytes, outcome) != outcome_byte(places[FOUND] != 0) {
-        return Err(Fault { why: Refusal::Outcome, place: start_of(outcome) });
+        return Err(Fault {
+            why: Refusal::Outcome,
+            place: start_of(outcome),
+        });
     }
     Ok(())
 }
@@ -62,33 +52,27 @@ fn content_fault(n: usize, bytes: &[u8], places: &[usize; TAGS], room: usize) ->
     requires { n ≤ 32 }
     ensures { result ≡ content_fault n bytes.now places.now room }
 {
-    let fault = lengths_fault(bytes, n);
-    if fault.is_err() {
-        return fault;
-    }
-    let fault = outcome_fault(bytes, places);
-    if fault.is_err() {
-        return fault;
-    }
+    lengths_fault(bytes, n)?;
+    outcome_fault(bytes, places)?;
     if (places[FOUND] != 0) & (room < n) {
-        return Err(Fault { why: Refusal::Room, place: 0 });
+        return Err(Fault::from(Refusal::Room));
     }
     Ok(())
 }
 
 // The first fault of an answer record, in document 01's order, 11 the last; `places` becomes where the contents of its tags begin.
-fn answer_fault(n: usize, bytes: &[u8], places: &mut [usize; TAGS], room: usize) -> Result<(), Fault>
+fn answer_fault(
+    n: usize,
+    bytes: &[u8],
+    places: &mut [usize; TAGS],
+    room: usize,
+) -> Result<(), Fault>
     requires { places.old ≡ no_places }
     ensures value { result ≡ read_answer_tests n bytes.now room }
     ensures places_after { result ≡ Sound → places.new ≡ (answer_walk bytes.now).1 }
 {
-    if !is_dimension(n) {
-        return Err(Fault { why: Refusal::Dimension, place: 0 });
-    }
-    let fault = record_fault(bytes, ANSWER, places);
-    if fault.is_err() {
-        return fault;
-    }
+    dimension(n)?;
+    record_fault(bytes, ANSWER, places)?;
     content_fault(n, bytes, places, room)
 }
 
@@ -110,15 +94,12 @@ fn fill_answer(n: usize, bytes: &[u8], places: &[usize; TAGS], point: &mut [f64]
 }
 
 // Reads an answer record; a point goes to the front of `point`.
-pub fn read_answer(n: usize, bytes: &[u8], point: &mut [f64]) -> AnswerRead
+pub fn read_answer(n: usize, bytes: &[u8], point: &mut [f64]) -> Result<Answer, Fault>
     ensures { (result, point.new) ≡ read_answer_answer n bytes.now point.old }
 {
     let mut places = [0usize; TAGS];
-    let fault = answer_fault(n, bytes, &mut places, point.len());
-    match fault {
-        Err(Fault { why, place }) => AnswerRead::Refused(why, place),
-        Ok(()) => AnswerRead::Read(fill_answer(n, bytes, &places, point)),
-    }
+    answer_fault(n, bytes, &mut places, point.len())?;
+    Ok(fill_answer(n, bytes, &places, point))
 }
 
 // The bytes of a record without a point: two headers, an outcome of one byte and steps of two.
@@ -140,26 +121,29 @@ fn put_answer(out: &mut [u8], answer: Answer, point: &[f64]) -> usize
     requires { length point.now ≤ 32 }
     ensures { (result, out.new) ≡ put_all out.old 0 (map field_bytes (answer_fields answer point.now)) }
 {
-    let at = put_integer_field(out, 0, OUTCOME_TAG, 1, outcome_byte(answer.found));
-    let at = put_integer_field(out, at, STEPS_TAG, 2, answer.steps as u64);
+    let mut record = Writer::new(out, 0);
+    record.put_integer_field(OUTCOME_TAG, 1, outcome_byte(answer.found));
+    record.put_integer_field(STEPS_TAG, 2, answer.steps as u64);
     if !answer.found {
-        return at;
+        return record.end();
     }
-    put_numbers_field(out, at, FOUND_TAG, point)
+    record.put_numbers_field(FOUND_TAG, point);
+    record.end()
 }
 
-// Writes an answer record to the front of `out`: n numbers of `point`, if one was found.
-pub fn write_answer(n: usize, answer: Answer, point: &[f64], out: &mut [u8]) -> AnswerWritten
+// Writes an answer record to the front of `out`: n numbers of `point`, if one was found. How many bytes it has.
+pub fn write_answer(
+    n: usize,
+    answer: Answer,
+    point: &[f64],
+    out: &mut [u8],
+) -> Result<usize, Refusal>
     ensures { (result, out.new) ≡ write_answer_answer n answer point.now out.old }
 {
-    if !is_dimension(n) {
-        return AnswerWritten::Refused(Refusal::Dimension);
-    }
-    if point.len() != n {
-        return AnswerWritten::Refused(Refusal::Length);
-    }
+    dimension(n)?;
+    lengths(point.len() == n)?;
     if out.len() < answer_size(n, answer.found) {
-        return AnswerWritten::Refused(Refusal::Room);
+        return Err(Refusal::Room);
     }
-    AnswerWritten::Bytes(put_answer(out, answer, point))
+    Ok(put_answer(out, answer, point))
 }

@@ -1,11 +1,11 @@
 // What both drivers (cutting_plane.rs) share: their options, their tests, the best point, and whether a run goes on.
-ghost use Rattle.std.specs.Prelude.{◌≡◌};
-ghost use Rattle.numbers.specs.Refusal.{◌⨾◌};
+ghost use Rattle.std.specs.Prelude.{◌≡◌, Ok, Err};
+ghost use Rattle.numbers.specs.Refusal.{◌⨾◌, unless};
 ghost use Rattle.drivers.specs.CuttingPlane.{default_options, check_of, room_test, kept, proceeds};
 
-use numbers::arr::is_dimension;
+use numbers::arr::{dimension, lengths};
 use numbers::cut::CutStatus;
-use numbers::refusal::{Fault, Refusal};
+use numbers::refusal::Refusal;
 use oracles::lowpass_oracle::LowpassOracle;
 use oracles::table::table_fits;
 
@@ -49,23 +49,19 @@ pub(crate) fn check(
     grad_t: usize,
     room: usize,
     needed: usize,
-) -> Result<(), Fault>
-    ensures { result ≡ (check_of oracle n rows table mq xc grad grad_t ⨾ room_test needed room) }
+) -> Result<(), Refusal>
+    ensures { result ≡ unless (check_of oracle n rows table mq xc grad grad_t ⨾ room_test needed room) (λ why place. Err why) (Ok tt) }
 {
-    if !is_dimension(n) {
-        return Err(Fault { why: Refusal::Dimension, place: 0 });
-    }
-    if !(table_fits(n, rows, table, xc) & (mq == n * n) & (grad == n) & (grad_t == n)) {
-        return Err(Fault { why: Refusal::Length, place: 0 });
-    }
+    dimension(n)?;
+    lengths(table_fits(n, rows, table, xc) & (mq == n * n) & (grad == n) & (grad_t == n))?;
     if !oracle.bands_fit(rows) {
-        return Err(Fault { why: Refusal::Band, place: 0 });
+        return Err(Refusal::Band);
     }
     if !oracle.cursors_fit() {
-        return Err(Fault { why: Refusal::Cursor, place: 0 });
+        return Err(Refusal::Cursor);
     }
     if room < needed {
-        return Err(Fault { why: Refusal::Room, place: 0 });
+        return Err(Refusal::Room);
     }
     Ok(())
 }
@@ -77,20 +73,12 @@ pub(crate) fn keep(is_kept: bool, xc: &[f64], x_best: &mut [f64])
     if !(is_kept & (xc.len() <= x_best.len())) {
         return;
     }
-    let mut i = 0;
-    while i < xc.len() {
-        x_best[i] = xc[i];
-        i += 1;
-    }
+    x_best[..xc.len()].copy_from_slice(xc);
 }
 
 // Whether the run goes on after an update.
 pub(crate) fn proceeds(status: CutStatus, tsq: f64, tolerance: f64) -> bool
     ensures { result ≡ proceeds status tsq tolerance }
 {
-    match status {
-        CutStatus::Success => !(tsq < tolerance),
-        CutStatus::NoSoln => false,
-        CutStatus::NoEffect => false,
-    }
+    status == CutStatus::Success && !(tsq < tolerance)
 }

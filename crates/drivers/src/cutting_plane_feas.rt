@@ -1,25 +1,26 @@
 // `cutting_plane_feas` (cutting_plane.rs) over the lowpass oracle and `Ell`. The caller lends the row table, the matrix mq, the centre xc and the scratch.
-ghost use Rattle.std.specs.Prelude.{◌≡◌, List, Float};
+ghost use Rattle.std.specs.Prelude.{◌≡◌, List, Float, Err};
 ghost use Rattle.numbers.specs.declared.refusal.Refusal.{Refusal};
-ghost use Rattle.drivers.specs.declared.cutting_plane_feas.FeasAnswer.TheVariants.{Refused as NotRun};
 ghost use Rattle.drivers.specs.CuttingPlane.{State, state_of};
 ghost use Rattle.drivers.specs.CuttingPlaneFeas.{cut_answer, goes_on, feas_ended, is_found, feas_step, feas_run, feas_answer};
 
 use crate::answer::Answer;
 use crate::cutting_plane::{Options, check, keep, proceeds};
-use numbers::cut::{CutChoice, CutStatus};
-use numbers::refusal::{Fault, Refusal};
+use numbers::cut::CutStatus;
+use numbers::refusal::Refusal;
 use oracles::ell::Ell;
-use oracles::ell_common::{CutStrategy, Update};
-use oracles::lowpass_oracle::{Group, LowpassOracle, Verdict};
+use oracles::ell_common::CutStrategy;
+use oracles::lowpass_oracle::{Cut, LowpassOracle};
 
-// What a step of `cutting_plane_feas` came to: the centre is feasible, or it was cut off with this status.
+// A cut that a step made, and what the ellipsoid came to.
 #[derive(Clone, Copy)]
-pub(crate) enum StepAnswer {
-    Feasible,
-    Cut(Group, CutChoice, CutStatus),
-    Refused(Refusal),
+pub(crate) struct StepCut {
+    pub(crate) cut: Cut,
+    pub(crate) status: CutStatus,
 }
+
+// What a step of `cutting_plane_feas` came to: none where the centre is feasible, else the cut.
+pub(crate) type StepAnswer = Result<Option<StepCut>, Refusal>;
 
 #[derive(Clone, Copy)]
 pub(crate) struct FeasStep {
@@ -28,26 +29,31 @@ pub(crate) struct FeasStep {
     pub(crate) answer: StepAnswer,
 }
 
-#[derive(Clone, Copy)]
-pub enum FeasAnswer {
-    Ended(Answer),
-    Refused(Refusal),
-}
-
 // The state after the run; as it came where the call is refused.
 #[derive(Clone, Copy)]
 pub struct FeasRun {
     pub oracle: LowpassOracle,
     pub ell: Ell,
-    pub answer: FeasAnswer,
+    pub answer: Result<Answer, Refusal>,
 }
 
-fn cut_answer(group: Group, beta: CutChoice, answer: Update) -> StepAnswer
-    ensures { result ≡ cut_answer group beta answer }
+fn cut_answer(cut: Cut, answer: Result<CutStatus, Refusal>) -> StepAnswer
+    ensures { result ≡ cut_answer cut answer }
 {
-    match answer {
-        Update::Status(status) => StepAnswer::Cut(group, beta, status),
-        Update::Refused(why) => StepAnswer::Refused(why),
+    Ok(Some(StepCut {
+        cut,
+        status: answer?,
+    }))
+}
+
+// A step that makes no cut: the centre is feasible, or its assessment is refused.
+fn no_cut(oracle: LowpassOracle, ell: Ell, answer: StepAnswer) -> FeasStep
+    ensures { result ≡ record { oracle = oracle; ell = ell; answer = answer } }
+{
+    FeasStep {
+        oracle,
+        ell,
+        answer,
     }
 }
 
@@ -70,24 +76,17 @@ pub(crate) fn feas_step(
     let after = assessed.oracle;
     let verdict = assessed.verdict;
     match verdict {
-        Verdict::Feasible => FeasStep {
-            oracle: after,
-            ell,
-            answer: StepAnswer::Feasible,
-        },
-        Verdict::Cut(group, beta) => {
-            let change = ell.change(CutStrategy::BiasCut, grad, beta, mq, xc, grad_t);
-            let outcome = change.outcome;
-            FeasStep {
-                oracle: after,
-                ell: ell.changed(change),
-                answer: cut_answer(group, beta, outcome.answer()),
+        Err(why) => no_cut(after, ell, Err(why)),
+        Ok(found) => match found {
+            None => no_cut(after, ell, Ok(None)),
+            Some(cut) => {
+                let change = ell.change(CutStrategy::BiasCut, grad, cut.beta, mq, xc, grad_t);
+                FeasStep {
+                    oracle: after,
+                    ell: ell.changed(change),
+                    answer: cut_answer(cut, change.answer),
+                }
             }
-        }
-        Verdict::Refused(why) => FeasStep {
-            oracle: after,
-            ell,
-            answer: StepAnswer::Refused(why),
         },
     }
 }
@@ -97,27 +96,23 @@ pub(crate) fn goes_on(answer: StepAnswer, tsq: f64, tolerance: f64) -> bool
     ensures { result ≡ goes_on answer tsq tolerance }
 {
     match answer {
-        StepAnswer::Feasible => false,
-        StepAnswer::Cut(_, _, status) => proceeds(status, tsq, tolerance),
-        StepAnswer::Refused(_) => false,
+        Err(_) => false,
+        Ok(made) => match made {
+            None => false,
+            Some(step) => proceeds(step.status, tsq, tolerance),
+        },
     }
 }
 
 // What a run answers that ends with this step.
-pub(crate) fn feas_ended(answer: StepAnswer, niter: u16) -> FeasAnswer
+pub(crate) fn feas_ended(answer: StepAnswer, niter: u16) -> Result<Answer, Refusal>
     ensures { result ≡ feas_ended answer niter }
 {
-    match answer {
-        StepAnswer::Feasible => FeasAnswer::Ended(Answer {
-            found: true,
-            steps: niter,
-        }),
-        StepAnswer::Cut(_, _, _) => FeasAnswer::Ended(Answer {
-            found: false,
-            steps: niter,
-        }),
-        StepAnswer::Refused(why) => FeasAnswer::Refused(why),
-    }
+    let made = answer?;
+    Ok(Answer {
+        found: made.is_none(),
+        steps: niter,
+    })
 }
 
 // The steps, with nothing left to refuse.
@@ -137,8 +132,7 @@ fn run_feas(
 {
     let mut oracle = oracle;
     let mut space = ell;
-    let mut niter = 0;
-    while niter < options.max_iters {
+    for niter in 0..options.max_iters {
         let step = feas_step(oracle, space, rows, table, mq, xc, grad, grad_t);
         oracle = step.oracle;
         space = step.ell;
@@ -150,24 +144,23 @@ fn run_feas(
                 answer: feas_ended(answer, niter),
             };
         }
-        niter += 1;
     }
     FeasRun {
         oracle,
         ell: space,
-        answer: FeasAnswer::Ended(Answer {
+        answer: Ok(Answer {
             found: false,
-            steps: niter,
+            steps: options.max_iters,
         }),
     }
 }
 
-fn is_found(answer: FeasAnswer) -> bool
+fn is_found(answer: Result<Answer, Refusal>) -> bool
     ensures { result ≡ is_found answer }
 {
     match answer {
-        FeasAnswer::Ended(ended) => ended.found,
-        FeasAnswer::Refused(_) => false,
+        Ok(ended) => ended.found,
+        Err(_) => false,
     }
 }
 
@@ -186,13 +179,13 @@ pub fn cutting_plane_feas(
 ) -> FeasRun
     ensures answer_and_state { (result.answer, state_of result.oracle result.ell mq.new xc.new grad.new grad_t.new, x_best.new)
         ≡ feas_answer options rows table.now (state_of oracle ell mq.old xc.old grad.old grad_t.old) x_best.old }
-    ensures refused_writes_nothing { (why : Refusal) → result.answer ≡ NotRun why →
+    ensures refused_writes_nothing { (why : Refusal) → result.answer ≡ Err why →
         ◌≡◌ {A = State × List Float}
         (state_of result.oracle result.ell mq.new xc.new grad.new grad_t.new, x_best.new)
         (state_of oracle ell mq.old xc.old grad.old grad_t.old, x_best.old) }
 {
     let n = ell.ndim;
-    let fault = check(
+    let tested = check(
         oracle,
         n,
         rows,
@@ -204,11 +197,11 @@ pub fn cutting_plane_feas(
         x_best.len(),
         n,
     );
-    match fault {
-        Err(Fault { why, .. }) => FeasRun {
+    match tested {
+        Err(why) => FeasRun {
             oracle,
             ell,
-            answer: FeasAnswer::Refused(why),
+            answer: Err(why),
         },
         Ok(()) => {
             let run = run_feas(oracle, ell, options, rows, table, mq, xc, grad, grad_t);

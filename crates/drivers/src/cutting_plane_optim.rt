@@ -1,16 +1,28 @@
 // `cutting_plane_optim` (cutting_plane.rs) over the lowpass oracle and `Ell`. The caller lends the row table, the matrix mq, the centre xc and the scratch.
-ghost use Rattle.std.specs.Prelude.{◌≡◌, false};
+ghost use Rattle.std.specs.Prelude.{◌≡◌, false, Err};
 ghost use Rattle.oracles.specs.Ell.{ell_changed};
 ghost use Rattle.numbers.specs.declared.refusal.Refusal.{Refusal};
-ghost use Rattle.drivers.specs.declared.cutting_plane_optim.OptimAnswer.TheVariants.{Refused as NotRunOptim};
+ghost use Rattle.drivers.specs.declared.cutting_plane_optim.OptimStop.TheVariants.{Refused};
 ghost use Rattle.drivers.specs.CuttingPlaneOptim.{optim_state_of, optim_step, optim_goes_on, optim_ended, optim_end, optim_run, optim_answer};
+ghost use Rattle.drivers.specs.Numbered.{stop_number, optim_number};
 
 use crate::answer::Answer;
 use crate::cutting_plane::{Options, check, keep, proceeds};
-use numbers::refusal::{Fault, Refusal};
+use numbers::cut::CutStatus;
+use numbers::refusal::Refusal;
 use oracles::ell::{Ell, EllChange};
-use oracles::ell_common::{CutStrategy, Update};
+use oracles::ell_common::CutStrategy;
 use oracles::lowpass_oracle::{LowpassOracle, OptimVerdict};
+
+// The number of a run's answer.
+pub fn optim_number(answer: &Result<Answer, OptimStop>) -> u8
+    ensures { result ≡ optim_number answer.now }
+{
+    match answer {
+        Ok(_) => 0,
+        Err(stop) => u8::from(*stop),
+    }
+}
 
 #[derive(Clone, Copy)]
 struct OptimStep {
@@ -18,15 +30,26 @@ struct OptimStep {
     ell: Ell,
     gamma: f64,
     found: bool,
-    answer: Update,
+    answer: Result<CutStatus, Refusal>,
 }
 
-// A run that is halted by refusal 6 answers the halted step's number, and whether there is a best point.
+// Why a run did not end: refusal 6 halted it, with the halted step's number and whether there is a best point; or it was refused.
 #[derive(Clone, Copy)]
-pub enum OptimAnswer {
-    Ended(Answer),
+pub enum OptimStop {
     Halted(Answer),
     Refused(Refusal),
+}
+
+// Document 01's number.
+impl From<OptimStop> for u8 {
+    ghost from_gives = { λ stop n. n ≡ stop_number stop };
+
+    fn from(stop: OptimStop) -> u8 {
+        match stop {
+            OptimStop::Halted(_) => u8::from(Refusal::NoStopValue),
+            OptimStop::Refused(why) => u8::from(why),
+        }
+    }
 }
 
 // `gamma` is the caller's sp_sq, after the run.
@@ -35,7 +58,7 @@ pub struct OptimRun {
     pub oracle: LowpassOracle,
     pub ell: Ell,
     pub gamma: f64,
-    pub answer: OptimAnswer,
+    pub answer: Result<Answer, OptimStop>,
 }
 
 // A step that ends with this update.
@@ -48,13 +71,12 @@ fn optim_stepped(
 ) -> OptimStep
     ensures { result ≡ record { oracle = oracle; ell = (ell_changed ell change).ell; gamma = gamma; found = «found»; answer = (ell_changed ell change).answer } }
 {
-    let outcome = change.outcome;
     OptimStep {
         oracle,
         ell: ell.changed(change),
         gamma,
         found,
-        answer: outcome.answer(),
+        answer: change.answer,
     }
 }
 
@@ -81,37 +103,43 @@ fn optim_step(
     let offer = assessed.gamma;
     let verdict = assessed.verdict;
     match verdict {
-        OptimVerdict::Improved(beta) => {
-            keep(true, xc, x_best);
-            let change = ell.change(CutStrategy::CentralCut, grad, beta, mq, xc, grad_t);
-            optim_stepped(after, ell, change, offer, true)
-        }
-        OptimVerdict::Cut(_, beta) => {
-            let change = ell.change(CutStrategy::BiasCut, grad, beta, mq, xc, grad_t);
-            optim_stepped(after, ell, change, offer, found)
-        }
-        OptimVerdict::Refused(why) => OptimStep {
+        Err(why) => OptimStep {
             oracle: after,
             ell,
             gamma: offer,
             found,
-            answer: Update::Refused(why),
+            answer: Err(why),
+        },
+        Ok(said) => match said {
+            OptimVerdict::Improved(beta) => {
+                keep(true, xc, x_best);
+                let change = ell.change(CutStrategy::CentralCut, grad, beta, mq, xc, grad_t);
+                optim_stepped(after, ell, change, offer, true)
+            }
+            OptimVerdict::Cut(cut) => {
+                let change = ell.change(CutStrategy::BiasCut, grad, cut.beta, mq, xc, grad_t);
+                optim_stepped(after, ell, change, offer, found)
+            }
         },
     }
 }
 
 // Whether the run goes on after an update that may have been refused.
-fn optim_goes_on(answer: Update, tsq: f64, tolerance: f64) -> bool
+fn optim_goes_on(answer: Result<CutStatus, Refusal>, tsq: f64, tolerance: f64) -> bool
     ensures { result ≡ optim_goes_on answer tsq tolerance }
 {
     match answer {
-        Update::Status(status) => proceeds(status, tsq, tolerance),
-        Update::Refused(_) => false,
+        Ok(status) => proceeds(status, tsq, tolerance),
+        Err(_) => false,
     }
 }
 
 // What a run answers that ends with this update, or is halted there.
-fn optim_ended(answer: Update, found: bool, niter: u16) -> OptimAnswer
+fn optim_ended(
+    answer: Result<CutStatus, Refusal>,
+    found: bool,
+    niter: u16,
+) -> Result<Answer, OptimStop>
     ensures { result ≡ optim_ended answer «found» niter }
 {
     let ended = Answer {
@@ -119,12 +147,17 @@ fn optim_ended(answer: Update, found: bool, niter: u16) -> OptimAnswer
         steps: niter,
     };
     match answer {
-        Update::Status(_) => OptimAnswer::Ended(ended),
-        Update::Refused(_) => OptimAnswer::Halted(ended),
+        Ok(_) => Ok(ended),
+        Err(_) => Err(OptimStop::Halted(ended)),
     }
 }
 
-fn run_of(oracle: LowpassOracle, ell: Ell, gamma: f64, answer: OptimAnswer) -> OptimRun
+fn run_of(
+    oracle: LowpassOracle,
+    ell: Ell,
+    gamma: f64,
+    answer: Result<Answer, OptimStop>,
+) -> OptimRun
     ensures { result ≡ record { oracle = oracle; ell = ell; gamma = gamma; answer = answer } }
 {
     OptimRun {
@@ -157,8 +190,7 @@ fn run_optim(
     let mut space = ell;
     let mut offer = gamma;
     let mut found = false;
-    let mut niter = 0;
-    while niter < options.max_iters {
+    for niter in 0..options.max_iters {
         let step = optim_step(
             oracle, space, offer, found, rows, table, mq, xc, grad, grad_t, x_best,
         );
@@ -170,15 +202,15 @@ fn run_optim(
         if !optim_goes_on(answer, space.tsq, options.tolerance) {
             return run_of(oracle, space, offer, optim_ended(answer, found, niter));
         }
-        niter += 1;
     }
     let ended = Answer {
         found,
-        steps: niter,
+        steps: options.max_iters,
     };
-    run_of(oracle, space, offer, OptimAnswer::Ended(ended))
+    run_of(oracle, space, offer, Ok(ended))
 }
 
+// The Rust has two drivers, too: this one keeps a best point and an offer, and may be halted.
 // Cuts the ellipsoid at each feasible centre by its largest stop value, which becomes the next offer; the last such centre is at the front of x_best. grad and grad_t are scratch. A refused call gives everything back as it came.
 pub fn cutting_plane_optim(
     oracle: LowpassOracle,
@@ -196,12 +228,12 @@ pub fn cutting_plane_optim(
     ensures answer_and_state { optim_end result.answer result.oracle result.ell result.gamma mq.new xc.new grad.new grad_t.new x_best.new
         ≡ optim_answer options rows table.now
         (optim_state_of oracle ell gamma false mq.old xc.old grad.old grad_t.old x_best.old) }
-    ensures refused_writes_nothing { (why : Refusal) → result.answer ≡ NotRunOptim why →
+    ensures refused_writes_nothing { (why : Refusal) → result.answer ≡ Err (Refused why) →
         optim_end result.answer result.oracle result.ell result.gamma mq.new xc.new grad.new grad_t.new x_best.new
         ≡ optim_end result.answer oracle ell gamma mq.old xc.old grad.old grad_t.old x_best.old }
 {
     let n = ell.ndim;
-    let fault = check(
+    let tested = check(
         oracle,
         n,
         rows,
@@ -213,12 +245,12 @@ pub fn cutting_plane_optim(
         x_best.len(),
         n,
     );
-    match fault {
-        Err(Fault { why, .. }) => OptimRun {
+    match tested {
+        Err(why) => OptimRun {
             oracle,
             ell,
             gamma,
-            answer: OptimAnswer::Refused(why),
+            answer: Err(OptimStop::Refused(why)),
         },
         Ok(()) => run_optim(
             oracle, ell, gamma, options, rows, table, mq, xc, grad, grad_t, x_best,

@@ -2,23 +2,10 @@
 ghost use Rattle.std.specs.Prelude.{◌≡◌};
 ghost use Rattle.drivers.specs.Input.{take_job_answer, take_answer_answer};
 
-use crate::answer::{Answer, AnswerRead, read_answer};
-use crate::job::{Job, JobAnswer, read_job};
+use crate::answer::{Answer, read_answer};
+use crate::job::{Job, read_job};
 use crate::trace::{Source, Text, refused_line};
 use numbers::refusal::Refusal;
-
-// A job, or the text that refuses it.
-#[derive(Clone, Copy)]
-pub enum TakenJob {
-    Taken(Job),
-    Refused(Text),
-}
-
-#[derive(Clone, Copy)]
-pub enum TakenAnswer {
-    Taken(Answer),
-    Refused(Text),
-}
 
 // A program's input has at most so many bytes. It is read with room for one more, so that a long one is known.
 pub const LONGEST: usize = 65536;
@@ -33,33 +20,36 @@ pub fn take_job(
     xc: &mut [f64],
     mq: &mut [f64],
     out: &mut [u8],
-) -> TakenJob
+) -> Result<Job, Text>
     ensures { (result, table.new, xc.new, mq.new, out.new)
         ≡ take_job_answer source bytes.now table.old xc.old mq.old out.old }
 {
     if LONGEST < bytes.len() {
-        return TakenJob::Refused(refused_line(source, Refusal::Room, LONGEST, out));
+        return Err(refused_line(source, Refusal::Room, LONGEST, out));
     }
     let read = read_job(bytes, table, xc, mq);
     match read {
-        JobAnswer::Read(job) => TakenJob::Taken(job),
-        JobAnswer::Refused(why, place) => TakenJob::Refused(refused_line(source, why, place, out)),
+        Ok(job) => Ok(job),
+        Err(fault) => Err(refused_line(source, fault.why, fault.place, out)),
     }
 }
 
 // Reads an answer to a job of dimension n; a point goes to the front of `point`. Or writes the line that refuses it to the front of `out`.
-pub fn take_answer(n: usize, bytes: &[u8], point: &mut [f64], out: &mut [u8]) -> TakenAnswer
+pub fn take_answer(
+    n: usize,
+    bytes: &[u8],
+    point: &mut [f64],
+    out: &mut [u8],
+) -> Result<Answer, Text>
     ensures { (result, point.new, out.new) ≡ take_answer_answer n bytes.now point.old out.old }
 {
     let source = Source::Answer;
     if bytes.len() > LONGEST {
-        return TakenAnswer::Refused(refused_line(source, Refusal::Room, LONGEST, out));
+        return Err(refused_line(source, Refusal::Room, LONGEST, out));
     }
     let read = read_answer(n, bytes, point);
     match read {
-        AnswerRead::Read(answer) => TakenAnswer::Taken(answer),
-        AnswerRead::Refused(why, place) => {
-            TakenAnswer::Refused(refused_line(source, why, place, out))
-        }
+        Ok(answer) => Ok(answer),
+        Err(fault) => Err(refused_line(source, fault.why, fault.place, out)),
     }
 }

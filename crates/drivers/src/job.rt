@@ -35,12 +35,6 @@ pub struct Job {
     pub options: Options,
 }
 
-#[derive(Clone, Copy)]
-pub enum JobAnswer {
-    Read(Job),
-    Refused(Refusal, usize),
-}
-
 // The end of the stop rows. A count of rows that no table has is refused by every call, whatever stands here.
 fn row_end(rows: usize) -> i32
     ensures { result ≡ row_end rows }
@@ -142,10 +136,16 @@ fn oracle_fault(job: Job, places: &[usize; TAGS]) -> Result<(), Fault>
 {
     let oracle = job.oracle();
     if !oracle.bands_fit(job.rows) {
-        return Err(Fault { why: Refusal::Band, place: start_of(places[BANDS]) });
+        return Err(Fault {
+            why: Refusal::Band,
+            place: start_of(places[BANDS]),
+        });
     }
     if !oracle.cursors_fit() {
-        return Err(Fault { why: Refusal::Cursor, place: start_of(places[CURSORS]) });
+        return Err(Fault {
+            why: Refusal::Cursor,
+            place: start_of(places[CURSORS]),
+        });
     }
     Ok(())
 }
@@ -154,15 +154,9 @@ fn oracle_fault(job: Job, places: &[usize; TAGS]) -> Result<(), Fault>
 fn content_fault(bytes: &[u8], places: &[usize; TAGS]) -> Result<(), Fault>
     ensures { result ≡ content_fault bytes.now places.now }
 {
-    let fault = size_fault(bytes, N, 2, places[N]);
-    if fault.is_err() {
-        return fault;
-    }
+    size_fault(bytes, N, 2, places[N])?;
     let job = job_at(bytes, places);
-    let fault = lengths_fault(bytes, job.n);
-    if fault.is_err() {
-        return fault;
-    }
+    lengths_fault(bytes, job.n)?;
     oracle_fault(job, places)
 }
 
@@ -172,10 +166,7 @@ fn job_fault(bytes: &[u8], places: &mut [usize; TAGS]) -> Result<(), Fault>
     ensures value { result ≡ job_fault bytes.now }
     ensures places_after { places.new ≡ (job_walk bytes.now).1 }
 {
-    let fault = record_fault(bytes, JOB, places);
-    if fault.is_err() {
-        return fault;
-    }
+    record_fault(bytes, JOB, places)?;
     content_fault(bytes, places)
 }
 
@@ -203,7 +194,7 @@ fn fill_row(bytes: &[u8], at: usize, n: usize, k: usize, table: &mut [f64]) -> u
     end
 }
 
-// The rows, in the order of arrival, to the front of the table.
+// The rows, in the order of arrival, to the front of the table. By hand, since two places move: that of the field and that of the row.
 fn fill_table(bytes: &[u8], n: usize, table: &mut [f64])
     requires { (n ≤ 1024) × (row_count bytes.now (fields_of bytes.now) * n ≤ length table.old) }
     ensures { table.new ≡ fronted (rows_of n bytes.now (fields_of bytes.now)) table.old }
@@ -243,27 +234,29 @@ fn read_sound(
     table: &mut [f64],
     xc: &mut [f64],
     mq: &mut [f64],
-) -> JobAnswer
+) -> Result<Job, Fault>
     requires { ((job_at bytes.now places.now).n ≤ 32) × ((job_at bytes.now places.now).rows ≤ 1024) }
     ensures { (result, table.new, xc.new, mq.new)
         ≡ read_into (full_job_at bytes.now places.now) Sound table.old xc.old mq.old }
 {
     let job = job_at(bytes, places);
     if !has_room(job, table.len(), xc.len(), mq.len()) {
-        return JobAnswer::Refused(Refusal::Room, 0);
+        return Err(Fault::from(Refusal::Room));
     }
     fill_job(bytes, places, job.n, table, xc, mq);
-    JobAnswer::Read(job)
+    Ok(job)
 }
 
 // Reads a job record: its rows to the front of `table`, its point to that of xc, its matrix to that of mq.
-pub fn read_job(bytes: &[u8], table: &mut [f64], xc: &mut [f64], mq: &mut [f64]) -> JobAnswer
+pub fn read_job(
+    bytes: &[u8],
+    table: &mut [f64],
+    xc: &mut [f64],
+    mq: &mut [f64],
+) -> Result<Job, Fault>
     ensures { (result, table.new, xc.new, mq.new) ≡ read_job_answer bytes.now table.old xc.old mq.old }
 {
     let mut places = [0usize; TAGS];
-    let fault = job_fault(bytes, &mut places);
-    match fault {
-        Err(Fault { why, place }) => JobAnswer::Refused(why, place),
-        Ok(()) => read_sound(bytes, &places, table, xc, mq),
-    }
+    job_fault(bytes, &mut places)?;
+    read_sound(bytes, &places, table, xc, mq)
 }

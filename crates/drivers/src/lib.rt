@@ -9,7 +9,6 @@ pub mod cutting_plane_optim;
 pub mod fields;
 pub mod input;
 pub mod job;
-pub mod numbered;
 pub mod record;
 pub mod rules;
 pub mod run;

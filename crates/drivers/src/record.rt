@@ -1,8 +1,10 @@
 // Records: fields of a one-byte tag, a two-byte length and content, in any order. What a job and an answer share: the walk over the fields, by the table of rules.
 ghost use Rattle.std.specs.Prelude.{◌≡◌, ◌≤◌, ◌<◌, length};
+ghost use Rattle.std.specs.Iterator.{YieldsFirst, item_count};
+ghost use Rattle.drivers.specs.laws.Record.{fields_after};
 ghost use Rattle.drivers.specs.Record.{byte_at, length_at, half_at, number_at, numbers_at, start_of, content_of, is_row, rows_in, after, field_fault, first_place, fields_of, walk_of, missing_fault, record_fault, size_fault, lengths_fault, row_count};
 
-use crate::rules::{Form, MANY, MAYBE, ROW, TAGS, is_of, rule_at, rule_index, rule_length};
+use crate::rules::{Form, ROW, TAGS, is_of, rule_at, rule_index, rule_length};
 use numbers::bits::{of_bits, word_at};
 use numbers::refusal::{Fault, Refusal};
 
@@ -45,10 +47,8 @@ pub(crate) fn numbers_into(bytes: &[u8], p: usize, out: &mut [f64])
     requires { length out.old ≤ 32768 }
     ensures { out.new ≡ numbers_at bytes.now p (length out.old) }
 {
-    let mut i = 0;
-    while i < out.len() {
-        out[i] = number_at(bytes, p, i);
-        i += 1;
+    for (k, number) in out.iter_mut().enumerate() {
+        *number = number_at(bytes, p, k);
     }
 }
 
@@ -94,29 +94,73 @@ pub(crate) fn next_field(bytes: &[u8], at: usize) -> usize
     at + whole
 }
 
+// Where a record's fields begin, front to back.
+#[derive(Drop)]
+pub(crate) struct Fields<'a> {
+    bytes: &'a [u8],
+    at: usize,
+}
+
+impl<'a> Iterator for Fields<'a> {
+    type Item = usize;
+
+    ghost next_gives = { YieldsFirst (λ s. fields_after s.bytes.now s.at) };
+
+    ghost remaining = { item_count (λ s. fields_after s.bytes.now s.at) };
+
+    fn next(&mut self) -> Option<usize> {
+        if self.at < self.bytes.len() {
+            let at = self.at;
+            self.at = next_field(self.bytes, at);
+            return Some(at);
+        }
+        None
+    }
+}
+
+impl<'a> Fields<'a> {
+    pub(crate) fn of(bytes: &'a [u8]) -> Fields<'a>
+        ensures { fields_after result.bytes.now result.at ≡ fields_of bytes.now }
+    {
+        Fields { bytes, at: 0 }
+    }
+}
+
 // The tests of one field, in document 01's order.
 fn field_fault(bytes: &[u8], form: Form, places: &[usize; TAGS], at: usize) -> Result<(), Fault>
-    requires { (at < length bytes.now) × (0 < form.bit) }
+    requires { at < length bytes.now }
     ensures { result ≡ field_fault bytes.now form places.now at }
 {
     if bytes.len() - at < HEADER {
-        return Err(Fault { why: Refusal::CutShort, place: at });
+        return Err(Fault {
+            why: Refusal::CutShort,
+            place: at,
+        });
     }
     let i = rule_index(byte_at(bytes, at));
     let rule = rule_at(i);
     if !is_of(form, rule) {
-        return Err(Fault { why: Refusal::ForeignTag, place: at });
+        return Err(Fault {
+            why: Refusal::ForeignTag,
+            place: at,
+        });
     }
-    if (places[i] != 0) & (rule.5 != MANY) {
-        return Err(Fault { why: Refusal::RepeatedTag, place: at });
+    if (places[i] != 0) & !rule.repeats() {
+        return Err(Fault {
+            why: Refusal::RepeatedTag,
+            place: at,
+        });
     }
     if bytes.len() - at - HEADER < length_at(bytes, at) {
-        return Err(Fault { why: Refusal::CutShort, place: at });
+        return Err(Fault {
+            why: Refusal::CutShort,
+            place: at,
+        });
     }
     Ok(())
 }
 
-// A tag's place when one more field of it is met.
+// A tag's place when one more field of it is met. Where it has none the place is 0, which is no content's, since a header stands before it. No Option: whoever reads at a place takes any number.
 fn first_place(old: usize, p: usize) -> usize
     ensures { result ≡ first_place old p }
 {
@@ -128,47 +172,41 @@ fn first_place(old: usize, p: usize) -> usize
 
 // Tests every field and notes, for each tag of the table, where the content of its first field begins.
 fn walk(bytes: &[u8], form: Form, places: &mut [usize; TAGS]) -> Result<(), Fault>
-    requires { 0 < form.bit }
     ensures { (result, places.new) ≡ walk_of bytes.now form (fields_of bytes.now) places.old }
 {
-    let mut at = 0;
-    while at < bytes.len() {
-        let fault = field_fault(bytes, form, places, at);
-        if fault.is_err() {
-            return fault;
-        }
+    for at in Fields::of(bytes) {
+        field_fault(bytes, form, places, at)?;
         let i = rule_index(byte_at(bytes, at));
         places[i] = first_place(places[i], content_at(bytes, at));
-        at = next_field(bytes, at);
     }
     Ok(())
 }
 
 // Refusal 10, at the record's end.
 fn missing_fault(end: usize, form: Form, places: &[usize; TAGS]) -> Result<(), Fault>
-    requires { 0 < form.bit }
     ensures { result ≡ missing_fault end form places.now }
 {
-    let mut i = 0;
-    while i < TAGS {
+    for i in 0..TAGS {
         let rule = rule_at(i);
-        if is_of(form, rule) & (rule.5 != MAYBE) & (places[i] == 0) {
-            return Err(Fault { why: Refusal::MissingTag, place: end });
+        if is_of(form, rule) & !rule.is_optional() & (places[i] == 0) {
+            return Err(Fault {
+                why: Refusal::MissingTag,
+                place: end,
+            });
         }
-        i += 1;
     }
     Ok(())
 }
 
 // The walk, and refusal 10 after it.
-pub(crate) fn record_fault(bytes: &[u8], form: Form, places: &mut [usize; TAGS]) -> Result<(), Fault>
-    requires { 0 < form.bit }
+pub(crate) fn record_fault(
+    bytes: &[u8],
+    form: Form,
+    places: &mut [usize; TAGS],
+) -> Result<(), Fault>
     ensures { (result, places.new) ≡ record_fault bytes.now form places.old }
 {
-    let fault = walk(bytes, form, places);
-    if fault.is_err() {
-        return fault;
-    }
+    walk(bytes, form, places)?;
     missing_fault(bytes.len(), form, places)
 }
 
@@ -178,11 +216,17 @@ pub(crate) fn size_fault(bytes: &[u8], rule: usize, least: usize, p: usize) -> R
 {
     let place = start_of(p);
     if length_at(bytes, place) != rule_length(rule, 0) {
-        return Err(Fault { why: Refusal::Length, place: place });
+        return Err(Fault {
+            why: Refusal::Length,
+            place,
+        });
     }
     let size = half_at(bytes, p);
     if !((least <= size) & (size <= 32)) {
-        return Err(Fault { why: Refusal::Dimension, place: place });
+        return Err(Fault {
+            why: Refusal::Dimension,
+            place,
+        });
     }
     Ok(())
 }
@@ -192,13 +236,14 @@ pub(crate) fn lengths_fault(bytes: &[u8], n: usize) -> Result<(), Fault>
     requires { n ≤ 32 }
     ensures { result ≡ lengths_fault n bytes.now (fields_of bytes.now) }
 {
-    let mut at = 0;
-    while at < bytes.len() {
+    for at in Fields::of(bytes) {
         let i = rule_index(byte_at(bytes, at));
         if length_at(bytes, at) != rule_length(i, n) {
-            return Err(Fault { why: Refusal::Length, place: at });
+            return Err(Fault {
+                why: Refusal::Length,
+                place: at,
+            });
         }
-        at = next_field(bytes, at);
     }
     Ok(())
 }
@@ -212,15 +257,13 @@ fn rows_in(bytes: &[u8], at: usize) -> usize
     0
 }
 
-// How many rows a record has.
+// How many rows a record has. `filter` and `count` would say it in a line; their proof over these fields did not close.
 pub(crate) fn count_rows(bytes: &[u8]) -> usize
     ensures { result ≡ row_count bytes.now (fields_of bytes.now) }
 {
-    let mut at = 0;
     let mut rows = 0;
-    while at < bytes.len() {
+    for at in Fields::of(bytes) {
         rows += rows_in(bytes, at);
-        at = next_field(bytes, at);
     }
     rows
 }

@@ -1,39 +1,37 @@
 // The table of tags (document 01, "A constant table holds each tag's length rule"): which records have a tag, how often it stands there, and how long its content is.
-ghost use Rattle.std.specs.Prelude.{◌≡◌, ◌^◌, ◌/◌, ◌%◌, ◌≤◌, ◌<◌, eqb};
-ghost use Rattle.drivers.specs.Rules.{rule_at, index_of, rule_length};
+ghost use Rattle.std.specs.Prelude.{◌≡◌, ◌^◌, ◌≤◌, eqb, position};
+ghost use Rattle.drivers.specs.Rules.{has_tag, is_many, is_maybe, rule_at, index_of, rule_length};
 
-// A tag's rule: the tag, the forms of record that have it, base, factor and power of n, and how often it stands. Its field has base + factor × n ^ power bytes.
-// The numbers are narrow since the table, a constant, is made anew at each use: it has 72 bytes.
-#[derive(Clone, Copy)]
-pub(crate) struct Rule(
-    pub(crate) u8,
-    pub(crate) u8,
-    pub(crate) u8,
-    pub(crate) u8,
-    pub(crate) u8,
-    pub(crate) u8,
-);
-
-// A form of record: its bit among the rules' forms.
-#[derive(Clone, Copy)]
-pub(crate) struct Form {
-    pub(crate) bit: u8,
+// A form of record.
+#[derive(Clone, Copy, PartialEq)]
+pub(crate) enum Form {
+    Job,
+    Answer,
 }
 
-const IN_JOB: u8 = 1;
+pub(crate) const JOB: Form = Form::Job;
 
-const IN_ANSWER: u8 = 2;
-
-pub(crate) const JOB: Form = Form { bit: IN_JOB };
-
-pub(crate) const ANSWER: Form = Form { bit: IN_ANSWER };
+pub(crate) const ANSWER: Form = Form::Answer;
 
 // How often a tag stands in a record: exactly once, at least once, at most once.
-const ONCE: u8 = 0;
+#[derive(Clone, Copy, PartialEq)]
+pub(crate) enum Often {
+    Once,
+    Many,
+    Maybe,
+}
 
-pub(crate) const MANY: u8 = 1;
-
-pub(crate) const MAYBE: u8 = 2;
+// A tag's rule: the form of record that has it, how long its content is, base + factor × n ^ power bytes, and how often it stands.
+// The numbers are narrow since the table, a constant, is made anew at each use.
+#[derive(Clone, Copy)]
+pub(crate) struct Rule {
+    pub(crate) tag: u8,
+    pub(crate) form: Option<Form>,
+    pub(crate) base: u8,
+    pub(crate) factor: u8,
+    pub(crate) power: u8,
+    pub(crate) often: Often,
+}
 
 // The tags that are written, too.
 pub(crate) const OUTCOME_TAG: u8 = 0x20;
@@ -42,23 +40,114 @@ pub(crate) const STEPS_TAG: u8 = 0x21;
 
 pub(crate) const FOUND_TAG: u8 = 0x22;
 
+impl Rule {
+    // Whether its tag may stand more than once, and whether it may be missing.
+    pub(crate) fn repeats(self) -> bool
+        ensures { result ≡ is_many self.often }
+    {
+        self.often == Often::Many
+    }
+
+    pub(crate) fn is_optional(self) -> bool
+        ensures { result ≡ is_maybe self.often }
+    {
+        self.often == Often::Maybe
+    }
+}
+
+// What most rules have, by form; and the rule of what is no tag of the table, which no form has.
+const OF_JOB: Rule = Rule {
+    tag: 0,
+    form: Some(Form::Job),
+    base: 0,
+    factor: 0,
+    power: 0,
+    often: Often::Once,
+};
+
+const OF_ANSWER: Rule = Rule {
+    form: Some(Form::Answer),
+    ..OF_JOB
+};
+
+const NO_RULE: Rule = Rule {
+    form: None,
+    ..OF_JOB
+};
+
+// Of n numbers.
+const NUMBERS: Rule = Rule {
+    factor: 8,
+    power: 1,
+    ..OF_JOB
+};
+
 // Document 01's table.
 const RULES: [Rule; TAGS] = [
-    Rule(0x01, IN_JOB, 2, 0, 0, ONCE),
-    Rule(0x02, IN_JOB, 4, 0, 0, ONCE),
-    Rule(0x03, IN_JOB, 24, 0, 0, ONCE),
-    Rule(0x04, IN_JOB, 0, 8, 1, MANY),
-    Rule(0x05, IN_JOB, 0, 8, 1, ONCE),
-    Rule(0x06, IN_JOB, 6, 0, 0, ONCE),
-    Rule(0x07, IN_JOB, 8, 0, 0, ONCE),
-    Rule(0x08, IN_JOB, 0, 8, 2, ONCE),
-    Rule(0x09, IN_JOB, 10, 0, 0, ONCE),
-    Rule(OUTCOME_TAG, IN_ANSWER, 1, 0, 0, ONCE),
-    Rule(STEPS_TAG, IN_ANSWER, 2, 0, 0, ONCE),
-    Rule(FOUND_TAG, IN_ANSWER, 0, 8, 1, MAYBE),
+    Rule {
+        tag: 0x01,
+        base: 2,
+        ..OF_JOB
+    },
+    Rule {
+        tag: 0x02,
+        base: 4,
+        ..OF_JOB
+    },
+    Rule {
+        tag: 0x03,
+        base: 24,
+        ..OF_JOB
+    },
+    Rule {
+        tag: 0x04,
+        often: Often::Many,
+        ..NUMBERS
+    },
+    Rule {
+        tag: 0x05,
+        ..NUMBERS
+    },
+    Rule {
+        tag: 0x06,
+        base: 6,
+        ..OF_JOB
+    },
+    Rule {
+        tag: 0x07,
+        base: 8,
+        ..OF_JOB
+    },
+    Rule {
+        tag: 0x08,
+        power: 2,
+        ..NUMBERS
+    },
+    Rule {
+        tag: 0x09,
+        base: 10,
+        ..OF_JOB
+    },
+    Rule {
+        tag: OUTCOME_TAG,
+        base: 1,
+        ..OF_ANSWER
+    },
+    Rule {
+        tag: STEPS_TAG,
+        base: 2,
+        ..OF_ANSWER
+    },
+    Rule {
+        tag: FOUND_TAG,
+        factor: 8,
+        power: 1,
+        often: Often::Maybe,
+        ..OF_ANSWER
+    },
 ];
 
-// Its rows by name, which are also the places of their tags, and how many there are.
+// Its rows by name, which are also the places of their tags, and how many there are. They index arrays, so they are numbers: an enum would be turned into one at each use.
 pub(crate) const N: usize = 0;
 
 pub(crate) const BANDS: usize = 1;
@@ -85,9 +174,6 @@ pub(crate) const FOUND: usize = 11;
 
 pub(crate) const TAGS: usize = 12;
 
-// Of what is no tag of the table: no form has it.
-const NO_RULE: Rule = Rule(0, 0, 0, 0, 0, ONCE);
-
 pub(crate) fn rule_at(i: usize) -> Rule
     ensures { result ≡ rule_at i }
 {
@@ -99,26 +185,26 @@ pub(crate) fn rule_at(i: usize) -> Rule
 
 // Whether the form has the rule's tag.
 pub(crate) fn is_of(form: Form, rule: Rule) -> bool
-    requires { 0 < form.bit }
-    ensures { result ≡ eqb (rule.1 / form.bit % 2) 1 }
+    ensures { result ≡ has_tag form rule }
 {
-    rule.1 / form.bit % 2 == 1
+    match rule.form {
+        Some(own) => own == form,
+        None => false,
+    }
 }
 
-// A tag's place in the table, which is made once for all turns; 12 for a tag that is not there.
+// The place of a tag's first rule among these.
+fn place_in(rules: &[Rule], tag: u64) -> Option<usize>
+    ensures { result ≡ position (λ r. eqb r.tag tag) rules.now }
+{
+    rules.iter().position(|rule| rule.tag as u64 == tag)
+}
+
+// A tag's place in the table; 12 for a tag that is not there.
 pub(crate) fn rule_index(tag: u64) -> usize
     ensures { result ≡ index_of tag }
 {
-    let rules = RULES;
-    let mut i = 0;
-    while i < TAGS {
-        let rule = rules[i];
-        if rule.0 as u64 == tag {
-            return i;
-        }
-        i += 1;
-    }
-    i
+    place_in(&RULES, tag).unwrap_or(TAGS)
 }
 
 fn power(n: usize, k: usize) -> usize
@@ -140,5 +226,5 @@ pub(crate) fn rule_length(i: usize, n: usize) -> usize
     ensures { result ≡ rule_length i n }
 {
     let rule = rule_at(i);
-    rule.2 as usize + rule.3 as usize * power(n, rule.4 as usize)
+    rule.base as usize + rule.factor as usize * power(n, rule.power as usize)
 }

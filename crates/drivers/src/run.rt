@@ -1,18 +1,17 @@
 // A run of a job, a step at a time, with its text: what `filterrun` is made of.
-ghost use Rattle.std.specs.Prelude.{◌≡◌, true, false, ◌≤◌, ◌<◌, length};
+ghost use Rattle.std.specs.Prelude.{◌≡◌, false, ◌≤◌, ◌<◌, length, Err};
 ghost use Rattle.oracles.specs.Ell.{ell_buffers};
 ghost use Rattle.drivers.specs.Trace.{room};
 ghost use Rattle.drivers.specs.Run.{new_run_answer, step_printed, next_answer, opened_job, open_answer};
-ghost use Rattle.drivers.specs.declared.trace.Text.TheVariants.{Refused};
 
 use crate::answer::Answer;
 use crate::cutting_plane::{Options, check};
 use crate::cutting_plane_feas::{feas_ended, feas_step, goes_on};
-use crate::input::{TakenJob, take_job};
+use crate::input::take_job;
 use crate::job::Job;
 use crate::trace::{ROOM, Source, Text, put_ended, put_last, put_step, refused_line};
-use numbers::refusal::{Fault, Refusal};
-use oracles::ell::{Ell, NewEll};
+use numbers::refusal::Refusal;
+use oracles::ell::Ell;
 use oracles::lowpass_oracle::LowpassOracle;
 
 // A run of `cutting_plane_feas` between two steps: niter is the next one's number. Only `open` makes one. The caller keeps the slices.
@@ -33,37 +32,21 @@ pub struct Printed {
     pub text: Text,
 }
 
-// A run, or why there is none.
-#[derive(Clone, Copy)]
-pub(crate) enum NewRun {
-    Made(Run),
-    Refused(Refusal),
-}
-
-// A job that can be run, or the text that refuses it.
-#[derive(Clone, Copy)]
-pub enum Opened {
-    Started(Run),
-    Refused(Text),
-}
-
 impl Run {
     // A job's run, before its first step.
-    pub(crate) fn new(job: Job) -> NewRun
+    pub(crate) fn new(job: Job) -> Result<Run, Refusal>
         ensures { result ≡ new_run_answer job }
     {
         let oracle = job.oracle();
         let options = job.options;
-        match Ell::new_with_matrix(job.n, job.kappa) {
-            NewEll::Made(ell) => NewRun::Made(Run {
-                oracle,
-                ell,
-                options,
-                rows: job.rows,
-                niter: 0,
-            }),
-            NewEll::Refused(why) => NewRun::Refused(why),
-        }
+        let ell = Ell::new_with_matrix(job.n, job.kappa)?;
+        Ok(Run {
+            oracle,
+            ell,
+            options,
+            rows: job.rows,
+            niter: 0,
+        })
     }
 
     // Its point's dimension, and its table's rows: what the slices' lengths are made of.
@@ -82,12 +65,12 @@ impl Run {
 
     // The run as it came, and why the call is refused.
     fn refused(self, why: Refusal) -> Printed
-        ensures { result ≡ record { run = self; more = false; text = Refused why } }
+        ensures { result ≡ record { run = self; more = false; text = Err why } }
     {
         Printed {
             run: self,
             more: false,
-            text: Text::Refused(why),
+            text: Err(why),
         }
     }
 
@@ -95,13 +78,11 @@ impl Run {
     fn after_step(self, oracle: LowpassOracle, ell: Ell, niter: u16) -> Run
         ensures { result ≡ record { oracle = oracle; ell = ell; options = self.options; rows = self.rows; niter = niter } }
     {
-        let options = self.options;
         Run {
             oracle,
             ell,
-            options,
-            rows: self.rows,
             niter,
+            ..self
         }
     }
 
@@ -131,13 +112,13 @@ impl Run {
             return Printed {
                 run: self.after_step(after, space, self.niter + 1),
                 more: true,
-                text: Text::Bytes(at),
+                text: Ok(at),
             };
         }
         Printed {
             run: self.after_step(after, space, self.niter),
             more: false,
-            text: Text::Bytes(put_ended(out, at, feas_ended(answer, self.niter))),
+            text: Ok(put_ended(out, at, feas_ended(answer, self.niter))),
         }
     }
 
@@ -159,7 +140,7 @@ impl Run {
         let options = self.options;
         let n = ell.ndim;
         let rows = self.rows;
-        let fault = check(
+        let tested = check(
             oracle,
             n,
             rows,
@@ -171,8 +152,8 @@ impl Run {
             out.len(),
             ROOM,
         );
-        match fault {
-            Err(Fault { why, .. }) => self.refused(why),
+        match tested {
+            Err(why) => self.refused(why),
             Ok(()) => {
                 if self.niter < options.max_iters {
                     return self.step(table, mq, xc, grad, grad_t, out);
@@ -184,7 +165,7 @@ impl Run {
                 Printed {
                     run: self,
                     more: false,
-                    text: Text::Bytes(put_last(out, 0, none)),
+                    text: Ok(put_last(out, 0, none)),
                 }
             }
         }
@@ -193,13 +174,13 @@ impl Run {
 
 // ---- the run of a program's input
 
-fn open_job(job: Job, out: &mut [u8]) -> Opened
+fn open_job(job: Job, out: &mut [u8]) -> Result<Run, Text>
     ensures { (result, out.new) ≡ opened_job job out.old }
 {
     let run = Run::new(job);
     match run {
-        NewRun::Made(made) => Opened::Started(made),
-        NewRun::Refused(why) => Opened::Refused(refused_line(Source::Only, why, 0, out)),
+        Ok(made) => Ok(made),
+        Err(why) => Err(refused_line(Source::Only, why, 0, out)),
     }
 }
 
@@ -210,13 +191,13 @@ pub fn open(
     xc: &mut [f64],
     mq: &mut [f64],
     out: &mut [u8],
-) -> Opened
+) -> Result<Run, Text>
     ensures { (result, table.new, xc.new, mq.new, out.new)
         ≡ open_answer bytes.now table.old xc.old mq.old out.old }
 {
     let taken = take_job(Source::Only, bytes, table, xc, mq, out);
     match taken {
-        TakenJob::Taken(job) => open_job(job, out),
-        TakenJob::Refused(text) => Opened::Refused(text),
+        Ok(job) => open_job(job, out),
+        Err(text) => Err(text),
     }
 }

@@ -1,7 +1,8 @@
-// Text into a lent slice, piece by piece. A piece that does not fit is not written, and the place stays: no piece asks anything of its caller.
-ghost use Rattle.std.specs.Prelude.{◌≡◌, ◌+◌, ◌≤◌, ◌<◌};
+// Text into a lent slice, piece by piece. A piece that does not fit is not written, and the place stays: no piece asks anything of its caller. Digits are not left to `write!`: std's writers into a slice promise nothing of its bytes, and would write a part of what does not fit.
+ghost use Rattle.std.specs.Prelude.{◌≡◌, ◌+◌, ◌≤◌, ◌<◌, leb, [], ◌∷◌};
 ghost use Rattle.drivers.specs.Text.{digit_char, digits_of, digit_count, decimal, hex};
 ghost use Rattle.drivers.specs.laws.Text.{put};
+ghost use Rattle.drivers.specs.laws.Writer.{Puts};
 
 // A digit to a base up to 16, in upper case.
 fn digit_char(d: u64) -> u8
@@ -14,22 +15,69 @@ fn digit_char(d: u64) -> u8
     55 + d as u8
 }
 
+// A slice that is written piece by piece, and where the next piece begins.
+pub(crate) struct Writer<'a> {
+    pub(crate) out: &'a mut [u8],
+    pub(crate) at: usize,
+}
+
+impl<'a> Writer<'a> {
+    pub(crate) fn new(out: &'a mut [u8], at: usize) -> Writer<'a>
+        ensures place { result.at ≡ at }
+        ensures same { result.out.ghost_name ≡ out.entry.ghost_name }
+        ensures holds { result.out.now ≡ out.old }
+    {
+        Writer { out, at }
+    }
+
+    pub(crate) fn put_text(&mut self, text: &[u8])
+        ensures { Puts self.old self.new (text.now ∷ []) }
+    {
+        self.at = put_text(self.out, self.at, text);
+    }
+
+    pub(crate) fn put_decimal(&mut self, w: u64)
+        ensures { Puts self.old self.new (decimal w ∷ []) }
+    {
+        self.at = put_digits(self.out, self.at, w, 10, digit_count(w));
+    }
+
+    // Sixteen digits.
+    pub(crate) fn put_hex(&mut self, w: u64)
+        ensures { Puts self.old self.new (hex w ∷ []) }
+    {
+        self.at = put_digits(self.out, self.at, w, 16, 16);
+    }
+
+    // Where the last piece ended.
+    pub(crate) fn end(self) -> usize
+        ensures place { result ≡ self.entry.at }
+        ensures holds { self.exit.0.now ≡ self.entry.out.now }
+    {
+        let Writer { out: _, at } = self;
+        at
+    }
+}
+
+// Whether so many bytes from `at` on are within the slice's.
+pub(crate) fn has_room(bytes: usize, at: usize, size: usize) -> bool
+    ensures { result ≡ leb (at + size) bytes }
+{
+    if bytes < at {
+        return false;
+    }
+    size <= bytes - at
+}
+
 // A copy of the text from out[at] on; where the next piece begins.
-pub(crate) fn put_text(out: &mut [u8], at: usize, text: &[u8]) -> usize
+fn put_text(out: &mut [u8], at: usize, text: &[u8]) -> usize
     ensures { (result, out.new) ≡ put out.old at text.now }
 {
-    if out.len() < at {
-        return at;
-    }
-    if out.len() - at < text.len() {
+    if !has_room(out.len(), at, text.len()) {
         return at;
     }
     let end = at + text.len();
-    let mut i = 0;
-    while i < text.len() {
-        out[at + i] = text[i];
-        i += 1;
-    }
+    out[at..end].copy_from_slice(text);
     end
 }
 
@@ -38,17 +86,12 @@ fn put_digits(out: &mut [u8], at: usize, w: u64, base: u64, count: usize) -> usi
     requires { (2 ≤ base) × (base ≤ 16) }
     ensures { (result, out.new) ≡ put out.old at (digits_of base count w) }
 {
-    if out.len() < at {
-        return at;
-    }
-    if out.len() - at < count {
+    if !has_room(out.len(), at, count) {
         return at;
     }
     let end = at + count;
     let mut rest = w;
-    let mut i = end;
-    while at < i {
-        i -= 1;
+    for i in (at..end).rev() {
         out[i] = digit_char(rest % base);
         rest /= base;
     }
@@ -66,17 +109,4 @@ fn digit_count(w: u64) -> usize
         count += 1;
     }
     count
-}
-
-pub(crate) fn put_decimal(out: &mut [u8], at: usize, w: u64) -> usize
-    ensures { (result, out.new) ≡ put out.old at (decimal w) }
-{
-    put_digits(out, at, w, 10, digit_count(w))
-}
-
-// Sixteen digits.
-pub(crate) fn put_hex(out: &mut [u8], at: usize, w: u64) -> usize
-    ensures { (result, out.new) ≡ put out.old at (hex w) }
-{
-    put_digits(out, at, w, 16, 16)
 }

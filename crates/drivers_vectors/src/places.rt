@@ -1,119 +1,105 @@
 // Where the words of a driver's case stand.
-use crate::state::{State, is_state, state_any, state_legal};
 use drivers::cutting_plane::Options;
-use lists::rooms::{plus, times};
-use lists::words::{float, word};
+use lists::inputs::{Inputs, Span, fit};
+use lists::rooms::times;
+use lists::state::State;
+use lists::tally::Unreplayed;
 
-// Of each slice where it begins and how long it is; where the state, gamma if there is one, kappa and tsq, and the options stand, and where the case ends.
+// The slices; where the state, gamma if there is one, kappa and tsq, and the options stand, and where the case ends.
 #[derive(Clone, Copy)]
 pub(crate) struct Places {
-    pub(crate) any: bool,
-    pub(crate) is_optim: bool,
     pub(crate) state: State,
     pub(crate) gamma: usize,
     pub(crate) kappa: usize,
     pub(crate) options: usize,
-    pub(crate) table: usize,
-    pub(crate) table_len: usize,
-    pub(crate) xc: usize,
-    pub(crate) xc_len: usize,
-    pub(crate) mq: usize,
-    pub(crate) mq_len: usize,
-    pub(crate) grad: usize,
-    pub(crate) grad_len: usize,
-    pub(crate) grad_t: usize,
-    pub(crate) grad_t_len: usize,
-    pub(crate) best: usize,
-    pub(crate) best_len: usize,
+    pub(crate) table: Span,
+    pub(crate) xc: Span,
+    pub(crate) mq: Span,
+    pub(crate) grad: Span,
+    pub(crate) grad_t: Span,
+    pub(crate) best: Span,
     pub(crate) end: usize,
 }
 
+// Whether the operation is of the optimizing driver, which has gamma.
+pub(crate) fn is_optim(inputs: &Inputs<'_>) -> bool {
+    (inputs.op == 71) | (inputs.op == 141)
+}
+
 // Operations 70 and 71: lengths follow from n and the rows, and the scratch and x_best are not given.
-pub(crate) fn places_legal(inputs: &[u8], is_optim: bool) -> Places {
-    let n = word(inputs, 0) as usize;
-    let table_len = times(word(inputs, 1) as usize, n);
-    let cursors = plus(7, table_len);
-    let gamma = plus(cursors, 10);
-    let kappa = plus(gamma, if is_optim { 1 } else { 0 });
-    let xc = plus(kappa, 2);
-    let mq = plus(xc, n);
-    let size = times(n, n);
-    let options = plus(mq, size);
+fn places_legal(inputs: &Inputs<'_>) -> Places {
+    let n = inputs.size(0);
+    let table = Span {
+        at: 7,
+        len: times(inputs.size(1), n),
+    };
+    let state = table.then(10);
+    let gamma = state.then(if is_optim(inputs) { 1 } else { 0 });
+    let kappa = gamma.then(2);
+    let xc = kappa.then(n);
+    let mq = xc.then(times(n, n));
+    let options = mq.then(2);
+    let scratch = Span { at: 0, len: n };
     Places {
-        any: false,
-        is_optim,
-        state: state_legal(cursors),
-        gamma,
-        kappa,
-        options,
-        table: 7,
-        table_len,
+        state: State::legal(state.at),
+        gamma: gamma.at,
+        kappa: kappa.at,
+        options: options.at,
+        table,
         xc,
-        xc_len: n,
         mq,
-        mq_len: size,
-        grad: 0,
-        grad_len: n,
-        grad_t: 0,
-        grad_t_len: n,
-        best: 0,
-        best_len: n,
-        end: plus(options, 2),
+        grad: scratch,
+        grad_t: scratch,
+        best: scratch,
+        end: options.end(),
     }
 }
 
 // Operations 140 and 141: words 2 to 7 have the lengths, and gamma stands after the options.
-pub(crate) fn places_any(inputs: &[u8], is_optim: bool) -> Places {
-    let table = if is_optim { 33 } else { 32 };
-    let table_len = word(inputs, 2) as usize;
-    let xc_len = word(inputs, 3) as usize;
-    let mq_len = word(inputs, 4) as usize;
-    let grad_len = word(inputs, 5) as usize;
-    let grad_t_len = word(inputs, 6) as usize;
-    let best_len = word(inputs, 7) as usize;
-    let xc = plus(table, table_len);
-    let mq = plus(xc, xc_len);
-    let grad = plus(mq, mq_len);
-    let grad_t = plus(grad, grad_len);
-    let best = plus(grad_t, grad_t_len);
+fn places_any(inputs: &Inputs<'_>) -> Places {
+    let table = Span {
+        at: if is_optim(inputs) { 33 } else { 32 },
+        len: inputs.size(2),
+    };
+    let xc = table.then(inputs.size(3));
+    let mq = xc.then(inputs.size(4));
+    let grad = mq.then(inputs.size(5));
+    let grad_t = grad.then(inputs.size(6));
+    let best = grad_t.then(inputs.size(7));
     Places {
-        any: true,
-        is_optim,
-        state: state_any(8),
+        state: State::any(8),
         gamma: 32,
         kappa: 28,
         options: 30,
         table,
-        table_len,
         xc,
-        xc_len,
         mq,
-        mq_len,
         grad,
-        grad_len,
         grad_t,
-        grad_t_len,
         best,
-        best_len,
-        end: plus(best, best_len),
+        end: best.end(),
     }
 }
 
-// A number of 16 bits; 0 for a word that is none.
-pub(crate) fn half_of(w: u64) -> u16 {
-    if w < 65536 {
-        return w as u16;
+pub(crate) fn places_of(inputs: &Inputs<'_>) -> Places {
+    if inputs.is_any() {
+        return places_any(inputs);
     }
-    0
+    places_legal(inputs)
 }
 
-// Whether the state's words and the step limit are what they should be.
-pub(crate) fn are_numbers(inputs: &[u8], p: Places) -> bool {
-    let state = p.state;
-    is_state(inputs, state) & (word(inputs, p.options) < 65536)
+// A number of 16 bits.
+pub(crate) fn half_of(w: u64) -> Result<u16, Unreplayed> {
+    u16::try_from(w).map_err(|_| Unreplayed::Unfit)
 }
 
-pub(crate) fn options_of(inputs: &[u8], p: Places) -> Options {
-    let tolerance = float(inputs, p.options.wrapping_add(1));
-    Options::new(half_of(word(inputs, p.options)), tolerance)
+pub(crate) fn options_of(inputs: &Inputs<'_>, p: Places) -> Result<Options, Unreplayed> {
+    let max_iters = half_of(inputs.word(p.options))?;
+    Ok(Options::new(max_iters, inputs.float(p.options.wrapping_add(1))))
+}
+
+// The case has just its words, and the state's are what they should be.
+pub(crate) fn check(inputs: &Inputs<'_>, p: Places) -> Result<(), Unreplayed> {
+    fit(p.end == inputs.count)?;
+    p.state.check(inputs)
 }

@@ -1,163 +1,122 @@
 // Operations 142 and 150 to 152: the values of `Options`, the readers and the writer.
-use crate::packed::{bytes_at, lent, pad, put_bytes, words_of};
+use crate::packed::{bytes_at, pad, put_bytes, words_of};
 use crate::places::half_of;
-use crate::state::{push_bands, push_state};
-use drivers::answer::{Answer, AnswerRead, AnswerWritten, read_answer, write_answer};
+use drivers::answer::{Answer, read_answer, write_answer};
 use drivers::cutting_plane::Options;
-use drivers::job::{Job, JobAnswer, read_job};
-use lists::pushes::{Bytes, push_floats, push_words};
-use lists::rooms::{Room, fill, front, part, plus};
+use drivers::job::{Job, read_job};
+use lists::inputs::{Inputs, Span, fit};
+use lists::pushes::Got;
+use lists::rooms::{Rooms, front, part_mut, plus};
 use lists::signed::word_of;
-use lists::tally::Replayed;
-use lists::words::word;
-use numbers::bits::to_bits;
+use lists::tally::Unreplayed;
+use numbers::refusal::Fault;
 
-// What a job has beside its slices, with all that its oracle starts with.
-fn push_job(got: &mut Bytes, number: u64, job: Job) -> usize {
-    let oracle = job.oracle();
-    let options = job.options;
-    let words = [
-        number,
-        0,
-        job.n as u64,
-        job.rows as u64,
-        word_of(job.nwpass),
-        word_of(job.nwstop),
-        to_bits(job.lp_sq),
-        to_bits(job.up_sq),
-    ];
-    let k = push_words(got, 0, &words, 0, words.len());
-    let k = push_state(got, k, oracle);
-    let k = push_bands(got, k, oracle);
-    let k = push_words(got, k, &[to_bits(job.kappa)], 0, 1);
-    push_options(got, k, options)
+// The number and the place of a refusal.
+fn put_fault(got: &mut Got, fault: Fault) {
+    got.word(u8::from(fault.why) as u64);
+    got.word(fault.place as u64);
 }
 
-fn push_options(got: &mut Bytes, k: usize, options: Options) -> usize {
-    let words = [options.max_iters as u64, to_bits(options.tolerance)];
-    push_words(got, k, &words, 0, words.len())
+fn put_options(got: &mut Got, options: Options) {
+    got.word(options.max_iters as u64);
+    got.float(options.tolerance);
+}
+
+// What a job has beside its slices, with all that its oracle starts with.
+fn put_job(got: &mut Got, job: Job) {
+    let oracle = job.oracle();
+    got.words(&[0, 0, job.n as u64, job.rows as u64]);
+    got.word(word_of(job.nwpass));
+    got.word(word_of(job.nwstop));
+    got.float(job.lp_sq);
+    got.float(job.up_sq);
+    got.state(oracle);
+    got.bands(oracle);
+    got.float(job.kappa);
+    put_options(got, job.options);
 }
 
 // Operation 142 has no inputs.
-pub(crate) fn replay_default(ins: usize, got: &mut Bytes) -> Replayed {
-    if ins != 0 {
-        return Replayed::Unfit;
-    }
-    Replayed::Words(push_options(got, 0, Options::default()))
-}
-
-// The slices are at the fronts of the rooms.
-fn put_job(
-    got: &mut Bytes,
-    bytes: &[u8],
-    a: &mut [f64],
-    lt: usize,
-    b: &mut [f64],
-    lx: usize,
-    c: &mut [f64],
-    lm: usize,
-) -> usize {
-    let answer = read_job(bytes, front(a, lt), front(b, lx), front(c, lm));
-    let number = answer.number() as u64;
-    match answer {
-        JobAnswer::Read(job) => push_job(got, number, job),
-        JobAnswer::Refused(_, place) => push_words(got, 0, &[number, place as u64], 0, 2),
-    }
+pub(crate) fn replay_default(inputs: &Inputs<'_>, got: &mut Got) -> Result<(), Unreplayed> {
+    fit(inputs.count == 0)?;
+    put_options(got, Options::default());
+    Ok(())
 }
 
 pub(crate) fn replay_read_job(
-    ins: usize,
-    inputs: &[u8],
-    got: &mut Bytes,
-    a: &mut Room,
-    b: &mut Room,
-    c: &mut Room,
-) -> Replayed {
-    let len = word(inputs, 0) as usize;
-    let lt = word(inputs, 1) as usize;
-    let lx = word(inputs, 2) as usize;
-    let lm = word(inputs, 3) as usize;
-    let table_at = plus(4, words_of(len));
-    let x_at = plus(table_at, lt);
-    let mq_at = plus(x_at, lx);
-    if plus(mq_at, lm) != ins {
-        return Replayed::Unfit;
+    inputs: &Inputs<'_>,
+    rooms: &mut Rooms,
+    got: &mut Got,
+) -> Result<(), Unreplayed> {
+    let len = inputs.size(0);
+    let bytes = Span {
+        at: 4,
+        len: words_of(len),
+    };
+    let table = bytes.then(inputs.size(1));
+    let xc = table.then(inputs.size(2));
+    let mq = xc.then(inputs.size(3));
+    fit(mq.end() == inputs.count)?;
+    inputs.fill(&mut rooms.a, true, table);
+    inputs.fill(&mut rooms.b, true, xc);
+    inputs.fill(&mut rooms.c, true, mq);
+    let table = front(&mut rooms.a, table.len);
+    let xc = front(&mut rooms.b, xc.len);
+    let mq = front(&mut rooms.c, mq.len);
+    match read_job(bytes_at(inputs, bytes.at, len), table, xc, mq) {
+        Ok(job) => put_job(got, job),
+        Err(fault) => put_fault(got, fault),
     }
-    fill(a, inputs, true, table_at, lt);
-    fill(b, inputs, true, x_at, lx);
-    fill(c, inputs, true, mq_at, lm);
-    let bytes = bytes_at(inputs, 4, len);
-    let k = put_job(got, bytes, a, lt, b, lx, c, lm);
-    let k = push_floats(got, k, a, lt);
-    let k = push_floats(got, k, b, lx);
-    Replayed::Words(push_floats(got, k, c, lm))
-}
-
-fn put_answer(got: &mut Bytes, n: usize, bytes: &[u8], a: &mut [f64], lp: usize) -> usize {
-    let read = read_answer(n, bytes, front(a, lp));
-    let number = read.number() as u64;
-    match read {
-        AnswerRead::Read(answer) => {
-            let words = [number, 0, answer.found as u64, answer.steps as u64];
-            push_words(got, 0, &words, 0, words.len())
-        }
-        AnswerRead::Refused(_, place) => push_words(got, 0, &[number, place as u64], 0, 2),
-    }
+    got.floats(table);
+    got.floats(xc);
+    got.floats(mq);
+    Ok(())
 }
 
 pub(crate) fn replay_read_answer(
-    ins: usize,
-    inputs: &[u8],
-    got: &mut Bytes,
-    a: &mut Room,
-) -> Replayed {
-    let n = word(inputs, 0) as usize;
-    let len = word(inputs, 1) as usize;
-    let lp = word(inputs, 2) as usize;
-    let point_at = plus(3, words_of(len));
-    if plus(point_at, lp) != ins {
-        return Replayed::Unfit;
-    }
-    fill(a, inputs, true, point_at, lp);
-    let k = put_answer(got, n, bytes_at(inputs, 3, len), a, lp);
-    Replayed::Words(push_floats(got, k, a, lp))
-}
-
-// The record stands in `got` from its third word on.
-fn write(n: usize, answer: Answer, point: &[f64], got: &mut [u8], len: usize) -> AnswerWritten {
-    write_answer(n, answer, point, lent(got, 16, len))
-}
-
-fn put_written(got: &mut Bytes, written: AnswerWritten) -> usize {
-    let count = match written {
-        AnswerWritten::Bytes(count) => count as u64,
-        AnswerWritten::Refused(_) => 0,
+    inputs: &Inputs<'_>,
+    rooms: &mut Rooms,
+    got: &mut Got,
+) -> Result<(), Unreplayed> {
+    let n = inputs.size(0);
+    let len = inputs.size(1);
+    let bytes = Span {
+        at: 3,
+        len: words_of(len),
     };
-    push_words(got, 0, &[written.number() as u64, count], 0, 2)
+    let point = bytes.then(inputs.size(2));
+    fit(point.end() == inputs.count)?;
+    inputs.fill(&mut rooms.a, true, point);
+    let point = front(&mut rooms.a, point.len);
+    match read_answer(n, bytes_at(inputs, bytes.at, len), point) {
+        Ok(answer) => got.words(&[0, 0, answer.found as u64, answer.steps as u64]),
+        Err(fault) => put_fault(got, fault),
+    }
+    got.floats(point);
+    Ok(())
 }
 
-pub(crate) fn replay_write_answer(
-    ins: usize,
-    inputs: &[u8],
-    floats: &[f64],
-    got: &mut Bytes,
-) -> Replayed {
-    let n = word(inputs, 0) as usize;
-    let found = word(inputs, 1);
-    let steps = word(inputs, 2);
-    let lp = word(inputs, 3) as usize;
-    let len = word(inputs, 4) as usize;
-    let out_at = plus(5, lp);
-    let words = words_of(len);
-    if (plus(out_at, words) != ins) | (found > 1) | (steps > 65535) {
-        return Replayed::Unfit;
-    }
-    let end = put_bytes(got, 16, bytes_at(inputs, out_at, len));
+// The record stands in the answer from its third word on, over the bytes that the case gives.
+pub(crate) fn replay_write_answer(inputs: &Inputs<'_>, got: &mut Got) -> Result<(), Unreplayed> {
+    let found = inputs.word(1);
+    let steps = half_of(inputs.word(2))?;
+    let len = inputs.size(4);
+    let point = Span {
+        at: 5,
+        len: inputs.size(3),
+    };
+    let out = point.then(words_of(len));
+    fit((out.end() == inputs.count) & (found < 2))?;
+    let end = put_bytes(got, 16, bytes_at(inputs, out.at, len));
     pad(got, end);
     let answer = Answer {
         found: found == 1,
-        steps: half_of(steps),
+        steps,
     };
-    let written = write(n, answer, part(floats, 5, lp), got, len);
-    Replayed::Words(plus(put_written(got, written), words))
+    let room = part_mut(&mut got.bytes, 16, len);
+    let written = write_answer(inputs.size(0), answer, inputs.part(point), room);
+    got.refusal(true, &written)?;
+    got.word(written.unwrap_or(0) as u64);
+    got.len = plus(got.len, out.len);
+    Ok(())
 }

@@ -4,3 +4,5 @@ pub mod Tally
 pub mod Rooms
 pub mod Signed
 pub mod Pushes
+pub mod Inputs
+pub mod State

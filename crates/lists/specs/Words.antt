@@ -1,5 +1,5 @@
 -- Words and floats in a run of bytes, by their place. Definitions only.
-use Rattle.std.specs.Prelude.{ℕ, zero, suc, ◌+◌, ◌*◌, ◌/◌, Bool, cond, List, length, ◌==◌, nat_le, slice_index_or, Float}
+use Rattle.std.specs.Prelude.{ℕ, zero, suc, ◌+◌, ◌*◌, ◌/◌, Bool, cond, List, length, ◌==◌, nat_le, slice_index_or, Float, Option, Some, None}
 use Rattle.std.specs.Float.{nan}
 use Rattle.numbers.specs.Pick.{pick}
 use Rattle.numbers.specs.Arr.{tab}
@@ -35,7 +35,7 @@ unfoldable pub floats_put : List ℕ → ℕ → List Float → List ℕ
 unfolding put_to
 floats_put bytes k xs = pick (holds bytes k (length xs)) (put_to bytes k xs (length xs)) bytes
 
--- of the n words from word i on, the first place at which the two differ; i + n where there is none
-unfoldable pub first_diff : List ℕ → List ℕ → ℕ → ℕ → ℕ
-first_diff a b i zero = i
-first_diff a b i (suc n) = cond (word_of a i == word_of b i) (first_diff a b (suc i) n) i
+-- of the n words from word i on, the first place at which the two differ
+unfoldable pub first_diff : List ℕ → List ℕ → ℕ → ℕ → Option ℕ
+first_diff a b i zero = None
+first_diff a b i (suc n) = cond (word_of a i == word_of b i) (first_diff a b (suc i) n) (Some i)

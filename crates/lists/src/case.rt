@@ -1,8 +1,9 @@
 // A list's cases, one after the other, as they are read.
-ghost use Rattle.std.specs.Prelude.{◌≤◌, length};
+ghost use Rattle.std.specs.Prelude.{◌≡◌, ◌+◌, ◌≤◌, length, IfOk};
 ghost use Rattle.lists.specs.Case.{Whole};
 
 use crate::words::word;
+use std::fmt;
 use std::io::Read;
 
 // A case that stands whole in the two buffers: its operation, and how many words of input and of output it has.
@@ -13,25 +14,33 @@ pub struct Case {
     pub outs: usize,
 }
 
+// Why a list ends before its end.
 #[derive(Clone, Copy)]
-pub enum Next {
-    Case(Case),
-    End,
+pub enum Damage {
     CutShort,
     TooLong,
 }
+
+impl fmt::Display for Damage {
+    fn fmt<W: fmt::Write>(&self, f: &mut fmt::Formatter<W>) -> fmt::Result {
+        match self {
+            Damage::CutShort => write!(f, "cut short"),
+            Damage::TooLong => write!(f, "more than 65536 words"),
+        }
+    }
+}
+
+// The most words that a case has beside its operation and its two counts.
+const MOST: usize = 65533;
 
 // One read, to the front of `part`; a read that fails gives nothing.
 fn read_some<R: Read>(input: &mut R, part: &mut [u8]) -> usize
     ensures { result ≤ length part.old }
 {
-    match input.read(part) {
-        Ok(count) => count,
-        Err(_) => 0,
-    }
+    input.read(part).unwrap_or(0)
 }
 
-// Reads until the slice is full, the input ends or a read fails; how many bytes came.
+// Reads until the slice is full, the input ends or a read fails; how many bytes came. It goes on by what a read gave, and `read_exact` does not say how many bytes came before the end, which tells a list's end from a case that is cut short.
 fn read_full<R: Read>(input: &mut R, bytes: &mut [u8]) -> usize
     ensures { result ≤ length bytes.old }
 {
@@ -46,67 +55,61 @@ fn read_full<R: Read>(input: &mut R, bytes: &mut [u8]) -> usize
     done
 }
 
-// Reads n words to the front of `bytes`; whether they all came.
-fn read_words<R: Read>(input: &mut R, bytes: &mut [u8], n: usize) -> bool {
+// Reads n words to the front of `bytes`.
+fn read_words<R: Read>(input: &mut R, bytes: &mut [u8], n: usize) -> Result<(), Damage> {
     if bytes.len() / 8 < n {
-        return false;
+        return Err(Damage::CutShort);
     }
     let end = 8 * n;
-    read_full(input, &mut bytes[..end]) == end
+    if read_full(input, &mut bytes[..end]) < end {
+        return Err(Damage::CutShort);
+    }
+    Ok(())
+}
+
+// Reads a count of words.
+fn read_count<R: Read>(input: &mut R) -> Result<u64, Damage> {
+    let mut count = [0u8; 8];
+    read_words(input, &mut count, 1)?;
+    Ok(word(&count, 0))
+}
+
+// A count that a case has room for.
+fn at_most(count: u64, most: usize) -> Result<usize, Damage>
+    ensures { IfOk result (λ n. n ≤ most) }
+{
+    if count > most as u64 {
+        return Err(Damage::TooLong);
+    }
+    Ok(count as usize)
 }
 
 // After a read that gave nothing: whether the input has ended, and no read has failed.
 fn has_ended<R: Read>(input: &mut R) -> bool {
     let mut byte = [0u8; 1];
-    match input.read(&mut byte) {
-        Ok(count) => count == 0,
-        Err(_) => false,
-    }
-}
-
-// A case's output words, their count first.
-fn read_outputs<R: Read>(input: &mut R, op: u64, ins: usize, expected: &mut [u8]) -> Next
-    requires { ins ≤ 65533 }
-    ensures { Whole result }
-{
-    let mut count = [0u8; 8];
-    let n = read_full(input, &mut count);
-    if n < 8 {
-        return Next::CutShort;
-    }
-    let outs = word(&count[..n], 0) as usize;
-    if 65533 - ins < outs {
-        return Next::TooLong;
-    }
-    if !read_words(input, expected, outs) {
-        return Next::CutShort;
-    }
-    Next::Case(Case { op, ins, outs })
+    matches!(input.read(&mut byte), Ok(0))
 }
 
 // Reads the next case: its input words to the front of `inputs`, its output words to the front of `expected`. Two buffers of 65,536 words hold every case.
-pub fn next_case<R: Read>(input: &mut R, inputs: &mut [u8], expected: &mut [u8]) -> Next
+pub fn next_case<R: Read>(
+    input: &mut R,
+    inputs: &mut [u8],
+    expected: &mut [u8],
+) -> Result<Option<Case>, Damage>
     ensures { Whole result }
 {
     let mut head = [0u8; 16];
     let n = read_full(input, &mut head);
-    if n == 0 {
-        return if has_ended(input) {
-            Next::End
-        } else {
-            Next::CutShort
-        };
+    if n == 0 && has_ended(input) {
+        return Ok(None);
     }
     if n < 16 {
-        return Next::CutShort;
+        return Err(Damage::CutShort);
     }
-    let op = word(&head[..n], 0);
-    let ins = word(&head[..n], 1) as usize;
-    if 65533 < ins {
-        return Next::TooLong;
-    }
-    if !read_words(input, inputs, ins) {
-        return Next::CutShort;
-    }
-    read_outputs(input, op, ins, expected)
+    let op = word(&head, 0);
+    let ins = at_most(word(&head, 1), MOST)?;
+    read_words(input, inputs, ins)?;
+    let outs = at_most(read_count(input)?, MOST - ins)?;
+    read_words(input, expected, outs)?;
+    Ok(Some(Case { op, ins, outs }))
 }

@@ -2,9 +2,12 @@
 #![tactic(auto)]
 
 pub mod case;
-mod print;
+pub mod inputs;
 pub mod pushes;
+pub mod replay;
+pub mod report;
 pub mod rooms;
 pub mod signed;
+pub mod state;
 pub mod tally;
 pub mod words;

@@ -7,55 +7,61 @@ use crate::words::floats;
 // As many floats as a case can have words.
 pub type Room = [f64; 65536];
 
+// The rooms for the slices that a call writes.
+#[derive(Drop)]
+pub struct Rooms {
+    pub a: Room,
+    pub b: Room,
+    pub c: Room,
+    pub d: Room,
+    pub e: Room,
+    pub f: Room,
+}
+
 // The sum, at most what 64 bits hold: too long for a case.
 pub fn plus(a: usize, b: usize) -> usize
     ensures { result ≡ plus_of a b }
 {
-    if usize::MAX - a < b {
-        return usize::MAX;
-    }
-    a + b
+    a.saturating_add(b)
 }
 
 // The product, or what is too long for a case.
 pub fn times(a: usize, b: usize) -> usize
     ensures { result ≡ times_of a b }
 {
-    if a == 0 {
+    if (a == 0) | (b == 0) {
         return 0;
     }
-    if b == 0 {
-        return 0;
-    }
-    if a > 65536 {
-        return usize::MAX;
-    }
-    if b > 65536 {
+    if (a > 65536) | (b > 65536) {
         return usize::MAX;
     }
     a * b
 }
 
-pub fn part(s: &[f64], at: usize, len: usize) -> &[f64]
+// The elements `at` to `at` + `len` − 1.
+pub fn part<T>(s: &[T], at: usize, len: usize) -> &[T]
     ensures { result.now ≡ part_of s.now at len }
 {
-    if s.len() < at {
-        return &s[0..0];
+    match s.len().checked_sub(at) {
+        Some(rest) if len <= rest => &s[at..at + len],
+        _ => &s[0..0],
     }
-    if s.len() - at < len {
-        return &s[0..0];
-    }
-    let end = at + len;
-    &s[at..end]
 }
 
-pub fn front(s: &mut [f64], len: usize) -> &mut [f64]
+// The same, to be written: a function cannot be generic over `&` and `&mut`.
+pub fn part_mut<T>(s: &mut [T], at: usize, len: usize) -> &mut [T]
+    ensures { result.now ≡ part_of s.old at len }
+{
+    match s.len().checked_sub(at) {
+        Some(rest) if len <= rest => &mut s[at..at + len],
+        _ => &mut s[0..0],
+    }
+}
+
+pub fn front<T>(s: &mut [T], len: usize) -> &mut [T]
     ensures { result.now ≡ part_of s.old 0 len }
 {
-    if s.len() < len {
-        return &mut s[0..0];
-    }
-    &mut s[0..len]
+    part_mut(s, 0, len)
 }
 
 // The floats from word `at` on; zeros where the case does not say them.
@@ -67,7 +73,7 @@ pub fn fill(s: &mut [f64], inputs: &[u8], given: bool, at: usize, len: usize)
     }
     if given {
         floats(inputs, at, &mut s[..len]);
-        return;
+    } else {
+        s[..len].fill(0.0);
     }
-    (&mut s[..len]).fill(0.0);
 }

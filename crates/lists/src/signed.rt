@@ -16,13 +16,7 @@ fn is_signed(w: u64) -> bool
 pub fn signed(w: u64) -> i32
     ensures { result ≡ signed_value w }
 {
-    if w < 0x8000_0000 {
-        return w as i32;
-    }
-    if w < 0xFFFF_FFFF_8000_0000 {
-        return 0;
-    }
-    -1 - ((u64::MAX - w) as i32)
+    i32::try_from(w.cast_signed()).unwrap_or(0)
 }
 
 pub fn signed_at(inputs: &[u8], k: usize) -> i32
@@ -35,12 +29,10 @@ pub fn signed_at(inputs: &[u8], k: usize) -> i32
 pub fn all_signed(inputs: &[u8], from: usize, to: usize) -> bool
     ensures { result ≡ all_signed inputs.now from (to - from) }
 {
-    let mut k = from;
-    while k < to {
+    for k in from..to {
         if !is_signed(word(inputs, k)) {
             return false;
         }
-        k += 1;
     }
     true
 }
@@ -48,8 +40,5 @@ pub fn all_signed(inputs: &[u8], from: usize, to: usize) -> bool
 pub fn word_of(i: i32) -> u64
     ensures { result ≡ signed_word i }
 {
-    if i < 0 {
-        return u64::MAX - ((-1 - i) as u64);
-    }
-    i as u64
+    i64::from(i).cast_unsigned()
 }

@@ -1,6 +1,6 @@
-// Words and floats in a run of bytes, by their place: word k stands from byte 8 k on.
-ghost use Rattle.std.specs.Prelude.{◌≡◌};
-ghost use Rattle.lists.specs.Words.{word_of, float_at, floats_at, put_word_at, floats_put, first_diff};
+// Words and floats in a run of bytes, by their place: word k stands from byte 8 k on. A place may lie past the end, so that no caller has to prove an index; a slice that begins there would need that.
+ghost use Rattle.std.specs.Prelude.{◌≡◌, length};
+ghost use Rattle.lists.specs.Words.{word_of, float_at, holds, floats_at, put_word_at, floats_put, first_diff};
 
 use numbers::bits::{of_bits, put_word, to_bits, word_at};
 
@@ -21,21 +21,23 @@ pub fn float(bytes: &[u8], k: usize) -> f64
     of_bits(word(bytes, k))
 }
 
+// Whether n words from word k on lie within the bytes.
+fn holds(bytes: &[u8], k: usize, n: usize) -> bool
+    ensures { result ≡ holds bytes.now k n }
+{
+    let most = bytes.len() / 8;
+    (n <= most) & (k <= most.saturating_sub(n))
+}
+
 // Fills `out` with the floats from word k on, if the bytes hold them all.
 pub fn floats(bytes: &[u8], k: usize, out: &mut [f64])
     ensures { out.new ≡ floats_at bytes.now k out.old }
 {
-    let most = bytes.len() / 8;
-    if most < out.len() {
+    if !holds(bytes, k, out.len()) {
         return;
     }
-    if most - out.len() < k {
-        return;
-    }
-    let mut i = 0;
-    while i < out.len() {
+    for i in 0..out.len() {
         out[i] = float(bytes, k + i);
-        i += 1;
     }
 }
 
@@ -53,30 +55,22 @@ pub fn put(bytes: &mut [u8], k: usize, w: u64)
 pub fn put_floats(bytes: &mut [u8], k: usize, xs: &[f64])
     ensures { bytes.new ≡ floats_put bytes.old k xs.now }
 {
-    let most = bytes.len() / 8;
-    if most < xs.len() {
+    if !holds(bytes, k, xs.len()) {
         return;
     }
-    if most - xs.len() < k {
-        return;
-    }
-    let mut i = 0;
-    while i < xs.len() {
-        put(bytes, k + i, to_bits(xs[i]));
-        i += 1;
+    for (i, x) in xs.iter().enumerate() {
+        put(bytes, k + i, to_bits(*x));
     }
 }
 
-// The first place below n at which the two have different words; n where there is none.
-pub fn first_difference(a: &[u8], b: &[u8], n: usize) -> usize
+// The first place below n at which the two have different words.
+pub fn first_difference(a: &[u8], b: &[u8], n: usize) -> Option<usize>
     ensures { result ≡ first_diff a.now b.now 0 n }
 {
-    let mut i = 0;
-    while i < n {
+    for i in 0..n {
         if word(a, i) != word(b, i) {
-            return i;
+            return Some(i);
         }
-        i += 1;
     }
-    i
+    None
 }

@@ -24,6 +24,11 @@ abbrev pub number_of : {A : Type 0} → Result A Refusal → ℕ
 number_of (Ok x) = 0
 number_of (Err why) = refusal_number why
 
+-- of one that says a place of a record, too
+abbrev pub number_at : {A : Type 0} → Result A Fault → ℕ
+number_at (Ok x) = 0
+number_at (Err fault) = refusal_number fault.why
+
 -- ---- the first refusal counts
 
 -- what tests find: nothing, or the first refusal and its place in a record, 0 outside of one
@@ -33,7 +38,8 @@ Tests = Result ⊤ Fault
 pattern abbrev pub Sound : Tests
 Sound = Ok tt
 
-abbrev pub At : Refusal → ℕ → Tests
+-- a refusal at a place
+abbrev pub At : {A : Type 0} → Refusal → ℕ → Result A Fault
 At why place = Err (record { why = why; place = place })
 
 infixr 20 ◌⨾◌

@@ -1,10 +1,9 @@
 // Vectors and matrices over flat slices, row after row (arr.rs). Each public call tests n, then the lengths, and writes nothing where it refuses.
 ghost use Rattle.std.specs.Prelude.{◌≡◌, ◌+◌, ◌*◌, ◌≤◌, ◌<◌, min, length, drop, replicate, OnOk, IsTrue};
-ghost use Rattle.numbers.specs.F64.{0ᶠ};
 ghost use Rattle.numbers.specs.Arr.{is_dimension, dot_from, dot_of, four_of, diag_of, set_diag, dot_answer, dot_mv_into_answer, copy_from_answer, eye_answer, from_diag_answer};
 ghost use Rattle.numbers.specs.Refusal.{asked};
 ghost use Rattle.numbers.specs.declared.refusal.Refusal.TheVariants.{Dimension, Length};
-ghost use Rattle.numbers.specs.laws.Arr.{four_from};
+ghost use Rattle.numbers.specs.laws.Arr.{four_from, products_on};
 
 use crate::mv::rows_into;
 use crate::refusal::Refusal;
@@ -45,42 +44,27 @@ pub fn lengths(fit: bool) -> Result<(), Refusal>
     if fit { Ok(()) } else { Err(Refusal::Length) }
 }
 
-fn shorter(a: usize, b: usize) -> usize
-    ensures { result ≡ min a b }
+// `start`, and the products of what the two slices have in common added left to right.
+pub(crate) fn add_products(start: f64, a: &[f64], b: &[f64]) -> f64
+    ensures { result ≡ products_on start a.now b.now }
 {
-    if a < b { a } else { b }
-}
-
-// `start`, and the products from `from` on added left to right, two to a turn.
-pub(crate) fn add_products(start: f64, a: &[f64], b: &[f64], from: usize) -> f64
-    requires { (from ≤ length a.now) × (from ≤ length b.now) }
-    ensures { result ≡ dot_from start (drop from a.now) (drop from b.now) }
-{
-    let common = shorter(a.len(), b.len());
-    let mut s = start;
-    let mut i = from;
-    while i + 1 < common {
-        s = s + a[i] * b[i];
-        s = s + a[i + 1] * b[i + 1];
-        i += 2;
-    }
-    if i < common {
-        s = s + a[i] * b[i];
-    }
-    s
+    a.iter().zip(b).fold(start, |s, (x, y)| s + *x * *y)
 }
 
 // The dot product of what the two slices have in common, from the first product on: `dot` with nothing to refuse.
 pub fn dot_zip(a: &[f64], b: &[f64]) -> f64
     ensures { result ≡ dot_of a.now b.now }
 {
-    if shorter(a.len(), b.len()) == 0 {
+    let Some((x, xs)) = a.split_first() else {
         return -0.0;
-    }
-    let first = a[0] * b[0];
-    add_products(first, a, b, 1)
+    };
+    let Some((y, ys)) = b.split_first() else {
+        return -0.0;
+    };
+    add_products(*x * *y, xs, ys)
 }
 
+// The calls share their tests, `dimension` and `lengths`; what follows these is of each call alone.
 pub fn dot(n: usize, a: &[f64], b: &[f64]) -> Result<f64, Refusal>
     ensures { result ≡ dot_answer n a.now b.now }
 {

@@ -22,22 +22,14 @@ pub fn to_bits(x: f64) -> u64
     f64::to_bits(x)
 }
 
-fn wide(b: u8) -> u64
-    ensures { result ≡ b }
-{
-    b as u64
-}
-
 // The number whose lowest digit to the base 256 stands first.
 fn le_number(bytes: &[u8]) -> u64
     requires { length bytes.now ≤ 8 }
     ensures { result ≡ le_number bytes.now }
 {
     let mut w = 0;
-    let mut i = bytes.len();
-    while i > 0 {
-        i -= 1;
-        w = w * 256 + wide(bytes[i]);
+    for i in (0..bytes.len()).rev() {
+        w = w * 256 + u64::from(bytes[i]);
     }
     w
 }
@@ -47,10 +39,10 @@ fn le_half(bytes: &[u8]) -> u64
     requires { length bytes.now ≡ 4 }
     ensures { (result ≡ le_number bytes.now) × (result < 0x1_0000_0000) }
 {
-    wide(bytes[0])
-        + 0x100 * wide(bytes[1])
-        + 0x1_0000 * wide(bytes[2])
-        + 0x100_0000 * wide(bytes[3])
+    u64::from(bytes[0])
+        + 0x100 * u64::from(bytes[1])
+        + 0x1_0000 * u64::from(bytes[2])
+        + 0x100_0000 * u64::from(bytes[3])
 }
 
 fn le_word(bytes: &[u8]) -> u64
@@ -85,11 +77,9 @@ pub fn put_bytes(out: &mut [u8], at: usize, k: usize, w: u64)
         return;
     }
     let mut rest = w;
-    let mut i = 0;
-    while i < k {
+    for i in 0..k {
         out[at + i] = (rest % 256) as u8;
         rest /= 256;
-        i += 1;
     }
 }
 

@@ -9,22 +9,18 @@ pub enum CutChoice {
     Parallel(f64, f64),
 }
 
-#[derive(Clone, Copy)]
+#[derive(Clone, Copy, PartialEq, Eq)]
 pub enum CutStatus {
-    Success,
-    NoSoln,
-    NoEffect,
+    Success = 0,
+    NoSoln = 1,
+    NoEffect = 2,
 }
 
-impl CutStatus {
-    pub fn number(self) -> u8
-        ensures { result ≡ status_number self }
-    {
-        match self {
-            CutStatus::Success => 0,
-            CutStatus::NoSoln => 1,
-            CutStatus::NoEffect => 2,
-        }
+impl From<CutStatus> for u8 {
+    ghost from_gives = { λ status n. n ≡ status_number status };
+
+    fn from(status: CutStatus) -> u8 {
+        status as u8
     }
 }
 

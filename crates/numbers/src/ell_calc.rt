@@ -1,7 +1,7 @@
 // The cut calculators (`EllCalc` of ell_calc.rs), which test before they use the helper's formulas.
 ghost use Rattle.std.specs.Prelude.{◌≡◌};
 ghost use Rattle.std.specs.Float.Ieee.{lt};
-ghost use Rattle.numbers.specs.EllCalc.{new_answer, single_instead, calc_single_or_parallel_bias_cut, calc_single_or_parallel_central_cut, calc_single_or_parallel_q, calc_parallel_bias_cut, calc_parallel_q, calc_parallel_central_cut, calc_bias_cut, calc_bias_cut_q, calc_central_cut};
+ghost use Rattle.numbers.specs.EllCalc.{new_answer, single_instead, calc_single_or_parallel_bias_cut, calc_single_or_parallel_central_cut, calc_single_or_parallel_q, calc_parallel_impl, calc_parallel_bias_cut, calc_parallel_q, calc_parallel_central_cut, calc_bias_cut, calc_bias_cut_q, calc_central_cut};
 
 use crate::arr::dimension;
 use crate::cut::{CutAnswer, CutChoice, CutStatus, Params};
@@ -58,6 +58,7 @@ impl EllCalc {
         })
     }
 
+    // The three choices are written out: with the two calculators as closures each would be longer than its match.
     pub fn calc_single_or_parallel_bias_cut(self, beta: CutChoice, tsq: f64) -> CutAnswer
         ensures { result ≡ calc_single_or_parallel_bias_cut self beta tsq }
     {
@@ -92,37 +93,22 @@ impl EllCalc {
         (beta1 > 0.0 && tsq <= beta1 * beta1) || !self.use_parallel_cut
     }
 
-    // The Rust's `calc_parallel_impl` stands here twice, in the plain form and in the q form: each is compiled into its caller, and its answer is not copied.
-    pub fn calc_parallel_bias_cut(self, beta0: f64, beta1: f64, tsq: f64) -> CutAnswer
-        ensures { result ≡ calc_parallel_bias_cut self beta0 beta1 tsq }
+    // `discrete` is the q form: it falls back on `calc_bias_cut_q` and tests eta.
+    fn calc_parallel_impl(self, beta0: f64, beta1: f64, tsq: f64, discrete: bool) -> CutAnswer
+        ensures { result ≡ calc_parallel_impl self beta0 beta1 tsq discrete }
     {
         if crossed(beta0, beta1) {
             return NO_SOLN;
         }
         if self.single_instead(beta1, tsq) {
+            if discrete {
+                return self.calc_bias_cut_q(beta0, tsq);
+            }
             return self.calc_bias_cut(beta0, tsq);
         }
         let b0b1 = beta0 * beta1;
         let eta = tsq + self.n_f * b0b1;
-        let helper = self.helper;
-        CutAnswer {
-            status: CutStatus::Success,
-            params: helper.calc_parallel_bias_cut_fast(beta0, beta1, tsq, b0b1, eta),
-        }
-    }
-
-    pub fn calc_parallel_q(self, beta0: f64, beta1: f64, tsq: f64) -> CutAnswer
-        ensures { result ≡ calc_parallel_q self beta0 beta1 tsq }
-    {
-        if crossed(beta0, beta1) {
-            return NO_SOLN;
-        }
-        if self.single_instead(beta1, tsq) {
-            return self.calc_bias_cut_q(beta0, tsq);
-        }
-        let b0b1 = beta0 * beta1;
-        let eta = tsq + self.n_f * b0b1;
-        if eta <= 0.0 {
+        if discrete & (eta <= 0.0) {
             return NO_EFFECT;
         }
         let helper = self.helper;
@@ -130,6 +116,18 @@ impl EllCalc {
             status: CutStatus::Success,
             params: helper.calc_parallel_bias_cut_fast(beta0, beta1, tsq, b0b1, eta),
         }
+    }
+
+    pub fn calc_parallel_bias_cut(self, beta0: f64, beta1: f64, tsq: f64) -> CutAnswer
+        ensures { result ≡ calc_parallel_bias_cut self beta0 beta1 tsq }
+    {
+        self.calc_parallel_impl(beta0, beta1, tsq, false)
+    }
+
+    pub fn calc_parallel_q(self, beta0: f64, beta1: f64, tsq: f64) -> CutAnswer
+        ensures { result ≡ calc_parallel_q self beta0 beta1 tsq }
+    {
+        self.calc_parallel_impl(beta0, beta1, tsq, true)
     }
 
     pub fn calc_parallel_central_cut(self, beta1: f64, tsq: f64) -> CutAnswer

@@ -2,7 +2,7 @@
 ghost use Rattle.std.specs.Prelude.{◌≡◌, ◌+◌, ◌*◌, ◌≤◌, length};
 ghost use Rattle.numbers.specs.F64.{0ᶠ};
 ghost use Rattle.numbers.specs.Arr.{dot_from, row_of, mv_of};
-ghost use Rattle.numbers.specs.laws.Arr.{four_row_dots};
+ghost use Rattle.numbers.specs.laws.Arr.{four_row_dots, FilledTo};
 
 use crate::arr::{Four, add_four, add_products};
 
@@ -40,7 +40,7 @@ fn one_row(n: usize, mat: &[f64], x: &[f64], i: usize) -> f64
 {
     let at = i * n;
     let end = at + n;
-    add_products(0.0, &mat[at..end], x, 0)
+    add_products(0.0, &mat[at..end], x)
 }
 
 // The four rows from row i on, each lent as its part of the matrix, times x.
@@ -70,24 +70,30 @@ fn four_rows(n: usize, mat: &[f64], x: &[f64], i: usize) -> Four
     )
 }
 
+// The first rows of the matrix times x, four at a time: 4 × fours of them.
+fn rows_by_four(n: usize, fours: usize, mat: &[f64], x: &[f64], out: &mut [f64])
+    requires { (n ≤ 32) × (4 * fours ≤ n) × (length mat.now ≡ n * n) × (length x.now ≡ n) × (length out.old ≡ n) }
+    ensures { FilledTo (λ k. dot_from 0ᶠ (row_of n mat.now k) x.now) out.old out.new (4 * fours) }
+{
+    for k in 0..fours {
+        let i = 4 * k;
+        let four = four_rows(n, mat, x, i);
+        out[i] = four.a;
+        out[i + 1] = four.b;
+        out[i + 2] = four.c;
+        out[i + 3] = four.d;
+    }
+}
+
 // Each row of the matrix times x: four rows at a time, and the last ones singly.
 fn long_rows_into(n: usize, mat: &[f64], x: &[f64], out: &mut [f64])
     requires { (n ≤ 32) × (length mat.now ≡ n * n) × (length x.now ≡ n) × (length out.old ≡ n) }
     ensures { out.new ≡ mv_of n mat.now x.now }
 {
-    let mut i = 0;
-    while i < n {
-        if i + 4 <= n {
-            let four = four_rows(n, mat, x, i);
-            out[i] = four.a;
-            out[i + 1] = four.b;
-            out[i + 2] = four.c;
-            out[i + 3] = four.d;
-            i += 4;
-        } else {
-            out[i] = one_row(n, mat, x, i);
-            i += 1;
-        }
+    let fours = n / 4;
+    rows_by_four(n, fours, mat, x, out);
+    for i in 4 * fours..n {
+        out[i] = one_row(n, mat, x, i);
     }
 }
 

@@ -1,6 +1,6 @@
 // Why a call says no. One enum serves the whole project; its numbers are document 01's.
 ghost use Rattle.std.specs.Prelude.{◌≡◌};
-ghost use Rattle.numbers.specs.Refusal.{refusal_number, number_of};
+ghost use Rattle.numbers.specs.Refusal.{refusal_number, number_of, number_at};
 
 #[derive(Clone, Copy, PartialEq, Eq)]
 pub enum Refusal {
@@ -41,4 +41,22 @@ pub fn number<A>(answer: &Result<A, Refusal>) -> u8
 pub struct Fault {
     pub why: Refusal,
     pub place: usize,
+}
+
+impl From<Refusal> for Fault {
+    ghost from_gives = { λ why fault. fault ≡ record { why = why; place = 0 } };
+
+    fn from(why: Refusal) -> Fault {
+        Fault { why, place: 0 }
+    }
+}
+
+// The number of an answer that says a place, too.
+pub fn number_at<A>(answer: &Result<A, Fault>) -> u8
+    ensures { result ≡ number_at answer.now }
+{
+    let Err(fault) = answer else {
+        return 0;
+    };
+    u8::from(fault.why)
 }

@@ -1,33 +1,21 @@
 -- Signed numbers of 32 bits: which sums fit, and what is read back from the bits. Assumes nothing.
-use mathlib.Core.Path.{◌≡◌, refl, sym, ap, ◌∙◌, subst}
-use mathlib.Core.Bool.{Bool, true, false, true≢false}
+use mathlib.Core.Path.{◌≡◌, sym, ap, ◌∙◌, subst}
+use mathlib.Core.Bool.{true, true≢false}
 use Prim.Native.Nat.{ℕ, zero, suc, ◌≤◌}
 use native.Mathlib.Omega.{arith}
-use borrow.Author.Tests.{ltb-true, eqb-true, eqb-false}
-use lib.IntN.{ℤ, pos, negsuc, pred_ℤ, suc_ℤ, nat_abs, ◌+ℤ◌, ◌-ℤ◌, +ℤ_one, -ℤ_one, suc-pred}
-use lib.Signed.{lt_z, le_z, non_neg}
-use lib.Dec.{T, eqb}
-use mir.Syntax.{w32, w64}
-use mir.Val.{Fits, SFits, to_z, of_z}
-use mir.Facts.{to_z-of_z, Fits-nat_abs}
+use lib.IntN.{ℤ, pos, negsuc, pred_ℤ, suc_ℤ, ◌+ℤ◌, ◌-ℤ◌, +ℤ_one, -ℤ_one, suc-pred}
+use lib.Signed.{le_z}
+use mir.Syntax.{w32}
+use mir.Val.{SFits, to_z, of_z}
+use mir.Facts.{to_z-of_z}
 use Rattle.numbers.specs.Pick.{pick}
-use Rattle.oracles.specs.RoundRobin.{eq_z, advanced}
+use Rattle.oracles.specs.RoundRobin.{advanced}
 use Rattle.oracles.specs.laws.RoundRobin.{eq_z_yes, eq_z_no, Legal}
 use Rattle.oracles.specs.declared.round_robin.RoundRobin.{RoundRobin}
 
 -- what the machine reads back
 abbrev pub read : ℤ → ℤ
 read z = to_z w32 (of_z w32 z)
-
--- a number below one that fits has a successor that fits
-pub suc_fits : (a b : ℤ) → lt_z a b ≡ true → SFits w32 a → SFits w32 b → SFits w32 (a +ℤ pos 1)
-suc_fits a b l f g = subst (SFits w32) (sym (+ℤ_one a)) (go a b l f g)
-  where
-    go : (a b : ℤ) → lt_z a b ≡ true → SFits w32 a → SFits w32 b → SFits w32 (suc_ℤ a)
-    go (pos m) (pos k) l f g = record { sfits = omega (arith, ltb-true m k l, g.sfits) }
-    go (pos m) (negsuc k) l f g = absurd (true≢false (sym l))
-    go (negsuc zero) b l f g = record { sfits = omega arith }
-    go (negsuc (suc m)) b l f g = record { sfits = omega (arith, f.sfits) }
 
 -- a number from zero on has a predecessor that fits
 pub pred_fits : (a : ℤ) → le_z (pos 0) a ≡ true → SFits w32 a → SFits w32 (a -ℤ pos 1)
@@ -42,32 +30,12 @@ pred_fits a l f = subst (SFits w32) (sym (-ℤ_one a)) (go a l f)
 pub same_bits : {a b : ℤ} → SFits w32 a → SFits w32 b → of_z w32 a ≡ of_z w32 b → a ≡ b
 same_bits fa fb e = sym (to_z-of_z fa) ∙ ap (to_z w32) e ∙ to_z-of_z fb
 
--- a test of bits is a test of numbers
-pub eq_bits : (a b : ℤ) → SFits w32 a → SFits w32 b → eqb (of_z w32 a) (of_z w32 b) ≡ eq_z a b
-eq_bits a b fa fb = go (eqb (of_z w32 a) (of_z w32 b)) refl
-  where
-    go : (t : Bool) → eqb (of_z w32 a) (of_z w32 b) ≡ t → eqb (of_z w32 a) (of_z w32 b) ≡ eq_z a b
-    go true e = e ∙ sym (eq_z_yes a b (same_bits fa fb (eqb-true _ _ e)))
-    go false e = e ∙ sym (eq_z_no a b (λ q. eqb-false _ _ e (ap (of_z w32) q)))
-
 pub pos_fits : (n : ℕ) → n ≤ 1024 → SFits w32 (pos n)
 pos_fits n h = record { sfits = omega arith }
 
 pub before_fits : (n : ℕ) → n ≤ 1024 → SFits w32 (pred_ℤ (pos n))
 before_fits zero h = record { sfits = omega arith }
 before_fits (suc n) h = record { sfits = omega arith }
-
--- a number that is not negative, as a `usize`
-pub cast_fits : (z : ℤ) → T (non_neg z) → SFits w32 z → T (non_neg (read z)) × Fits w64 (nat_abs (read z))
-cast_fits z t f = rw (to_z-of_z f) (t, Fits-nat_abs tt f)
-
--- a row number
-module _ (z : ℤ) (k : ℕ) (e : z ≡ pos k) (f : SFits w32 z) where
-  pub as_row_fits : T (non_neg (read z)) × Fits w64 (nat_abs (read z))
-  as_row_fits = cast_fits z (rw e tt) f
-
-  pub as_row : z ≡ pos (nat_abs (read z))
-  as_row = e ∙ ap pos (sym (ap nat_abs (to_z-of_z f ∙ e)))
 
 -- ---- a legal cursor
 

@@ -1,17 +1,16 @@
 -- The ellipsoid with a full matrix (ell.rs). Definitions only.
 use Rattle.numbers.specs.Refusal.{Tests}
-use Rattle.std.specs.Prelude.{ℕ, ◌*◌, Bool, ◌&&◌, List, leb, eqb, length, Float}
+use Rattle.numbers.specs.declared.refusal.Refusal.{Refusal}
+use Rattle.std.specs.Prelude.{ℕ, ◌*◌, Bool, ◌&&◌, List, leb, eqb, length, Float, Ok, Err, Result}
 use Rattle.numbers.specs.F64.{◌⊖◌, ◌⊗◌, ◌⊘◌, 0ᶠ}
 use Rattle.numbers.specs.Pick.{pick}
 use Rattle.numbers.specs.Arr.{dot_of, mv_of, sized}
 use Rattle.numbers.specs.EllCalc.{made}
 use Rattle.numbers.specs.declared.cut.CutChoice.{CutChoice}
 use Rattle.oracles.specs.Matrix.{nth, at, grid}
-use Rattle.oracles.specs.EllCommon.{calc_of, outcome_answer, centre_of, new_of, Work, Change, change, update_of, update_answer}
+use Rattle.oracles.specs.EllCommon.{calc_of, centre_of, new_of, Work, Change, change, update_of, update_answer}
 use Rattle.oracles.specs.declared.ell_common.CutStrategy.{CutStrategy}
 use Rattle.oracles.specs.declared.ell.Ell.{Ell}
-use Rattle.oracles.specs.declared.ell.NewEll.{NewEll}
-use Rattle.oracles.specs.declared.ell.NewEll.TheVariants.{Made, Refused as NotMade}
 use Rattle.oracles.specs.declared.ell.EllUpdate.{EllUpdate}
 use Rattle.oracles.specs.declared.ell.EllChange.{EllChange}
 
@@ -20,8 +19,8 @@ abbrev pub fresh_ell : ℕ → Float → Ell
 fresh_ell n kappa = record { ndim = n; kappa = kappa; helper = made n; tsq = 0ᶠ }
 
 -- `new_with_matrix`; refusal 1
-unfoldable pub new_ell_answer : ℕ → Float → NewEll
-new_ell_answer n kappa = new_of NotMade (Made (fresh_ell n kappa)) n
+unfoldable pub new_ell_answer : ℕ → Float → Result Ell Refusal
+new_ell_answer n kappa = new_of Err (Ok (fresh_ell n kappa)) n
 
 -- the slices that an update is lent to write
 pub record EllBuffers : Type 0 where
@@ -82,8 +81,8 @@ ell_update_answer e strategy grad beta b =
 -- ---- what an update changes, in the small form in which the code hands it on
 
 abbrev pub change_of : EllChange → EllBuffers → Change EllBuffers
-change_of c b = change (outcome_answer c.outcome) c.kappa c.tsq b
+change_of c b = change (c.answer) c.kappa c.tsq b
 
 -- the ellipsoid after it, and the answer
 abbrev pub ell_changed : Ell → EllChange → EllUpdate
-ell_changed e c = record { ell = with_tsq e c.kappa c.tsq; answer = outcome_answer c.outcome }
+ell_changed e c = record { ell = with_tsq e c.kappa c.tsq; answer = c.answer }

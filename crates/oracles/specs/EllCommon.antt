@@ -1,5 +1,5 @@
 -- What both ellipsoids share. Definitions only.
-use Rattle.std.specs.Prelude.{ℕ, Bool, true, false, not, List, length, Float}
+use Rattle.std.specs.Prelude.{ℕ, Bool, true, false, not, List, length, Float, Ok, Err, Result}
 use Rattle.std.specs.Float.Ieee.{le, of_bits}
 use Rattle.std.specs.Float.{binary64}
 use Rattle.numbers.specs.F64.{◌⊖◌, ◌⊗◌}
@@ -8,7 +8,6 @@ use Rattle.numbers.specs.Refusal.{unless, Tests}
 use Rattle.numbers.specs.Arr.{tab}
 use Rattle.numbers.specs.EllCalc.{new_tests, calc_single_or_parallel_bias_cut, calc_single_or_parallel_central_cut, calc_single_or_parallel_q}
 use Rattle.numbers.specs.declared.refusal.Refusal.{Refusal}
-use Rattle.numbers.specs.declared.refusal.Refusal.TheVariants.{Dimension as WrongDimension, Length as WrongLength}
 use Rattle.numbers.specs.declared.cut.CutChoice.{CutChoice}
 use Rattle.numbers.specs.declared.cut.CutStatus.{CutStatus}
 use Rattle.numbers.specs.declared.cut.CutStatus.TheVariants.{Success, NoSoln, NoEffect}
@@ -18,10 +17,6 @@ use Rattle.numbers.specs.declared.ell_calc.EllCalc.{EllCalc}
 use Rattle.oracles.specs.Matrix.{nth}
 use Rattle.oracles.specs.declared.ell_common.CutStrategy.{CutStrategy}
 use Rattle.oracles.specs.declared.ell_common.CutStrategy.TheVariants.{BiasCut, CentralCut, Q}
-use Rattle.oracles.specs.declared.ell_common.Update.{Update}
-use Rattle.oracles.specs.declared.ell_common.Update.TheVariants.{Status, Refused}
-use Rattle.oracles.specs.declared.ell_common.Outcome.{Outcome}
-use Rattle.oracles.specs.declared.ell_common.Outcome.TheVariants.{Success as Succeeded, NoSoln as NotSolved, NoEffect as NotMoved, Dimension, Length}
 
 -- the calculator that an update uses
 abbrev pub calc_of : CutStrategy → EllCalc → CutChoice → Float → CutAnswer
@@ -32,14 +27,6 @@ calc_of Q helper beta tsq = calc_single_or_parallel_q helper beta tsq
 -- 2⁻¹⁰²², the Rust's `f64::MIN_POSITIVE`: an omega at or below it has no effect; NaN goes on
 abbrev pub is_tiny : Float → Bool
 is_tiny omega = le omega (of_bits binary64 0x0010_0000_0000_0000)
-
--- the answer that an outcome, the same in one byte, stands for
-abbrev pub outcome_answer : Outcome → Update
-outcome_answer Succeeded = Status Success
-outcome_answer NotSolved = Status NoSoln
-outcome_answer NotMoved = Status NoEffect
-outcome_answer Dimension = Refused WrongDimension
-outcome_answer Length = Refused WrongLength
 
 -- only a success changes the ellipsoid
 abbrev pub is_success : CutStatus → Bool
@@ -76,12 +63,12 @@ pub record Work (B : Type 0) : Type 0 where
 
 -- what it leaves
 pub record Change (B : Type 0) : Type 0 where
-  pub answer : Update
+  pub answer : Result CutStatus Refusal
   pub kappa : Float
   pub tsq : Float
   pub buffers : B
 
-abbrev pub change : {B : Type 0} → Update → Float → Float → B → Change B
+abbrev pub change : {B : Type 0} → Result CutStatus Refusal → Float → Float → B → Change B
 change answer kappa tsq buffers = record { answer = answer; kappa = kappa; tsq = tsq; buffers = buffers }
 
 -- the new tsq, the calculator's answer, and kappa and the slices after a success
@@ -102,10 +89,10 @@ status_of w = pick (is_tiny w.omega) NoEffect (answer_of w).status
 unfoldable pub update_of : {B : Type 0} → Work B → Change B
 update_of w =
     let status = (answer_of w).status in
-    pick (is_tiny w.omega) (change (Status NoEffect) w.kappa w.tsq w.prepared)
-    (pick (not (is_success status)) (change (Status status) w.kappa (tsq_of w) w.prepared)
-    (change (Status status) (success_of w).0 (tsq_of w) (success_of w).1))
+    pick (is_tiny w.omega) (change (Ok NoEffect) w.kappa w.tsq w.prepared)
+    (pick (not (is_success status)) (change (Ok status) w.kappa (tsq_of w) w.prepared)
+    (change (Ok status) (success_of w).0 (tsq_of w) (success_of w).1))
 
 -- `update_core`: a refused call changes nothing
 abbrev pub update_answer : {B X : Type 0} → (Change B → X) → Tests → Float → Float → B → X → X
-update_answer after tests kappa tsq buffers done = unless tests (λ why place. after (change (Refused why) kappa tsq buffers)) done
+update_answer after tests kappa tsq buffers done = unless tests (λ why place. after (change (Err why) kappa tsq buffers)) done

@@ -1,7 +1,8 @@
 -- The ellipsoid by factors (ell_stable.rs): the inverse of its matrix is L D Lᵀ; the diagonal holds D's inverse, L[i, j] stands above it at (j, i), scratch below.
 -- Definitions only.
 use Rattle.numbers.specs.Refusal.{Tests}
-use Rattle.std.specs.Prelude.{ℕ, zero, suc, ◌+◌, ◌-◌, ◌*◌, Bool, ◌&&◌, List, [], ◌∷◌, ltb, eqb, length, Float}
+use Rattle.numbers.specs.declared.refusal.Refusal.{Refusal}
+use Rattle.std.specs.Prelude.{ℕ, zero, suc, ◌+◌, ◌-◌, ◌*◌, Bool, ◌&&◌, List, [], ◌∷◌, ltb, eqb, length, Float, Ok, Err, Result}
 use Rattle.numbers.specs.F64.{◌⊕◌, ◌⊖◌, ◌⊗◌, ◌⊘◌, 0ᶠ, 1ᶠ}
 use Rattle.numbers.specs.Pick.{pick}
 use Rattle.numbers.specs.Arr.{tab, sized}
@@ -12,8 +13,6 @@ use Rattle.oracles.specs.Matrix.{nth, at, grid, total}
 use Rattle.oracles.specs.EllCommon.{calc_of, centre_of, new_of, Work, Change, update_of, update_answer}
 use Rattle.oracles.specs.declared.ell_common.CutStrategy.{CutStrategy}
 use Rattle.oracles.specs.declared.ell_stable.EllStable.{EllStable}
-use Rattle.oracles.specs.declared.ell_stable.NewEllStable.{NewEllStable}
-use Rattle.oracles.specs.declared.ell_stable.NewEllStable.TheVariants.{Made, Refused as NotMade}
 use Rattle.oracles.specs.declared.ell_stable.EllStableUpdate.{EllStableUpdate}
 
 -- the state of a new ellipsoid beside its factors and its centre
@@ -21,8 +20,8 @@ abbrev pub fresh_stable : ℕ → Float → EllStable
 fresh_stable n kappa = record { ndim = n; kappa = kappa; helper = made n; tsq = 0ᶠ }
 
 -- `new_with_matrix`; refusal 1
-unfoldable pub new_ell_stable_answer : ℕ → Float → NewEllStable
-new_ell_stable_answer n kappa = new_of NotMade (Made (fresh_stable n kappa)) n
+unfoldable pub new_ell_stable_answer : ℕ → Float → Result EllStable Refusal
+new_ell_stable_answer n kappa = new_of Err (Ok (fresh_stable n kappa)) n
 
 -- the slices that an update is lent to write
 pub record StableBuffers : Type 0 where

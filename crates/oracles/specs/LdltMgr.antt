@@ -1,6 +1,6 @@
 -- The factorization A = L D Lᵀ with its witness (ldlt_mgr.rs), in the Rust's order of operations. Definitions only.
 use Rattle.numbers.specs.declared.refusal.Refusal.{Refusal}
-use Rattle.std.specs.Prelude.{ℕ, zero, suc, ◌+◌, ◌-◌, ◌*◌, Bool, ◌&&◌, List, [], ◌∷◌, ◌++◌, leb, ltb, eqb, length, take, drop, Float, Err, Ok, Result}
+use Rattle.std.specs.Prelude.{ℕ, zero, suc, ◌+◌, ◌-◌, ◌*◌, Bool, ◌&&◌, List, [], ◌∷◌, ◌++◌, leb, ltb, eqb, length, take, drop, Float, Err, Ok, Result, Some, None, Option}
 use Rattle.std.specs.Float.Ieee.{le, neg}
 use Rattle.numbers.specs.F64.{◌⊕◌, ◌⊖◌, ◌⊗◌, ◌⊘◌, 0ᶠ, 1ᶠ, 2ᶠ}
 use Rattle.numbers.specs.Pick.{pick}
@@ -8,8 +8,6 @@ use Rattle.numbers.specs.Refusal.{◌⨾◌, unless, ask, Tests}
 use Rattle.numbers.specs.declared.refusal.Refusal.TheVariants.{Dimension, Length, Position}
 use Rattle.oracles.specs.Matrix.{nth, at, grid, total}
 use Rattle.oracles.specs.declared.ldlt_mgr.Pos.{Pos}
-use Rattle.oracles.specs.declared.ldlt_mgr.Factored.{Factored}
-use Rattle.oracles.specs.declared.ldlt_mgr.Factored.TheVariants.{Definite, Stopped, Refused}
 
 -- a matrix's order is 1 to 32
 abbrev pub is_order : ℕ → Bool
@@ -66,9 +64,13 @@ position_of e = record { start = 0; end = e }
 unfoldable pub factor_rows : (ℕ → ℕ → Float) → ℕ → List Float → ℕ × List Float
 factor_rows A m storage = let e = stop_of A m in (e, filled A m storage (pick (eqb e 0) m e))
 
--- definite where there is no stop
-unfoldable pub factor_of : (ℕ → ℕ → Float) → ℕ → List Float → Factored × List Float
-factor_of A m storage = let w = factor_rows A m storage in (pick (eqb w.0 0) Definite (Stopped (position_of w.0)), w.1)
+-- where it stopped; none where it is definite
+abbrev pub factored : (ℕ → ℕ → Float) → ℕ → List Float → Option Pos × List Float
+factored A m storage = let w = factor_rows A m storage in (pick (eqb w.0 0) None (Some (position_of w.0)), w.1)
+
+-- nothing is refused
+unfoldable pub factor_of : (ℕ → ℕ → Float) → ℕ → List Float → Result (Option Pos) Refusal × List Float
+factor_of A m storage = let w = factored A m storage in (Ok w.0, w.1)
 
 -- refusals 1 and 2 of a call with matrices of order m, whose lengths are right where `fit` is true
 abbrev pub ordered : ℕ → Bool → Tests
@@ -78,8 +80,8 @@ ordered m fit = ask (is_order m) Dimension ⨾ ask fit Length
 abbrev pub factor_tests : ℕ → List Float → List Float → Tests
 factor_tests m mat storage = ordered m (eqb (length mat) (m * m) && eqb (length storage) (m * m))
 
-abbrev pub factor_answer : ℕ → List Float → List Float → Factored × List Float
-factor_answer m mat storage = unless (factor_tests m mat storage) (λ why place. (Refused why, storage)) (factor_of (get_elem m mat [] []) m storage)
+abbrev pub factor_answer : ℕ → List Float → List Float → Result (Option Pos) Refusal × List Float
+factor_answer m mat storage = unless (factor_tests m mat storage) (λ why place. (Err why, storage)) (factor_of (get_elem m mat [] []) m storage)
 
 -- ---- the witness
 

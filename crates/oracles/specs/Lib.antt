@@ -10,5 +10,4 @@ pub mod LmiOracle
 pub mod EllCommon
 pub mod Ell
 pub mod EllStable
-pub mod Numbered
 pub mod laws

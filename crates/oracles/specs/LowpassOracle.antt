@@ -1,5 +1,6 @@
 -- The lowpass oracle (lowpass_oracle.rs): the assessment of a point, in the Rust's order. Definitions only.
-use Rattle.std.specs.Prelude.{ℕ, Bool, true, false, ◌&&◌, List, eqb, length, get_or, set, replicate, ℤ, pos, nat_abs, Float}
+use Rattle.std.specs.Prelude.{ℕ, Bool, true, false, ◌&&◌, List, eqb, length, get_or, set, replicate, ℤ, pos, nat_abs, Float, Ok, Err, Some, None, Result, Option}
+use Rattle.numbers.specs.declared.cut.CutChoice.{CutChoice}
 use Rattle.std.specs.Int.Signed.{le_z, lt_z}
 use Rattle.std.specs.Float.{nan, binary64}
 use Rattle.std.specs.Float.Ieee.{lt, neg, of_bits}
@@ -14,17 +15,13 @@ use Rattle.oracles.specs.RoundRobin.{is_at, eq_z, with_cur, new_range_answer}
 use Rattle.oracles.specs.Scan.{−∞, none, scan_of, first_fault, violated, band_beta, band_gradient}
 use Rattle.oracles.specs.Table.{is_rows, table_fits}
 use Rattle.oracles.specs.declared.round_robin.RoundRobin.{RoundRobin}
-use Rattle.oracles.specs.declared.round_robin.CursorAnswer.{CursorAnswer}
-use Rattle.oracles.specs.declared.round_robin.CursorAnswer.TheVariants.{Accepted as Fresh, Refused as NoBand}
-use Rattle.oracles.specs.declared.scan.Upper.TheVariants.{Absent, Limit}
 use Rattle.oracles.specs.declared.lowpass_oracle.Group.{Group}
 use Rattle.oracles.specs.declared.lowpass_oracle.Group.TheVariants.{Pass, Stop, Middle, Sign}
-use Rattle.oracles.specs.declared.lowpass_oracle.Verdict.{Verdict}
-use Rattle.oracles.specs.declared.lowpass_oracle.Verdict.TheVariants.{Feasible, Cut, Refused}
-use Rattle.oracles.specs.declared.lowpass_oracle.OptimVerdict.TheVariants.{Improved, Cut as CutOptim, Refused as RefusedOptim}
+use Rattle.oracles.specs.declared.lowpass_oracle.OptimVerdict.TheVariants.{Improved, Cut as CutOptim}
 use Rattle.oracles.specs.declared.lowpass_oracle.LowpassOracle.{LowpassOracle}
 use Rattle.oracles.specs.declared.lowpass_oracle.Assessed.{Assessed}
 use Rattle.oracles.specs.declared.lowpass_oracle.AssessedOptim.{AssessedOptim}
+use Rattle.oracles.specs.declared.lowpass_oracle.Cut.{Cut}
 
 -- −1
 abbrev pub −1ᶠ : Float
@@ -46,9 +43,9 @@ group_side Sign = false
 -- ---- the start
 
 -- where a fresh cursor stands, before its band's first row; an oracle over what is no band is refused, whatever stands here
-abbrev pub fresh_cur : CursorAnswer → ℤ
-fresh_cur (Fresh rr) = rr.cur
-fresh_cur (NoBand why) = none
+abbrev pub fresh_cur : Result RoundRobin Refusal → ℤ
+fresh_cur (Ok rr) = rr.cur
+fresh_cur (Err why) = none
 
 -- `start`, an oracle that has assessed nothing yet: each idx before its band, no largest value, the cursors anywhere
 unfoldable pub start_oracle : ℤ → ℤ → ℤ → ℤ → ℤ → ℤ → Float → Float → Float → LowpassOracle
@@ -70,6 +67,13 @@ start_oracle nwpass nwstop mdim cur1 cur2 cur3 lp_sq up_sq sp_sq = record {
 }
 
 -- ---- the assessment of a point, with `grad` as it is left
+
+-- what `assess_feas` says: nothing is broken, the cut of the first broken group, or why the call is refused
+abbrev pub Verdict : Type 0
+Verdict = Result (Option Cut) Refusal
+
+abbrev pub cut : Group → CutChoice → Verdict
+cut group beta = Ok (Some (record { group = group; beta = beta }))
 
 -- the oracle with another state; its bands, lp_sq and up_sq stay
 abbrev pub with_state : LowpassOracle → Bool → Float → ℤ → ℤ → ℤ → Float → ℤ → RoundRobin → RoundRobin → RoundRobin → LowpassOracle
@@ -106,32 +110,32 @@ after_middle o last rr more_alt = with_state o more_alt o.sp_sq o.idx1 last o.id
 unfoldable pub assess_sign : LowpassOracle → List Float → List Float → Assessed × List Float
 assess_sign o x grad =
     pick (lt (get_or x 0 nan) 0ᶠ)
-    (record { oracle = o; verdict = Cut Sign (Single (neg (get_or x 0 nan))) }, set (replicate (length grad) 0ᶠ) 0 −1ᶠ)
-    (record { oracle = o; verdict = Feasible }, grad)
+    (record { oracle = o; verdict = cut Sign (Single (neg (get_or x 0 nan))) }, set (replicate (length grad) 0ᶠ) 0 −1ᶠ)
+    (record { oracle = o; verdict = Ok None }, grad)
 
 -- the middle rows; more_alt turns false once they have passed
 unfoldable pub assess_middle : LowpassOracle → ℕ → List Float → List Float → List Float → Assessed × List Float
 assess_middle o n table x grad =
-    let s = scan_of n table x o.rr2 0ᶠ Absent in
+    let s = scan_of n table x o.rr2 0ᶠ None in
     let rr = with_cur o.rr2 s.last in
     violated s.viol (assess_sign (after_middle o s.last rr false) x grad)
-    (λ row v over. (record { oracle = after_middle o s.last rr o.more_alt; verdict = Cut (Middle row) (band_beta v over 0ᶠ Absent) }, band_gradient n table row over))
+    (λ row v over. (record { oracle = after_middle o s.last rr o.more_alt; verdict = cut (Middle row) (band_beta v over 0ᶠ None) }, band_gradient n table row over))
 
 -- the stop rows; on a violation fmax and kmax are those of no row
 unfoldable pub assess_stop : LowpassOracle → ℕ → List Float → List Float → List Float → Assessed × List Float
 assess_stop o n table x grad =
-    let s = scan_of n table x o.rr3 0ᶠ (Limit o.sp_sq) in
+    let s = scan_of n table x o.rr3 0ᶠ (Some o.sp_sq) in
     let rr = with_cur o.rr3 s.last in
     violated s.viol (assess_middle (after_stop o s.last rr s.fmax s.kmax) n table x grad)
-    (λ row v over. (record { oracle = after_stop o s.last rr −∞ none; verdict = Cut (Stop row over) (band_beta v over 0ᶠ (Limit o.sp_sq)) }, band_gradient n table row over))
+    (λ row v over. (record { oracle = after_stop o s.last rr −∞ none; verdict = cut (Stop row over) (band_beta v over 0ᶠ (Some o.sp_sq)) }, band_gradient n table row over))
 
 -- all of it: pass, stop, middle, sign
 unfoldable pub assess_of : LowpassOracle → ℕ → List Float → List Float → List Float → Assessed × List Float
 assess_of o n table x grad =
-    let s = scan_of n table x o.rr1 o.lp_sq (Limit o.up_sq) in
+    let s = scan_of n table x o.rr1 o.lp_sq (Some o.up_sq) in
     let o' = after_pass o s.last (with_cur o.rr1 s.last) in
     violated s.viol (assess_stop o' n table x grad)
-    (λ row v over. (record { oracle = o'; verdict = Cut (Pass row over) (band_beta v over o.lp_sq (Limit o.up_sq)) }, band_gradient n table row over))
+    (λ row v over. (record { oracle = o'; verdict = cut (Pass row over) (band_beta v over o.lp_sq (Some o.up_sq)) }, band_gradient n table row over))
 
 -- ---- the public calls
 
@@ -151,7 +155,7 @@ cursors_fit o = is_at o.rr1 && is_at o.rr2 && is_at o.rr3
 
 -- a refusal gives the oracle as it came
 abbrev pub refused_of : LowpassOracle → Refusal → Assessed
-refused_of o why = record { oracle = o; verdict = Refused why }
+refused_of o why = record { oracle = o; verdict = Err why }
 
 -- refusals 1 to 4 of a call with an oracle, whose lengths are right where `fit` is true
 abbrev pub oracle_tests : LowpassOracle → ℕ → ℕ → Bool → Tests
@@ -171,14 +175,14 @@ offered o gamma = with_state o o.more_alt gamma o.idx1 o.idx2 o.idx3 o.fmax o.km
 -- a feasible point's answer: the kmax row cuts with (0, fmax) and the caller's number is fmax; refusal 6, and the oracle as it came, where no stop row compares
 unfoldable pub improved_of : LowpassOracle → Float → LowpassOracle → ℕ → List Float → List Float → AssessedOptim × List Float
 improved_of o gamma o' n table grad =
-    pick (lt_z o'.kmax (pos 0)) (record { oracle = o; gamma = gamma; verdict = RefusedOptim NoStopValue }, grad)
-    (record { oracle = o'; gamma = o'.fmax; verdict = Improved (Parallel 0ᶠ o'.fmax) }, row_of n table (nat_abs o'.kmax))
+    pick (lt_z o'.kmax (pos 0)) (record { oracle = o; gamma = gamma; verdict = Err NoStopValue }, grad)
+    (record { oracle = o'; gamma = o'.fmax; verdict = Ok (Improved (Parallel 0ᶠ o'.fmax)) }, row_of n table (nat_abs o'.kmax))
 
 -- what an assessment of the oracle with the offered number becomes
 abbrev pub optim_of : LowpassOracle → Float → ℕ → List Float → LowpassOracle → Verdict → List Float → AssessedOptim × List Float
-optim_of o gamma n table o' Feasible grad = improved_of o gamma o' n table grad
-optim_of o gamma n table o' (Cut group beta) grad = (record { oracle = o'; gamma = gamma; verdict = CutOptim group beta }, grad)
-optim_of o gamma n table o' (Refused why) grad = (record { oracle = o; gamma = gamma; verdict = RefusedOptim why }, grad)
+optim_of o gamma n table o' (Ok None) grad = improved_of o gamma o' n table grad
+optim_of o gamma n table o' (Ok (Some c)) grad = (record { oracle = o'; gamma = gamma; verdict = Ok (CutOptim c) }, grad)
+optim_of o gamma n table o' (Err why) grad = (record { oracle = o; gamma = gamma; verdict = Err why }, grad)
 
 -- `assess_optim`: the offered sp_sq is stored first
 abbrev pub assess_optim_answer : LowpassOracle → Float → ℕ → ℕ → List Float → List Float → List Float → AssessedOptim × List Float

@@ -1,12 +1,11 @@
 -- The cursor (round_robin.rs) and document 01's legal cursors. Definitions only.
-use Rattle.std.specs.Prelude.{Bool, false, ◌&&◌, eqb, ℤ, pos, negsuc, ◌+ℤ◌, ◌-ℤ◌}
+use Rattle.std.specs.Prelude.{Bool, false, ◌&&◌, eqb, ℤ, pos, negsuc, ◌+ℤ◌, ◌-ℤ◌, Ok, Err, Result}
+use Rattle.numbers.specs.declared.refusal.Refusal.{Refusal}
 use Rattle.std.specs.Int.Signed.{le_z, lt_z}
 use Rattle.numbers.specs.Pick.{pick}
 use Rattle.numbers.specs.Refusal.{◌⨾◌, unless, ask, Tests}
 use Rattle.numbers.specs.declared.refusal.Refusal.TheVariants.{Band, Cursor}
 use Rattle.oracles.specs.declared.round_robin.RoundRobin.{RoundRobin}
-use Rattle.oracles.specs.declared.round_robin.CursorAnswer.{CursorAnswer}
-use Rattle.oracles.specs.declared.round_robin.CursorAnswer.TheVariants.{Accepted, Refused}
 
 -- a band: 0 ≤ lo ≤ hi ≤ 1,024
 abbrev pub is_band : ℤ → ℤ → Bool
@@ -39,12 +38,12 @@ fresh lo hi = record { cur = lo -ℤ pos 1; lo = lo; hi = hi }
 abbrev pub new_range_tests : ℤ → ℤ → Tests
 new_range_tests lo hi = ask (is_band lo hi) Band
 
-unfoldable pub new_range_answer : ℤ → ℤ → CursorAnswer
-new_range_answer lo hi = unless (new_range_tests lo hi) (λ why place. Refused why) (Accepted (fresh lo hi))
+unfoldable pub new_range_answer : ℤ → ℤ → Result RoundRobin Refusal
+new_range_answer lo hi = unless (new_range_tests lo hi) (λ why place. Err why) (Ok (fresh lo hi))
 
 -- `advance`: refusal 3 also for an empty band, then 4
 abbrev pub advance_tests : RoundRobin → Tests
 advance_tests c = ask (is_band c.lo c.hi && lt_z c.lo c.hi) Band ⨾ ask (is_at c) Cursor
 
-unfoldable pub advance_answer : RoundRobin → CursorAnswer
-advance_answer c = unless (advance_tests c) (λ why place. Refused why) (Accepted (advanced c))
+unfoldable pub advance_answer : RoundRobin → Result RoundRobin Refusal
+advance_answer c = unless (advance_tests c) (λ why place. Err why) (Ok (advanced c))

@@ -1,5 +1,6 @@
 -- Demand 3 in document 01's words ("Verdict"): what a point breaks, said without a cursor, and what an assessment has to answer. Definitions only.
-use Rattle.std.specs.Prelude.{ℕ, ◌≤◌, ◌<◌, ◌-◌, ◌≡◌, Bool, true, false, not, ◌&&◌, ◌||◌, List, ◌⊎◌, leb, ltb, eqb, get_or, ℤ, pos, nat_abs, Float, is_err}
+use Rattle.std.specs.Prelude.{ℕ, ◌≤◌, ◌<◌, ◌-◌, ◌≡◌, Bool, true, false, not, ◌&&◌, ◌||◌, List, ◌⊎◌, leb, ltb, eqb, get_or, ℤ, pos, nat_abs, Float, is_err, Ok, Err, Some, None, Result}
+use Rattle.numbers.specs.declared.refusal.Refusal.{Refusal}
 use Rattle.std.specs.Float.{nan}
 use Rattle.std.specs.Float.Ieee.{lt, is_nan}
 use Rattle.numbers.specs.F64.{0ᶠ}
@@ -8,15 +9,14 @@ use Rattle.numbers.specs.Refusal.{refusal_number}
 use Rattle.oracles.specs.RoundRobin.{eq_z}
 use Rattle.oracles.specs.Scan.{−∞, none}
 use Rattle.oracles.specs.Table.{value_of}
-use Rattle.oracles.specs.LowpassOracle.{assess_tests, offered}
+use Rattle.oracles.specs.LowpassOracle.{assess_tests, offered, Verdict}
 use Rattle.oracles.specs.declared.lowpass_oracle.LowpassOracle.{LowpassOracle}
 use Rattle.oracles.specs.declared.lowpass_oracle.Group.TheVariants.{Pass, Stop, Middle, Sign}
-use Rattle.oracles.specs.declared.lowpass_oracle.Verdict.{Verdict}
-use Rattle.oracles.specs.declared.lowpass_oracle.Verdict.TheVariants.{Feasible, Cut, Refused}
 use Rattle.oracles.specs.declared.lowpass_oracle.OptimVerdict.{OptimVerdict}
-use Rattle.oracles.specs.declared.lowpass_oracle.OptimVerdict.TheVariants.{Improved, Cut as CutOptim, Refused as RefusedOptim}
+use Rattle.oracles.specs.declared.lowpass_oracle.OptimVerdict.TheVariants.{Improved, Cut as CutOptim}
 use Rattle.oracles.specs.declared.lowpass_oracle.Assessed.{Assessed}
 use Rattle.oracles.specs.declared.lowpass_oracle.AssessedOptim.{AssessedOptim}
+use Rattle.oracles.specs.declared.lowpass_oracle.Group.{Group}
 
 -- a verdict: feasible, or the first broken group; `refused` is none
 pub data Judgement : Type 0 where
@@ -117,36 +117,46 @@ asked o sp n rows table x = record { n = n; rows = rows; limits = limits (offere
 abbrev pub is_accepted : LowpassOracle → ℕ → ℕ → List Float → List Float → List Float → Bool
 is_accepted o n rows table x grad = not (is_err (assess_tests o n rows table x grad))
 
+-- the verdict of a broken group, without its row
+abbrev pub group_judgement : Group → Judgement
+group_judgement (Pass row over) = pass
+group_judgement (Stop row over) = stop
+group_judgement (Middle row) = middle
+group_judgement Sign = sign
+
 -- the verdict of an answer, without row and betas
 abbrev pub judgement : Verdict → Judgement
-judgement Feasible = feasible
-judgement (Cut (Pass row over) beta) = pass
-judgement (Cut (Stop row over) beta) = stop
-judgement (Cut (Middle row) beta) = middle
-judgement (Cut Sign beta) = sign
-judgement (Refused why) = refused
+judgement (Ok None) = feasible
+judgement (Ok (Some c)) = group_judgement c.group
+judgement (Err why) = refused
 
 -- whether v breaks a limit on the side that is reported: the upper one where `over` is true, else the lower one
 abbrev pub side_breaks : Bool → Float → Float → Float → Bool
 side_breaks over upper lower v = pick over (lt upper v) (lt v lower)
 
 -- whether a cut's row is one of its group's and breaks it on the side that is reported
+abbrev pub group_breaks : Question → Group → Bool
+group_breaks q (Pass row over) = ltb row (pass_end q) && side_breaks over q.limits.up_sq q.limits.lp_sq (value_in q row)
+group_breaks q (Stop row over) = leb (stop_start q) row && ltb row q.rows && side_breaks over q.limits.sp_sq 0ᶠ (value_in q row)
+group_breaks q (Middle row) = leb (pass_end q) row && ltb row (stop_start q) && lt (value_in q row) 0ᶠ
+group_breaks q Sign = sign_breaks q
+
 abbrev pub cut_breaks : Question → Verdict → Bool
-cut_breaks q Feasible = true
-cut_breaks q (Cut (Pass row over) beta) = ltb row (pass_end q) && side_breaks over q.limits.up_sq q.limits.lp_sq (value_in q row)
-cut_breaks q (Cut (Stop row over) beta) = leb (stop_start q) row && ltb row q.rows && side_breaks over q.limits.sp_sq 0ᶠ (value_in q row)
-cut_breaks q (Cut (Middle row) beta) = leb (pass_end q) row && ltb row (stop_start q) && lt (value_in q row) 0ᶠ
-cut_breaks q (Cut Sign beta) = sign_breaks q
-cut_breaks q (Refused why) = true
+cut_breaks q (Ok None) = true
+cut_breaks q (Ok (Some c)) = group_breaks q c.group
+cut_breaks q (Err why) = true
 
 -- whether a cut's row is where its group's scan has left the cursor
+abbrev pub group_stands : LowpassOracle → Group → Bool
+group_stands o (Pass row over) = eq_z o.rr1.cur (pos row)
+group_stands o (Stop row over) = eq_z o.rr3.cur (pos row)
+group_stands o (Middle row) = eq_z o.rr2.cur (pos row)
+group_stands o Sign = true
+
 abbrev pub cut_stands : LowpassOracle → Verdict → Bool
-cut_stands o Feasible = true
-cut_stands o (Cut (Pass row over) beta) = eq_z o.rr1.cur (pos row)
-cut_stands o (Cut (Stop row over) beta) = eq_z o.rr3.cur (pos row)
-cut_stands o (Cut (Middle row) beta) = eq_z o.rr2.cur (pos row)
-cut_stands o (Cut Sign beta) = true
-cut_stands o (Refused why) = true
+cut_stands o (Ok None) = true
+cut_stands o (Ok (Some c)) = group_stands o c.group
+cut_stands o (Err why) = true
 
 -- fmax is the largest stop value that compares, and kmax a stop row that has it
 pub record Has (q : Question) (fmax : Float) (kmax : ℤ) : Type 0 where
@@ -180,16 +190,16 @@ abbrev pub ByFeasRule : LowpassOracle → ℕ → ℕ → List Float → List Fl
 ByFeasRule o n rows table x grad r = is_accepted o n rows table x grad ≡ true → FeasRule (asked o o.sp_sq n rows table x) r
 
 -- an answer of `assess_optim` as one of `assess_feas`: refusal 6 counts as feasible
-abbrev pub as_feas : OptimVerdict → Verdict
-as_feas (Improved beta) = Feasible
-as_feas (CutOptim group beta) = Cut group beta
-as_feas (RefusedOptim why) = pick (eqb (refusal_number why) 6) Feasible (Refused why)
+abbrev pub as_feas : Result OptimVerdict Refusal → Verdict
+as_feas (Ok (Improved beta)) = Ok None
+as_feas (Ok (CutOptim c)) = Ok (Some c)
+as_feas (Err why) = pick (eqb (refusal_number why) 6) (Ok None) (Err why)
 
 -- whether it is refusal 6
-abbrev pub is_six : OptimVerdict → Bool
-is_six (Improved beta) = false
-is_six (CutOptim group beta) = false
-is_six (RefusedOptim why) = eqb (refusal_number why) 6
+abbrev pub is_six : Result OptimVerdict Refusal → Bool
+is_six (Ok (Improved beta)) = false
+is_six (Ok (CutOptim c)) = false
+is_six (Err why) = eqb (refusal_number why) 6
 
 -- whether a judgement is feasible
 abbrev pub is_feasible : Judgement → Bool

@@ -4,10 +4,11 @@ ghost use Rattle.oracles.specs.LowpassOracle.{after_pass, after_stop, after_midd
 ghost use Rattle.oracles.specs.laws.Assess.{Assessable};
 
 use crate::band_cut::{band_beta, gradient_into};
-use crate::lowpass_oracle::{Assessed, Group, LowpassOracle, Verdict};
+use crate::lowpass_oracle::{Assessed, Cut, Group, LowpassOracle};
 use crate::round_robin::RoundRobin;
-use crate::scan::{Upper, Violation};
+use crate::scan::Violation;
 use crate::scan_band::scan_lent;
+use crate::table::Rows;
 use numbers::cut::CutChoice;
 
 impl LowpassOracle {
@@ -53,89 +54,120 @@ impl LowpassOracle {
             grad[0] = -1.0;
             return Assessed {
                 oracle: self,
-                verdict: Verdict::Cut(Group::Sign, CutChoice::Single(-x0)),
+                verdict: Ok(Some(Cut {
+                    group: Group::Sign,
+                    beta: CutChoice::Single(-x0),
+                })),
             };
         }
         Assessed {
             oracle: self,
-            verdict: Verdict::Feasible,
+            verdict: Ok(None),
         }
     }
 
+    // The three groups are written out: each has limits, state and a next step of its own.
     // The middle rows, then the sign.
-    fn assess_middle(self, n: usize, table: &[f64], x: &[f64], grad: &mut [f64]) -> Assessed
-        requires { Assessable self n table.now x.now grad.old }
-        ensures { (result, grad.new) ≡ assess_middle self n table.now x.now grad.old }
+    fn assess_middle(self, rows: Rows, grad: &mut [f64]) -> Assessed
+        requires { Assessable self rows.n rows.table.now rows.x.now grad.old }
+        ensures { (result, grad.new) ≡ assess_middle self rows.entry.n rows.entry.table.now rows.entry.x.now grad.old }
     {
         let start = self.rr2;
-        let swept = scan_lent(n, table, x, start, 0.0, Upper::Absent);
+        let swept = scan_lent(rows, start, 0.0, None);
         let scan = swept.scan;
         let rr = swept.cursor;
         let viol = scan.viol;
         match viol {
-            Violation::Nothing => {
+            None => {
                 let after = self.after_middle(scan.last, rr, false);
-                after.assess_sign(x, grad)
+                after.assess_sign(rows.x, grad)
             }
-            Violation::Broken(row, value, is_over) => {
-                gradient_into(n, table, row, is_over, grad);
-                let beta = band_beta(value, is_over, 0.0, Upper::Absent);
+            Some(
+                Violation {
+                    row,
+                    value,
+                    is_over,
+                },
+            ) => {
+                gradient_into(rows, row, is_over, grad);
+                let beta = band_beta(value, is_over, 0.0, None);
                 Assessed {
                     oracle: self.after_middle(scan.last, rr, self.more_alt),
-                    verdict: Verdict::Cut(Group::Middle(row), beta),
+                    verdict: Ok(Some(Cut {
+                        group: Group::Middle(row),
+                        beta,
+                    })),
                 }
             }
         }
     }
 
     // The stop rows, then the rest.
-    fn assess_stop(self, n: usize, table: &[f64], x: &[f64], grad: &mut [f64]) -> Assessed
-        requires { Assessable self n table.now x.now grad.old }
-        ensures { (result, grad.new) ≡ assess_stop self n table.now x.now grad.old }
+    fn assess_stop(self, rows: Rows, grad: &mut [f64]) -> Assessed
+        requires { Assessable self rows.n rows.table.now rows.x.now grad.old }
+        ensures { (result, grad.new) ≡ assess_stop self rows.entry.n rows.entry.table.now rows.entry.x.now grad.old }
     {
-        let upper = Upper::Limit(self.sp_sq);
+        let upper = Some(self.sp_sq);
         let start = self.rr3;
-        let swept = scan_lent(n, table, x, start, 0.0, upper);
+        let swept = scan_lent(rows, start, 0.0, upper);
         let scan = swept.scan;
         let rr = swept.cursor;
         let viol = scan.viol;
         match viol {
-            Violation::Nothing => {
+            None => {
                 let after = self.after_stop(scan.last, rr, scan.fmax, scan.kmax);
-                after.assess_middle(n, table, x, grad)
+                after.assess_middle(rows, grad)
             }
-            Violation::Broken(row, value, is_over) => {
-                gradient_into(n, table, row, is_over, grad);
+            Some(
+                Violation {
+                    row,
+                    value,
+                    is_over,
+                },
+            ) => {
+                gradient_into(rows, row, is_over, grad);
                 let beta = band_beta(value, is_over, 0.0, upper);
                 Assessed {
-                    oracle: self.after_stop(scan.last, rr, -1.0 / 0.0, -1),
-                    verdict: Verdict::Cut(Group::Stop(row, is_over), beta),
+                    oracle: self.after_stop(scan.last, rr, f64::NEG_INFINITY, -1),
+                    verdict: Ok(Some(Cut {
+                        group: Group::Stop(row, is_over),
+                        beta,
+                    })),
                 }
             }
         }
     }
 
     // The pass rows, then the rest.
-    pub(crate) fn assess(self, n: usize, table: &[f64], x: &[f64], grad: &mut [f64]) -> Assessed
-        requires { Assessable self n table.now x.now grad.old }
-        ensures { (result, grad.new) ≡ assess_of self n table.now x.now grad.old }
+    pub(crate) fn assess(self, rows: Rows, grad: &mut [f64]) -> Assessed
+        requires { Assessable self rows.n rows.table.now rows.x.now grad.old }
+        ensures { (result, grad.new) ≡ assess_of self rows.entry.n rows.entry.table.now rows.entry.x.now grad.old }
     {
         let lower = self.lp_sq;
-        let upper = Upper::Limit(self.up_sq);
+        let upper = Some(self.up_sq);
         let start = self.rr1;
-        let swept = scan_lent(n, table, x, start, lower, upper);
+        let swept = scan_lent(rows, start, lower, upper);
         let scan = swept.scan;
         let rr = swept.cursor;
         let after = self.after_pass(scan.last, rr);
         let viol = scan.viol;
         match viol {
-            Violation::Nothing => after.assess_stop(n, table, x, grad),
-            Violation::Broken(row, value, is_over) => {
-                gradient_into(n, table, row, is_over, grad);
+            None => after.assess_stop(rows, grad),
+            Some(
+                Violation {
+                    row,
+                    value,
+                    is_over,
+                },
+            ) => {
+                gradient_into(rows, row, is_over, grad);
                 let beta = band_beta(value, is_over, lower, upper);
                 Assessed {
                     oracle: after,
-                    verdict: Verdict::Cut(Group::Pass(row, is_over), beta),
+                    verdict: Ok(Some(Cut {
+                        group: Group::Pass(row, is_over),
+                        beta,
+                    })),
                 }
             }
         }

@@ -3,7 +3,7 @@ ghost use Rattle.std.specs.Prelude.{◌≡◌, map, ◌+◌, ◌*◌, ◌≤◌,
 ghost use Rattle.std.specs.Float.Ieee.{neg};
 ghost use Rattle.oracles.specs.Scan.{band_beta, band_gradient};
 
-use crate::scan::Upper;
+use crate::table::Rows;
 use numbers::cut::CutChoice;
 
 // The gradient of a row below its lower limit.
@@ -11,38 +11,34 @@ fn negate_into(row: &[f64], grad: &mut [f64])
     requires { length grad.old ≡ length row.now }
     ensures { grad.new ≡ map neg row.now }
 {
-    let mut i = 0;
-    while i < row.len() {
+    for i in 0..row.len() {
         grad[i] = -row[i];
-        i += 1;
     }
 }
 
 // The gradient of a row's cut.
-pub(crate) fn gradient_into(n: usize, table: &[f64], row: usize, is_over: bool, grad: &mut [f64])
-    requires { (2 ≤ n) × (n ≤ 32) × (row * n + n ≤ length table.now) × (length grad.old ≡ n) }
-    ensures { grad.new ≡ band_gradient n table.now row is_over }
+pub(crate) fn gradient_into(rows: Rows, row: usize, is_over: bool, grad: &mut [f64])
+    requires { (2 ≤ rows.n) × (rows.n ≤ 32) × (row * rows.n + rows.n ≤ length rows.table.now) × (length grad.old ≡ rows.n) }
+    ensures { grad.new ≡ band_gradient rows.entry.n rows.entry.table.now row is_over }
 {
-    let at = row * n;
-    let end = at + n;
+    let at = row * rows.n;
+    let end = at + rows.n;
     if is_over {
-        grad.copy_from_slice(&table[at..end]);
+        grad.copy_from_slice(&rows.table[at..end]);
     } else {
-        negate_into(&table[at..end], grad);
+        negate_into(&rows.table[at..end], grad);
     }
 }
 
 // The betas of a row's cut (`band_cut`).
-pub(crate) fn band_beta(value: f64, is_over: bool, lower: f64, upper: Upper) -> CutChoice
+pub(crate) fn band_beta(value: f64, is_over: bool, lower: f64, upper: Option<f64>) -> CutChoice
     ensures { result ≡ band_beta value is_over lower upper }
 {
-    match upper {
-        Upper::Absent => CutChoice::Single(lower - value),
-        Upper::Limit(u) => {
-            if is_over {
-                return CutChoice::Parallel(value - u, value - lower);
-            }
-            CutChoice::Parallel(lower - value, u - value)
-        }
+    let Some(u) = upper else {
+        return CutChoice::Single(lower - value);
+    };
+    if is_over {
+        return CutChoice::Parallel(value - u, value - lower);
     }
+    CutChoice::Parallel(lower - value, u - value)
 }

@@ -1,17 +1,15 @@
 // The ellipsoid { x | (x − xc)ᵀ mq⁻¹ (x − xc) ≤ kappa } (ell.rs). The caller lends the matrix, the centre and the scratch.
-ghost use Rattle.std.specs.Prelude.{◌≡◌, true, ◌*◌, ◌≤◌, ◌<◌, length};
+ghost use Rattle.std.specs.Prelude.{◌≡◌, true, ◌*◌, ◌≤◌, ◌<◌, length, OnOk};
+ghost use Rattle.numbers.specs.Refusal.{unless};
 ghost use Rattle.numbers.specs.Arr.{is_dimension};
-ghost use Rattle.oracles.specs.Ell.{EllBuffers, ell_buffers, new_ell_answer, rank_one, with_tsq, ell_work, change_of, ell_changed, ell_update_answer};
+ghost use Rattle.oracles.specs.Ell.{EllBuffers, ell_buffers, new_ell_answer, rank_one, with_tsq, ell_work, change_of, ell_changed, ell_tests, ell_update_answer};
 ghost use Rattle.oracles.specs.EllCommon.{change, update_of};
-ghost use Rattle.oracles.specs.declared.ell_common.Update.TheVariants.{Status};
 ghost use Rattle.oracles.specs.laws.Ell.{row_lowered, all_lowered, row_mirrored, mirrored};
 ghost use Rattle.oracles.specs.laws.EllCalls.{EllLong};
 
-use crate::ell_common::{
-    CutStrategy, Outcome, Update, is_success, is_tiny, lengths_fit, move_centre, outcome_of,
-};
-use crate::matrix::at;
-use numbers::arr::{dot_mv_into, dot_zip, is_dimension};
+use crate::ell_common::{CutStrategy, is_tiny, move_centre};
+use crate::matrix::Matrix;
+use numbers::arr::{dimension, dot_mv_into, dot_zip, lengths};
 use numbers::cut::{CutChoice, CutStatus};
 use numbers::ell_calc::EllCalc;
 use numbers::refusal::Refusal;
@@ -25,24 +23,18 @@ pub struct Ell {
     pub tsq: f64,
 }
 
-#[derive(Clone, Copy)]
-pub enum NewEll {
-    Made(Ell),
-    Refused(Refusal),
-}
-
-// What an update changes beside the slices, and what it came to. The outcome lies between the numbers: read as a pair by one load of 16 bytes they would wait for both stores of 8.
+// What an update changes beside the slices, and what it came to. The answer lies between the numbers: read as a pair by one load of 16 bytes they would wait for both stores of 8.
 #[derive(Clone, Copy)]
 pub struct EllChange {
     pub kappa: f64,
-    pub outcome: Outcome,
+    pub answer: Result<CutStatus, Refusal>,
     pub tsq: f64,
 }
 
 #[derive(Clone, Copy)]
 pub struct EllUpdate {
     pub ell: Ell,
-    pub answer: Update,
+    pub answer: Result<CutStatus, Refusal>,
 }
 
 // Row i, lent as a part of the matrix: its entries 0 to i.
@@ -50,10 +42,8 @@ fn lower_row(row: &mut [f64], r_qg: f64, gt: &[f64], i: usize)
     requires { (i < length row.old) × (length row.old ≡ length gt.now) × (length row.old ≤ 32) }
     ensures { row.new ≡ row_lowered row.old r_qg gt.now i }
 {
-    let mut j = 0;
-    while j <= i {
+    for j in 0..i + 1 {
         row[j] = row[j] - r_qg * gt[j];
-        j += 1;
     }
 }
 
@@ -61,12 +51,10 @@ fn lower_rows(n: usize, mq: &mut [f64], ratio: f64, gt: &[f64])
     requires { (n ≤ 32) × (length mq.old ≡ n * n) × (length gt.now ≡ n) }
     ensures { mq.new ≡ all_lowered n ratio gt.now mq.old }
 {
-    let mut i = 0;
-    while i < n {
+    for i in 0..n {
         let at = i * n;
         let end = at + n;
         lower_row(&mut mq[at..end], ratio * gt[i], gt, i);
-        i += 1;
     }
 }
 
@@ -75,10 +63,9 @@ fn mirror_row(n: usize, mq: &mut [f64], i: usize)
     requires { (n ≤ 32) × (length mq.old ≡ n * n) × (i < n) }
     ensures { mq.new ≡ row_mirrored n mq.old i }
 {
-    let mut j = 0;
-    while j < i {
-        mq[j * n + i] = at(n, mq, i, j);
-        j += 1;
+    for j in 0..i {
+        let entry = Matrix { n, entries: mq }.at(i, j);
+        mq[j * n + i] = entry;
     }
 }
 
@@ -86,10 +73,8 @@ fn mirror(n: usize, mq: &mut [f64])
     requires { (n ≤ 32) × (length mq.old ≡ n * n) }
     ensures { mq.new ≡ mirrored n mq.old }
 {
-    let mut i = 0;
-    while i < n {
+    for i in 0..n {
         mirror_row(n, mq, i);
-        i += 1;
     }
 }
 
@@ -104,56 +89,63 @@ fn shrink(n: usize, mq: &mut [f64], ratio: f64, gt: &[f64])
 
 // Another kappa and tsq, and a status.
 fn with_status(kappa: f64, tsq: f64, status: CutStatus) -> EllChange
-    ensures { (b : EllBuffers) → change_of result b ≡ change (Status status) kappa tsq b }
+    ensures { (b : EllBuffers) → change_of result b ≡ change (Ok status) kappa tsq b }
 {
     EllChange {
         kappa,
-        outcome: outcome_of(status),
+        answer: Ok(status),
         tsq,
     }
 }
 
 impl Ell {
     // The state beside a matrix and a centre of dimension n.
-    pub fn new_with_matrix(n: usize, kappa: f64) -> NewEll
+    pub fn new_with_matrix(n: usize, kappa: f64) -> Result<Ell, Refusal>
         ensures { result ≡ new_ell_answer n kappa }
     {
-        match EllCalc::new(n) {
-            Ok(helper) => NewEll::Made(Ell {
-                ndim: n,
-                kappa,
-                helper,
-                tsq: 0.0,
-            }),
-            Err(why) => NewEll::Refused(why),
-        }
+        Ok(Ell {
+            ndim: n,
+            kappa,
+            helper: EllCalc::new(n)?,
+            tsq: 0.0,
+        })
     }
 
-    // The ellipsoid after a change, to be used with the matrix that the change left.
+    // The ellipsoid after a change, to be used with the matrix that the change left: its two numbers come from another type.
     pub fn changed(self, change: EllChange) -> Ell
         ensures { result ≡ with_tsq self change.kappa change.tsq }
     {
-        let helper = self.helper;
         Ell {
-            ndim: self.ndim,
             kappa: change.kappa,
-            helper,
             tsq: change.tsq,
+            ..self
         }
     }
 
-    // Nothing changed, and why a call is refused.
-    fn refused(self, outcome: Outcome) -> EllChange
-        ensures { result ≡ record { kappa = self.kappa; outcome = outcome; tsq = self.tsq } }
+    // Nothing changed, and why a call is refused: two of this type's numbers in another type.
+    fn refused(self, why: Refusal) -> EllChange
+        ensures { result ≡ record { kappa = self.kappa; answer = Err why; tsq = self.tsq } }
     {
         EllChange {
             kappa: self.kappa,
-            outcome,
+            answer: Err(why),
             tsq: self.tsq,
         }
     }
 
-    // The update with nothing left to refuse.
+    // Refusals 1 and 2 of an update.
+    fn check(self, grad: &[f64], mq: &[f64], xc: &[f64], grad_t: &[f64]) -> Result<(), Refusal>
+        ensures value { result ≡ unless (ell_tests self.ndim grad.now (ell_buffers mq.now xc.now grad_t.now)) (λ why place. Err why) (Ok tt) }
+        ensures fit { OnOk result ((is_dimension self.ndim ≡ true) × (length grad.now ≡ self.ndim) × EllLong self.ndim (ell_buffers mq.now xc.now grad_t.now)) }
+    {
+        let n = self.ndim;
+        dimension(n)?;
+        let matrix = (grad.len() == n) & (mq.len() == n * n);
+        lengths(matrix & (xc.len() == n) & (grad_t.len() == n))?;
+        Ok(())
+    }
+
+    // The update with nothing left to refuse. The slices stay apart: a struct of `&mut`s would have each function promise that it keeps them.
     fn update(
         self,
         strategy: CutStrategy,
@@ -177,7 +169,7 @@ impl Ell {
         let helper = self.helper;
         let answer = strategy.calc(helper, beta, tsq);
         let status = answer.status;
-        if !is_success(status) {
+        if status != CutStatus::Success {
             return with_status(self.kappa, tsq, status);
         }
         let params = answer.params;
@@ -199,17 +191,10 @@ impl Ell {
         ensures { (ell_changed self result, ell_buffers mq.new xc.new grad_t.new)
             ≡ ell_update_answer self strategy grad.now beta (ell_buffers mq.old xc.old grad_t.old) }
     {
-        let n = self.ndim;
-        if !is_dimension(n) {
-            return self.refused(Outcome::Dimension);
+        match self.check(grad, mq, xc, grad_t) {
+            Ok(()) => self.update(strategy, grad, beta, mq, xc, grad_t),
+            Err(why) => self.refused(why),
         }
-        if !lengths_fit(n, grad.len(), mq.len(), xc.len()) {
-            return self.refused(Outcome::Length);
-        }
-        if grad_t.len() != n {
-            return self.refused(Outcome::Length);
-        }
-        self.update(strategy, grad, beta, mq, xc, grad_t)
     }
 
     // Cuts the ellipsoid by the half-space of `grad` and `beta`, or by the slab between two; grad_t is scratch.
@@ -226,10 +211,9 @@ impl Ell {
             ≡ ell_update_answer self strategy grad.now beta (ell_buffers mq.old xc.old grad_t.old) }
     {
         let change = self.change(strategy, grad, beta, mq, xc, grad_t);
-        let outcome = change.outcome;
         EllUpdate {
             ell: self.changed(change),
-            answer: outcome.answer(),
+            answer: change.answer,
         }
     }
 }

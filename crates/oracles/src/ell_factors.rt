@@ -7,21 +7,20 @@ ghost use Rattle.oracles.specs.EllStable.{inv_ml_g_of, lowered, backward};
 ghost use Rattle.oracles.specs.laws.Matrix.{product_at};
 ghost use Rattle.oracles.specs.laws.EllStable.{solved_back, column_taken, row_updated, less_columns, factors_after};
 
-use crate::matrix::at;
+use crate::matrix::Matrix;
 
-// L's row i, which stands above the diagonal in column i, to the front of `column`: two entries to a turn.
-fn column_into(n: usize, mq: &[f64], i: usize, column: &mut [f64])
-    requires { (n ≤ 32) × (length mq.now ≡ n * n) × (i < n) × (length column.old ≡ n) }
-    ensures { column.new ≡ tab (λ j. at n mq.now j i) i ++ drop i column.old }
+// L's row i, which stands above the diagonal in column i, to the front of `column`: two entries to a turn, since one to a turn cost 3 % of an update.
+fn column_into(mq: Matrix, i: usize, column: &mut [f64])
+    requires { (i < mq.n) × (length column.old ≡ mq.n) }
+    ensures { column.new ≡ tab (λ j. at mq.entry.n mq.entry.entries.now j i) i ++ drop i column.old }
 {
-    let mut j = 0;
-    while j + 1 < i {
-        column[j] = at(n, mq, j, i);
-        column[j + 1] = at(n, mq, j + 1, i);
-        j += 2;
+    for k in 0..i / 2 {
+        let j = 2 * k;
+        column[j] = mq.at(j, i);
+        column[j + 1] = mq.at(j + 1, i);
     }
-    if j < i {
-        column[j] = at(n, mq, j, i);
+    if i % 2 == 1 {
+        column[i - 1] = mq.at(i - 1, i);
     }
 }
 
@@ -32,12 +31,10 @@ fn forward_row(row: &mut [f64], column: &[f64], w: &[f64], start: f64) -> f64
         × (row.new ≡ tab (product_at column.now w.now) (length row.old)) }
 {
     let mut s = start;
-    let mut j = 0;
-    while j < row.len() {
+    for j in 0..row.len() {
         let val = column[j] * w[j];
         row[j] = val;
         s = s - val;
-        j += 1;
     }
     s
 }
@@ -48,27 +45,23 @@ pub(crate) fn forward(n: usize, mq: &mut [f64], w: &mut [f64], column: &mut [f64
     ensures { (mq.new ≡ lowered n mq.old w.old)
         × (w.new ≡ tab (inv_ml_g_of n mq.old w.old) n) }
 {
-    let mut i = 1;
-    while i < n {
-        column_into(n, mq, i, column);
+    for i in 1..n {
+        column_into(Matrix { n, entries: mq }, i, column);
         let at = i * n;
         let end = at + i;
         let start = w[i];
         let s = forward_row(&mut mq[at..end], column, w, start);
         w[i] = s;
-        i += 1;
     }
 }
 
 // Each entry of w times the diagonal's.
-pub(crate) fn scale_into(n: usize, mq: &[f64], w: &[f64], z: &mut [f64])
-    requires { (n ≤ 32) × (length mq.now ≡ n * n) × (length w.now ≡ n) × (length z.old ≡ n) }
-    ensures { z.new ≡ tab (λ i. nth w.now i ⊗ at n mq.now i i) n }
+pub(crate) fn scale_into(mq: Matrix, w: &[f64], z: &mut [f64])
+    requires { (length w.now ≡ mq.n) × (length z.old ≡ mq.n) }
+    ensures { z.new ≡ tab (λ i. nth w.now i ⊗ at mq.entry.n mq.entry.entries.now i i) mq.entry.n }
 {
-    let mut i = 0;
-    while i < n {
-        z[i] = w[i] * at(n, mq, i, i);
-        i += 1;
+    for i in 0..mq.n {
+        z[i] = w[i] * mq.at(i, i);
     }
 }
 
@@ -79,51 +72,43 @@ pub(crate) fn omega_into(w: &[f64], z: &[f64], gg: &mut [f64]) -> f64
         × (gg.new ≡ tab (product_at z.now w.now) (length gg.old)) }
 {
     let mut omega = 0.0;
-    let mut i = 0;
-    while i < w.len() {
+    for i in 0..w.len() {
         let val = z[i] * w[i];
         gg[i] = val;
         omega = omega + val;
-        i += 1;
     }
     omega
 }
 
 // Row i of inv(Lᵀ) z, from the rows after it.
-fn backward_row(n: usize, mq: &[f64], q: &mut [f64], i: usize)
-    requires { (n ≤ 32) × (length mq.now ≡ n * n) × (length q.old ≡ n) × (i < n) }
-    ensures { q.new ≡ solved_back n mq.now q.old i (n - (i + 1)) }
+fn backward_row(mq: Matrix, q: &mut [f64], i: usize)
+    requires { (length q.old ≡ mq.n) × (i < mq.n) }
+    ensures { q.new ≡ solved_back mq.entry.n mq.entry.entries.now q.old i (mq.entry.n - (i + 1)) }
 {
     let mut s = q[i];
-    let mut j = i + 1;
-    while j < n {
-        s = s - at(n, mq, i, j) * q[j];
-        j += 1;
+    for j in i + 1..mq.n {
+        s = s - mq.at(i, j) * q[j];
     }
     q[i] = s;
 }
 
 // inv(Lᵀ) z in place of z.
-pub(crate) fn backward(n: usize, mq: &[f64], q: &mut [f64])
-    requires { (1 ≤ n) × (n ≤ 32) × (length mq.now ≡ n * n) × (length q.old ≡ n) }
-    ensures { q.new ≡ backward n mq.now q.old n }
+pub(crate) fn backward(mq: Matrix, q: &mut [f64])
+    requires { (1 ≤ mq.n) × (length q.old ≡ mq.n) }
+    ensures { q.new ≡ backward mq.entry.n mq.entry.entries.now q.old mq.entry.n }
 {
-    let mut i = n - 1;
-    while i > 0 {
-        i -= 1;
-        backward_row(n, mq, q, i);
+    for i in (0..mq.n - 1).rev() {
+        backward_row(mq, q, i);
     }
 }
 
 // Column j of the lower triangle taken from v.
-fn take_column(n: usize, mq: &[f64], v: &mut [f64], j: usize)
-    requires { (n ≤ 32) × (length mq.now ≡ n * n) × (length v.old ≡ n) × (j < n) }
-    ensures { v.new ≡ column_taken n mq.now v.old j }
+fn take_column(mq: Matrix, v: &mut [f64], j: usize)
+    requires { (length v.old ≡ mq.n) × (j < mq.n) }
+    ensures { v.new ≡ column_taken mq.entry.n mq.entry.entries.now v.old j }
 {
-    let mut l = j + 1;
-    while l < n {
-        v[l] = v[l] - at(n, mq, l, j);
-        l += 1;
+    for l in j + 1..mq.n {
+        v[l] = v[l] - mq.at(l, j);
     }
 }
 
@@ -133,10 +118,8 @@ fn update_row(row: &mut [f64], ratio: f64, beta2: f64, v: &[f64])
     ensures { row.new ≡ row_updated row.old ratio beta2 v.now }
 {
     row[0] = row[0] * ratio;
-    let mut l = 1;
-    while l < row.len() {
+    for l in 1..row.len() {
         row[l] = row[l] + beta2 * v[l];
-        l += 1;
     }
 }
 
@@ -147,15 +130,13 @@ pub(crate) fn rank_one(n: usize, mq: &mut [f64], z: &[f64], v: &mut [f64], t0: f
         × (v.new ≡ tab (λ l. less_columns n mq.old v.old l l) n) }
 {
     let mut oldt = t0;
-    let mut j = 0;
-    while j < n {
+    for j in 0..n {
         let temp = z[j];
         let newt = oldt + v[j] * temp;
-        take_column(n, mq, v, j);
+        take_column(Matrix { n, entries: mq }, v, j);
         let at = j * n + j;
         let end = j * n + n;
         update_row(&mut mq[at..end], oldt / newt, temp / newt, &v[j..n]);
         oldt = newt;
-        j += 1;
     }
 }

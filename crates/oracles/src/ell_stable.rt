@@ -1,21 +1,22 @@
 // The ellipsoid by factors (ell_stable.rs): the inverse of its matrix is L D Lᵀ; the diagonal holds D's inverse, L[i, j] stands above it at (j, i), scratch below it.
-ghost use Rattle.std.specs.Prelude.{◌≡◌, true, ◌&&◌, ◌*◌, eqb, length};
+ghost use Rattle.std.specs.Prelude.{◌≡◌, true, ◌*◌, length, OnOk};
+ghost use Rattle.numbers.specs.Refusal.{unless};
 ghost use Rattle.numbers.specs.Arr.{is_dimension, tab};
 ghost use Rattle.numbers.specs.F64.{◌⊘◌};
-ghost use Rattle.oracles.specs.declared.ell_common.Update.TheVariants.{Status, Refused};
 ghost use Rattle.oracles.specs.EllCommon.{centre_of, update_of};
-ghost use Rattle.oracles.specs.EllStable.{stable_buffers, new_ell_stable_answer, inv_ml_g_of, inv_md_inv_ml_g_of, gg_t_of, omega_of, lowered, backward, t_start, with_tsq, stable_after, stable_work, stable_update_answer};
+ghost use Rattle.oracles.specs.EllStable.{stable_buffers, new_ell_stable_answer, inv_ml_g_of, inv_md_inv_ml_g_of, gg_t_of, omega_of, lowered, backward, t_start, with_tsq, stable_after, stable_work, stable_tests, stable_update_answer};
 ghost use Rattle.oracles.specs.laws.EllStable.{less_columns, factors_after};
 ghost use Rattle.oracles.specs.laws.EllStableCalls.{StableLong};
 
-use crate::ell_common::{CutStrategy, Update, is_success, is_tiny, lengths_fit, move_centre};
+use crate::ell_common::{CutStrategy, is_tiny, move_centre};
 use crate::ell_factors::{backward, forward, omega_into, rank_one, scale_into};
-use numbers::arr::is_dimension;
+use crate::matrix::Matrix;
+use numbers::arr::{dimension, lengths};
 use numbers::cut::{CutChoice, CutStatus, Params};
 use numbers::ell_calc::EllCalc;
 use numbers::refusal::Refusal;
 
-// What is kept beside the factors mq and the centre xc.
+// What is kept beside the factors mq and the centre xc. A type of its own with `Ell`'s fields: neither may be taken for the other, and one generic type would show its kind in each signature.
 #[derive(Clone, Copy)]
 pub struct EllStable {
     ndim: usize,
@@ -25,15 +26,9 @@ pub struct EllStable {
 }
 
 #[derive(Clone, Copy)]
-pub enum NewEllStable {
-    Made(EllStable),
-    Refused(Refusal),
-}
-
-#[derive(Clone, Copy)]
 pub struct EllStableUpdate {
     pub ell: EllStable,
-    pub answer: Update,
+    pub answer: Result<CutStatus, Refusal>,
 }
 
 // What is written before the update is known to fail; omega.
@@ -55,7 +50,7 @@ fn prepare(
 {
     inv_ml_g.copy_from_slice(grad);
     forward(n, mq, inv_ml_g, gg_t);
-    scale_into(n, mq, inv_ml_g, inv_md_inv_ml_g);
+    scale_into(Matrix { n, entries: mq }, inv_ml_g, inv_md_inv_ml_g);
     omega_into(inv_ml_g, inv_md_inv_ml_g, gg_t)
 }
 
@@ -77,67 +72,69 @@ fn succeed(
         × (g_t.new ≡ tab (λ l. less_columns n mq.old grad.now l l) n) }
 {
     g_t.copy_from_slice(z);
-    backward(n, mq, g_t);
+    backward(Matrix { n, entries: mq }, g_t);
     move_centre(xc, params.rho / omega, g_t);
     let mu = params.sigma / (1.0 - params.sigma);
     g_t.copy_from_slice(grad);
     rank_one(n, mq, z, g_t, omega / mu);
 }
 
-// Whether the working vectors are as long as n says.
-fn scratch_fits(
-    n: usize,
-    inv_ml_g: &[f64],
-    inv_md_inv_ml_g: &[f64],
-    gg_t: &[f64],
-    g_t: &[f64],
-) -> bool
-    ensures { result ≡ (eqb (length inv_ml_g.now) n && eqb (length inv_md_inv_ml_g.now) n
-        && eqb (length gg_t.now) n && eqb (length g_t.now) n) }
-{
-    (inv_ml_g.len() == n) & (inv_md_inv_ml_g.len() == n) & (gg_t.len() == n) & (g_t.len() == n)
-}
-
 impl EllStable {
     // The state beside the factors and a centre of dimension n.
-    pub fn new_with_matrix(n: usize, kappa: f64) -> NewEllStable
+    // As `Ell::new_with_matrix`, into another type: a generic one would need a trait with both types' fields.
+    pub fn new_with_matrix(n: usize, kappa: f64) -> Result<EllStable, Refusal>
         ensures { result ≡ new_ell_stable_answer n kappa }
     {
-        match EllCalc::new(n) {
-            Ok(helper) => NewEllStable::Made(EllStable {
-                ndim: n,
-                kappa,
-                helper,
-                tsq: 0.0,
-            }),
-            Err(why) => NewEllStable::Refused(why),
-        }
+        Ok(EllStable {
+            ndim: n,
+            kappa,
+            helper: EllCalc::new(n)?,
+            tsq: 0.0,
+        })
     }
 
     // The same ellipsoid with another kappa and tsq, and a status.
     fn with_status(self, kappa: f64, tsq: f64, status: CutStatus) -> EllStableUpdate
-        ensures { result ≡ record { ell = with_tsq self kappa tsq; answer = Status status } }
+        ensures { result ≡ record { ell = with_tsq self kappa tsq; answer = Ok status } }
     {
-        let helper = self.helper;
         EllStableUpdate {
-            ell: EllStable {
-                ndim: self.ndim,
-                kappa,
-                helper,
-                tsq,
-            },
-            answer: Update::Status(status),
+            ell: EllStable { kappa, tsq, ..self },
+            answer: Ok(status),
         }
     }
 
     // The same ellipsoid, and why a call is refused.
     fn refused(self, why: Refusal) -> EllStableUpdate
-        ensures { result ≡ record { ell = self; answer = Refused why } }
+        ensures { result ≡ record { ell = self; answer = Err why } }
     {
         EllStableUpdate {
             ell: self,
-            answer: Update::Refused(why),
+            answer: Err(why),
         }
+    }
+
+    // Refusals 1 and 2 of an update.
+    fn check(
+        self,
+        grad: &[f64],
+        mq: &[f64],
+        xc: &[f64],
+        inv_ml_g: &[f64],
+        inv_md_inv_ml_g: &[f64],
+        gg_t: &[f64],
+        g_t: &[f64],
+    ) -> Result<(), Refusal>
+        ensures value { result ≡ unless (stable_tests self.ndim grad.now
+            (stable_buffers mq.now xc.now inv_ml_g.now inv_md_inv_ml_g.now gg_t.now g_t.now)) (λ why place. Err why) (Ok tt) }
+        ensures fit { OnOk result ((is_dimension self.ndim ≡ true) × (length grad.now ≡ self.ndim) × StableLong self.ndim
+            (stable_buffers mq.now xc.now inv_ml_g.now inv_md_inv_ml_g.now gg_t.now g_t.now)) }
+    {
+        let n = self.ndim;
+        dimension(n)?;
+        let matrix = (grad.len() == n) & (mq.len() == n * n) & (xc.len() == n);
+        let solved = matrix & (inv_ml_g.len() == n) & (inv_md_inv_ml_g.len() == n);
+        lengths(solved & (gg_t.len() == n) & (g_t.len() == n))?;
+        Ok(())
     }
 
     // The update with nothing left to refuse.
@@ -168,7 +165,7 @@ impl EllStable {
         let helper = self.helper;
         let answer = strategy.calc(helper, beta, tsq);
         let status = answer.status;
-        let success = is_success(status);
+        let success = status == CutStatus::Success;
         let failed = !success;
         if failed {
             return self.with_status(self.kappa, tsq, status);
@@ -195,26 +192,19 @@ impl EllStable {
             ≡ stable_update_answer self strategy grad.now beta
             (stable_buffers mq.old xc.old inv_ml_g.old inv_md_inv_ml_g.old gg_t.old g_t.old) }
     {
-        let n = self.ndim;
-        if !is_dimension(n) {
-            return self.refused(Refusal::Dimension);
+        match self.check(grad, mq, xc, inv_ml_g, inv_md_inv_ml_g, gg_t, g_t) {
+            Ok(()) => self.update(
+                strategy,
+                grad,
+                beta,
+                mq,
+                xc,
+                inv_ml_g,
+                inv_md_inv_ml_g,
+                gg_t,
+                g_t,
+            ),
+            Err(why) => self.refused(why),
         }
-        if !lengths_fit(n, grad.len(), mq.len(), xc.len()) {
-            return self.refused(Refusal::Length);
-        }
-        if !scratch_fits(n, inv_ml_g, inv_md_inv_ml_g, gg_t, g_t) {
-            return self.refused(Refusal::Length);
-        }
-        self.update(
-            strategy,
-            grad,
-            beta,
-            mq,
-            xc,
-            inv_ml_g,
-            inv_md_inv_ml_g,
-            gg_t,
-            g_t,
-        )
     }
 }

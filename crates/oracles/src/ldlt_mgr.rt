@@ -1,11 +1,14 @@
 // The factorization A = L D Lᵀ of a matrix of order m, and what proves that it is not positive definite (ldlt_mgr.rs).
-ghost use Rattle.std.specs.Prelude.{◌≡◌, suc, ◌+◌, ◌-◌, ◌*◌, ◌≤◌, ◌<◌, length};
+ghost use Rattle.std.specs.Prelude.{◌≡◌, suc, ◌+◌, ◌-◌, ◌*◌, ◌≤◌, ◌<◌, length, OnOk, IsTrue};
+ghost use Rattle.numbers.specs.Refusal.{asked};
+ghost use Rattle.numbers.specs.declared.refusal.Refusal.TheVariants.{Dimension, Position};
 ghost use Rattle.numbers.specs.F64.{◌⊕◌, ◌⊗◌, 0ᶠ};
 ghost use Rattle.oracles.specs.Matrix.{nth, at, total};
-ghost use Rattle.oracles.specs.LdltMgr.{is_order, get_elem, reduced, filled, factor_rows, factor_answer, witness_of, witness_answer, quad_term, quad_of, sym_quad_answer};
-ghost use Rattle.oracles.specs.laws.Ldlt.{LmiReads, FactoredTo};
+ghost use Rattle.oracles.specs.LdltMgr.{is_order, get_elem, reduced, filled, factored, factor_answer, witness_of, witness_answer, quad_term, quad_of, sym_quad_answer};
+ghost use Rattle.oracles.specs.laws.Ldlt.{FactoredTo};
 
-use crate::matrix::at;
+use crate::matrix::Matrix;
+use numbers::arr::lengths;
 use numbers::refusal::Refusal;
 
 // The rows of a leading block that is not positive definite: start to end − 1.
@@ -15,14 +18,6 @@ pub struct Pos {
     pub end: usize,
 }
 
-// Positive definite, or where the factorization stopped.
-#[derive(Clone, Copy)]
-pub enum Factored {
-    Definite,
-    Stopped(Pos),
-    Refused(Refusal),
-}
-
 // Whether m is a matrix's order.
 pub fn is_order(m: usize) -> bool
     ensures { result ≡ is_order m }
@@ -30,128 +25,153 @@ pub fn is_order(m: usize) -> bool
     1 <= m && m <= 32
 }
 
-// The LMI's entry (i, j); with an empty xc it is mat_b's own.
-fn get_elem(m: usize, mat_b: &[f64], mat_f: &[f64], xc: &[f64], i: usize, j: usize) -> f64
-    requires { LmiReads m mat_b.now mat_f.now xc.now × (i < m) × (j < m) }
-    ensures { result ≡ get_elem m mat_b.now mat_f.now xc.now i j }
+// Refusal 1, unless m is a matrix's order.
+pub(crate) fn order(m: usize) -> Result<(), Refusal>
+    ensures value { result ≡ asked (is_order m) Dimension }
+    ensures range { OnOk result ((1 ≤ m) × (m ≤ 32)) }
 {
-    let mut s = at(m, mat_b, i, j);
-    let mut k = 0;
-    while k < xc.len() {
-        s = s - mat_f[k * (m * m) + (i * m + j)] * xc[k];
-        k += 1;
+    if is_order(m) {
+        Ok(())
+    } else {
+        Err(Refusal::Dimension)
     }
-    s
+}
+
+// Refusal 5, unless the position is right.
+fn position(fit: bool) -> Result<(), Refusal>
+    ensures value { result ≡ asked fit Position }
+    ensures right { OnOk result (IsTrue fit) }
+{
+    if fit { Ok(()) } else { Err(Refusal::Position) }
+}
+
+// The matrix of order m with the entries of mat_b − Σ xc[k] mat_f[k], each worked out where it is read; with an empty xc it is mat_b's own.
+#[derive(Clone, Copy)]
+pub(crate) struct Lmi<'a> {
+    pub(crate) m: usize,
+    pub(crate) mat_b: &'a [f64],
+    pub(crate) mat_f: &'a [f64],
+    pub(crate) xc: &'a [f64],
+    ghost order: { m ≤ 32 },
+    ghost long_b: { length mat_b.now ≡ m * m },
+    ghost long_f: { length mat_f.now ≡ length xc.now * (m * m) },
+    ghost few: { length xc.now ≤ 32 },
 }
 
 // The sum of row i times column c over the columns below c, from the storage.
-fn row_sum(m: usize, storage: &[f64], i: usize, c: usize) -> f64
-    requires { (m ≤ 32) × (i < m) × (c < m) × (length storage.now ≡ m * m) }
-    ensures { result ≡ total ◌⊕◌ 0ᶠ (λ k. at m storage.now i k ⊗ at m storage.now k c) c }
+fn row_sum(storage: Matrix, i: usize, c: usize) -> f64
+    requires { (i < storage.n) × (c < storage.n) }
+    ensures { result ≡ total ◌⊕◌ 0ᶠ (λ k. at storage.entry.n storage.entry.entries.now i k ⊗ at storage.entry.n storage.entry.entries.now k c) c }
 {
     let mut s = 0.0;
-    let mut k = 0;
-    while k < c {
-        s = s + at(m, storage, i, k) * at(m, storage, k, c);
-        k += 1;
+    for k in 0..c {
+        s = s + storage.at(i, k) * storage.at(k, c);
     }
     s
 }
 
-// Row i of the factors, and its pivot.
-fn factor_row(
-    m: usize,
-    mat_b: &[f64],
-    mat_f: &[f64],
-    xc: &[f64],
-    storage: &mut [f64],
-    i: usize,
-) -> f64
-    requires { LmiReads m mat_b.now mat_f.now xc.now × (i < m) × (length storage.old ≡ m * m)
-        × FactoredTo (get_elem m mat_b.now mat_f.now xc.now) m storage.old i }
-    ensures { (result ≡ reduced (get_elem m mat_b.now mat_f.now xc.now) i i)
-        × (storage.new ≡ filled (get_elem m mat_b.now mat_f.now xc.now) m storage.old (suc i)) }
-{
-    let mut diag = get_elem(m, mat_b, mat_f, xc, i, 0);
-    let mut j = 0;
-    while j < i {
-        storage[j * m + i] = diag; // keep for later
-        storage[i * m + j] = diag / at(m, storage, j, j); // L[i, j]
-        j += 1;
-        diag = get_elem(m, mat_b, mat_f, xc, i, j) - row_sum(m, storage, i, j);
-    }
-    storage[i * m + i] = diag;
-    diag
-}
-
-// The rows in turn, until a pivot stops it: one more than its row, or 0.
-pub(crate) fn factor_rows(
-    m: usize,
-    mat_b: &[f64],
-    mat_f: &[f64],
-    xc: &[f64],
-    storage: &mut [f64],
-) -> usize
-    requires { LmiReads m mat_b.now mat_f.now xc.now × (length storage.old ≡ m * m) }
-    ensures { (result, storage.new) ≡ factor_rows (get_elem m mat_b.now mat_f.now xc.now) m storage.old }
-{
-    let mut i = 0;
-    while i < m {
-        let diag = factor_row(m, mat_b, mat_f, xc, storage, i);
-        i += 1;
-        if diag <= 0.0 {
-            return i;
+impl Lmi<'_> {
+    // Entry (i, j).
+    fn get_elem(self, i: usize, j: usize) -> f64
+        requires { (i < self.m) × (j < self.m) }
+        ensures { result ≡ get_elem self.entry.m self.entry.mat_b.now self.entry.mat_f.now self.entry.xc.now i j }
+    {
+        let m = self.m;
+        let own = Matrix {
+            n: m,
+            entries: self.mat_b,
+        };
+        let mut s = own.at(i, j);
+        for k in 0..self.xc.len() {
+            s = s - self.mat_f[k * (m * m) + (i * m + j)] * self.xc[k];
         }
+        s
     }
-    0
+
+    // Row i of the factors, and its pivot.
+    fn factor_row(self, storage: &mut [f64], i: usize) -> f64
+        requires { (i < self.m) × (length storage.old ≡ self.m * self.m)
+            × FactoredTo (get_elem self.m self.mat_b.now self.mat_f.now self.xc.now) self.m storage.old i }
+        ensures { (result ≡ reduced (get_elem self.entry.m self.entry.mat_b.now self.entry.mat_f.now self.entry.xc.now) i i)
+            × (storage.new ≡ filled (get_elem self.entry.m self.entry.mat_b.now self.entry.mat_f.now self.entry.xc.now) self.entry.m storage.old (suc i)) }
+    {
+        let m = self.m;
+        let mut diag = self.get_elem(i, 0);
+        for j in 0..i {
+            storage[j * m + i] = diag; // keep for later
+            let pivot = Matrix {
+                n: m,
+                entries: storage,
+            }
+            .at(j, j);
+            storage[i * m + j] = diag / pivot; // L[i, j]
+            let next = j + 1;
+            let factors = Matrix {
+                n: m,
+                entries: storage,
+            };
+            diag = self.get_elem(i, next) - row_sum(factors, i, next);
+        }
+        storage[i * m + i] = diag;
+        diag
+    }
+
+    // The rows in turn, and where a pivot stopped it.
+    pub(crate) fn factor_rows(self, storage: &mut [f64]) -> Option<Pos>
+        requires { length storage.old ≡ self.m * self.m }
+        ensures { (result, storage.new) ≡ factored (get_elem self.entry.m self.entry.mat_b.now self.entry.mat_f.now self.entry.xc.now) self.entry.m storage.old }
+    {
+        for i in 0..self.m {
+            let diag = self.factor_row(storage, i);
+            if diag <= 0.0 {
+                return Some(Pos {
+                    start: 0,
+                    end: i + 1,
+                });
+            }
+        }
+        None
+    }
 }
 
-// Factors `mat` into `storage`: reads the lower triangle and stops at a pivot that is not positive; NaN passes.
-pub fn factor(m: usize, mat: &[f64], storage: &mut [f64]) -> Factored
+// Factors `mat` into `storage`: reads the lower triangle and stops at a pivot that is not positive, which it answers; NaN passes.
+pub fn factor(m: usize, mat: &[f64], storage: &mut [f64]) -> Result<Option<Pos>, Refusal>
     ensures { (result, storage.new) ≡ factor_answer m mat.now storage.old }
 {
-    if !is_order(m) {
-        return Factored::Refused(Refusal::Dimension);
-    }
-    if mat.len() != m * m {
-        return Factored::Refused(Refusal::Length);
-    }
-    if storage.len() != m * m {
-        return Factored::Refused(Refusal::Length);
-    }
-    let end = factor_rows(m, mat, &mat[..0], &mat[..0], storage);
-    if end == 0 {
-        return Factored::Definite;
-    }
-    Factored::Stopped(Pos { start: 0, end })
+    order(m)?;
+    lengths((mat.len() == m * m) & (storage.len() == m * m))?;
+    let whole = Lmi {
+        m,
+        mat_b: mat,
+        mat_f: &mat[..0],
+        xc: &mat[..0],
+    };
+    Ok(whole.factor_rows(storage))
 }
 
 // The sum of column i of L below row i times the entries of the witness there.
-fn column_sum(m: usize, storage: &[f64], wit: &[f64], i: usize, end: usize) -> f64
-    requires { (m ≤ 32) × (i < end) × (end ≤ m) × (length storage.now ≡ m * m) × (length wit.now ≡ m) }
-    ensures { result ≡ total ◌⊕◌ 0ᶠ (λ j. at m storage.now (i + 1 + j) i ⊗ nth wit.now (i + 1 + j)) (end - (i + 1)) }
+fn column_sum(storage: Matrix, wit: &[f64], i: usize, end: usize) -> f64
+    requires { (i < end) × (end ≤ storage.n) × (length wit.now ≡ storage.n) }
+    ensures { result ≡ total ◌⊕◌ 0ᶠ (λ j. at storage.entry.n storage.entry.entries.now (i + 1 + j) i ⊗ nth wit.now (i + 1 + j)) (end - (i + 1)) }
 {
     let mut s = 0.0;
-    let mut k = i + 1;
-    while k < end {
-        s = s + at(m, storage, k, i) * wit[k];
-        k += 1;
+    for k in i + 1..end {
+        s = s + storage.at(k, i) * wit[k];
     }
     s
 }
 
 // The witness's entries start to end − 1, from the last one back.
-pub(crate) fn witness_into(m: usize, pos: Pos, storage: &[f64], wit: &mut [f64])
-    requires { (m ≤ 32) × (pos.start < pos.end) × (pos.end ≤ m) × (length storage.now ≡ m * m) × (length wit.old ≡ m) }
-    ensures { wit.new ≡ witness_of m pos storage.now wit.old }
+pub(crate) fn witness_into(pos: Pos, storage: Matrix, wit: &mut [f64])
+    requires { (pos.start < pos.end) × (pos.end ≤ storage.n) × (length wit.old ≡ storage.n) }
+    ensures { wit.new ≡ witness_of storage.entry.n pos storage.entry.entries.now wit.old }
 {
     let start = pos.start;
     let end = pos.end;
-    let mut i = end - 1;
-    wit[i] = 1.0;
-    while i > start {
-        i -= 1;
-        wit[i] = -column_sum(m, storage, wit, i, end);
+    let last = end - 1;
+    wit[last] = 1.0;
+    for i in (start..last).rev() {
+        wit[i] = -column_sum(storage, wit, i, end);
     }
 }
 
@@ -159,51 +179,39 @@ pub(crate) fn witness_into(m: usize, pos: Pos, storage: &[f64], wit: &mut [f64])
 pub fn witness(m: usize, pos: Pos, storage: &[f64], wit: &mut [f64]) -> Result<f64, Refusal>
     ensures { (result, wit.new) ≡ witness_answer m pos storage.now wit.old }
 {
-    if !is_order(m) {
-        return Err(Refusal::Dimension);
-    }
-    if storage.len() != m * m {
-        return Err(Refusal::Length);
-    }
-    if wit.len() != m {
-        return Err(Refusal::Length);
-    }
-    if pos.start >= pos.end {
-        return Err(Refusal::Position);
-    }
-    if pos.end > m {
-        return Err(Refusal::Position);
-    }
-    witness_into(m, pos, storage, wit);
+    order(m)?;
+    lengths((storage.len() == m * m) & (wit.len() == m))?;
+    position((pos.start < pos.end) & (pos.end <= m))?;
+    let factors = Matrix {
+        n: m,
+        entries: storage,
+    };
+    witness_into(pos, factors, wit);
     let last = pos.end - 1;
-    Ok(-at(m, storage, last, last))
+    Ok(-factors.at(last, last))
 }
 
 // The part of the quadratic form that row i gives, from the upper triangle.
-fn quad_row(m: usize, wit: &[f64], mat: &[f64], end: usize, i: usize) -> f64
-    requires { (m ≤ 32) × (i < end) × (end ≤ m) × (length wit.now ≡ m) × (length mat.now ≡ m * m) }
-    ensures { result ≡ quad_term m wit.now mat.now end i }
+fn quad_row(wit: &[f64], mat: Matrix, end: usize, i: usize) -> f64
+    requires { (i < end) × (end ≤ mat.n) × (length wit.now ≡ mat.n) }
+    ensures { result ≡ quad_term mat.entry.n wit.now mat.entry.entries.now end i }
 {
     let mut s = 0.0;
-    let mut j = i + 1;
-    while j < end {
-        s = s + at(m, mat, i, j) * wit[j];
-        j += 1;
+    for j in i + 1..end {
+        s = s + mat.at(i, j) * wit[j];
     }
-    wit[i] * (at(m, mat, i, i) * wit[i] + 2.0 * s)
+    wit[i] * (mat.at(i, i) * wit[i] + 2.0 * s)
 }
 
 // `sym_quad` with nothing left to refuse.
-pub(crate) fn quad(m: usize, pos: Pos, wit: &[f64], mat: &[f64]) -> f64
-    requires { (m ≤ 32) × (pos.start ≤ pos.end) × (pos.end ≤ m) × (length wit.now ≡ m) × (length mat.now ≡ m * m) }
-    ensures { result ≡ quad_of m pos wit.now mat.now }
+pub(crate) fn quad(pos: Pos, wit: &[f64], mat: Matrix) -> f64
+    requires { (pos.start ≤ pos.end) × (pos.end ≤ mat.n) × (length wit.now ≡ mat.n) }
+    ensures { result ≡ quad_of mat.entry.n pos wit.now mat.entry.entries.now }
 {
     let end = pos.end;
     let mut result = 0.0;
-    let mut i = pos.start;
-    while i < end {
-        result = result + quad_row(m, wit, mat, end, i);
-        i += 1;
+    for i in pos.start..end {
+        result = result + quad_row(wit, mat, end, i);
     }
     result
 }
@@ -212,20 +220,9 @@ pub(crate) fn quad(m: usize, pos: Pos, wit: &[f64], mat: &[f64]) -> f64
 pub fn sym_quad(m: usize, pos: Pos, wit: &[f64], mat: &[f64]) -> Result<f64, Refusal>
     ensures { result ≡ sym_quad_answer m pos wit.now mat.now }
 {
-    if !is_order(m) {
-        return Err(Refusal::Dimension);
-    }
-    if wit.len() != m {
-        return Err(Refusal::Length);
-    }
-    if mat.len() != m * m {
-        return Err(Refusal::Length);
-    }
-    if pos.start > pos.end {
-        return Err(Refusal::Position);
-    }
-    if pos.end > m {
-        return Err(Refusal::Position);
-    }
-    Ok(quad(m, pos, wit, mat))
+    order(m)?;
+    lengths((wit.len() == m) & (mat.len() == m * m))?;
+    position((pos.start <= pos.end) & (pos.end <= m))?;
+    let mat = Matrix { n: m, entries: mat };
+    Ok(quad(pos, wit, mat))
 }

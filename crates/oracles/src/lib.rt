@@ -11,7 +11,6 @@ pub mod ldlt_mgr;
 pub mod lmi_oracle;
 pub mod lowpass_oracle;
 mod matrix;
-pub mod numbered;
 pub mod round_robin;
 pub mod scan;
 pub mod scan_band;

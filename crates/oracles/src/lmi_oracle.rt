@@ -2,81 +2,57 @@
 ghost use Rattle.std.specs.Prelude.{◌≡◌, ◌*◌, ◌≤◌, ◌<◌, ◌&&◌, eqb, length};
 ghost use Rattle.oracles.specs.LmiOracle.{lmi_buffers, lmi_gradient, lmi_assess_of, lmi_answer};
 
-use crate::ldlt_mgr::{Pos, factor_rows, is_order, quad, witness_into};
-use crate::matrix::at;
-use numbers::arr::is_dimension;
+use crate::ldlt_mgr::{Lmi, Pos, order, quad, witness_into};
+use crate::matrix::Matrix;
+use numbers::arr::{dimension, lengths};
 use numbers::cut::CutChoice;
 use numbers::refusal::Refusal;
 
 // A cut has the place where the factorization stopped, and one beta: the negated last pivot.
 #[derive(Clone, Copy)]
-pub enum LmiVerdict {
-    Feasible,
-    Cut(Pos, CutChoice),
-    Refused(Refusal),
+pub struct LmiCut {
+    pub pos: Pos,
+    pub beta: CutChoice,
 }
 
 // Each mat_f[k], lent as the part that begins at k × m², gives its quadratic form at the witness.
-fn gradient_into(m: usize, n: usize, pos: Pos, wit: &[f64], mat_f: &[f64], grad: &mut [f64])
-    requires { (m ≤ 32) × (n ≤ 32) × (pos.start ≤ pos.end) × (pos.end ≤ m) × (length wit.now ≡ m) × (length mat_f.now ≡ n * (m * m)) × (length grad.old ≡ n) }
-    ensures { grad.new ≡ lmi_gradient m n pos wit.now mat_f.now }
+fn gradient_into(lmi: Lmi, pos: Pos, wit: &[f64], grad: &mut [f64])
+    requires { (pos.start ≤ pos.end) × (pos.end ≤ lmi.m) × (length wit.now ≡ lmi.m) × (length grad.old ≡ length lmi.xc.now) }
+    ensures { grad.new ≡ lmi_gradient lmi.entry.m (length lmi.entry.xc.now) pos wit.now lmi.entry.mat_f.now }
 {
-    let size = m * m;
-    let mut k = 0;
-    while k < n {
+    let size = lmi.m * lmi.m;
+    for k in 0..lmi.xc.len() {
         let at = k * size;
         let end = at + size;
-        grad[k] = 1.0 * quad(m, pos, wit, &mat_f[at..end]);
-        k += 1;
+        let mat = Matrix {
+            n: lmi.m,
+            entries: &lmi.mat_f[at..end],
+        };
+        grad[k] = 1.0 * quad(pos, wit, mat);
     }
 }
 
 // `assess_feas_impl`: factor; where that stops, the witness and the gradient.
-fn assess(
-    m: usize,
-    n: usize,
-    mat_b: &[f64],
-    mat_f: &[f64],
-    xc: &[f64],
-    storage: &mut [f64],
-    wit: &mut [f64],
-    grad: &mut [f64],
-) -> LmiVerdict
-    requires { (m ≤ 32) × (n ≤ 32) × (length mat_b.now ≡ m * m) × (length mat_f.now ≡ n * (m * m)) × (length xc.now ≡ n)
-        × (length storage.old ≡ m * m) × (length wit.old ≡ m) × (length grad.old ≡ n) }
+fn assess(lmi: Lmi, storage: &mut [f64], wit: &mut [f64], grad: &mut [f64]) -> Option<LmiCut>
+    requires { (length storage.old ≡ lmi.m * lmi.m) × (length wit.old ≡ lmi.m) × (length grad.old ≡ length lmi.xc.now) }
     ensures { (result, lmi_buffers storage.new wit.new grad.new)
-        ≡ lmi_assess_of m n mat_b.now mat_f.now xc.now (lmi_buffers storage.old wit.old grad.old) }
+        ≡ lmi_assess_of lmi.entry.m (length lmi.entry.xc.now) lmi.entry.mat_b.now lmi.entry.mat_f.now lmi.entry.xc.now (lmi_buffers storage.old wit.old grad.old) }
 {
-    let end = factor_rows(m, mat_b, mat_f, xc, storage);
-    if end == 0 {
-        return LmiVerdict::Feasible;
-    }
-    let pos = Pos { start: 0, end };
-    witness_into(m, pos, storage, wit);
-    gradient_into(m, n, pos, wit, mat_f, grad);
-    let last = end - 1;
-    LmiVerdict::Cut(pos, CutChoice::Single(-at(m, storage, last, last)))
+    let pos = lmi.factor_rows(storage)?;
+    let factors = Matrix {
+        n: lmi.m,
+        entries: storage,
+    };
+    witness_into(pos, factors, wit);
+    gradient_into(lmi, pos, wit, grad);
+    let last = pos.end - 1;
+    Some(LmiCut {
+        pos,
+        beta: CutChoice::Single(-factors.at(last, last)),
+    })
 }
 
-// Whether the lengths of the slices are those that m and n say.
-fn lengths_fit(
-    m: usize,
-    n: usize,
-    mat_b: usize,
-    mat_f: usize,
-    xc: usize,
-    storage: usize,
-    wit: usize,
-    grad: usize,
-) -> bool
-    requires { (m ≤ 32) × (n ≤ 32) }
-    ensures { result ≡ (eqb mat_b (m * m) && eqb mat_f (n * (m * m)) && eqb xc n && eqb storage (m * m) && eqb wit m && eqb grad n) }
-{
-    let size = m * m;
-    (mat_b == size) & (mat_f == n * size) & (xc == n) & (storage == size) & (wit == m) & (grad == n)
-}
-
-// Whether mat_b − Σ xc[k] mat_f[k] is positive definite; if not, `grad` is the cut's gradient.
+// The cut where mat_b − Σ xc[k] mat_f[k] is not positive definite; `grad` is its gradient.
 pub fn assess_feas(
     m: usize,
     n: usize,
@@ -86,27 +62,22 @@ pub fn assess_feas(
     storage: &mut [f64],
     wit: &mut [f64],
     grad: &mut [f64],
-) -> LmiVerdict
+) -> Result<Option<LmiCut>, Refusal>
     ensures { (result, lmi_buffers storage.new wit.new grad.new)
         ≡ lmi_answer m n mat_b.now mat_f.now xc.now (lmi_buffers storage.old wit.old grad.old) }
 {
-    if !is_order(m) {
-        return LmiVerdict::Refused(Refusal::Dimension);
-    }
-    if !is_dimension(n) {
-        return LmiVerdict::Refused(Refusal::Dimension);
-    }
-    if !lengths_fit(
+    order(m)?;
+    dimension(n)?;
+    let size = m * m;
+    let matrices = (mat_b.len() == size) & (mat_f.len() == n * size);
+    lengths(
+        matrices & (xc.len() == n) & (storage.len() == size) & (wit.len() == m) & (grad.len() == n),
+    )?;
+    let lmi = Lmi {
         m,
-        n,
-        mat_b.len(),
-        mat_f.len(),
-        xc.len(),
-        storage.len(),
-        wit.len(),
-        grad.len(),
-    ) {
-        return LmiVerdict::Refused(Refusal::Length);
-    }
-    assess(m, n, mat_b, mat_f, xc, storage, wit, grad)
+        mat_b,
+        mat_f,
+        xc,
+    };
+    Ok(assess(lmi, storage, wit, grad))
 }

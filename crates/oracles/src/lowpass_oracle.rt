@@ -6,16 +6,17 @@ ghost use Rattle.oracles.specs.LowpassOracle.{fresh_cur, start_oracle, bands_fit
 ghost use Rattle.oracles.specs.LowpassOracle.{offered, improved_of, assess_feas_answer, assess_optim_answer};
 
 use crate::band_cut::gradient_into;
-use crate::round_robin::{CursorAnswer, RoundRobin};
-use crate::scan_band::first_fault;
-use crate::table::{is_rows, table_fits};
+use crate::round_robin::RoundRobin;
+use crate::scan_band::first_refusal;
+use crate::table::{Rows, is_rows, table_fits};
 use numbers::arr::is_dimension;
 use numbers::cut::CutChoice;
-use numbers::refusal::{Fault, Refusal};
+use numbers::refusal::Refusal;
 
 // The state of an oracle over a row table that the caller lends: pass rows are 0 to nwpass − 1, middle rows reach nwstop − 1, stop rows the end.
 #[derive(Clone, Copy)]
 pub struct LowpassOracle {
+    // the Rust's flag; no value depends on it
     pub more_alt: bool,
     pub idx1: i32,
     pub nwpass: i32,
@@ -42,7 +43,7 @@ pub enum Group {
 }
 
 impl Group {
-    // Its place in the order of the scans: pass, stop, middle, sign.
+    // Its place in the order of the scans: pass, stop, middle, sign. No `From`: the row is left out.
     pub fn number(self) -> u8
         ensures { result ≡ group_number self }
     {
@@ -59,35 +60,31 @@ impl Group {
         ensures { result ≡ group_side self }
     {
         match self {
-            Group::Pass(_, over) => over,
-            Group::Stop(_, over) => over,
-            Group::Middle(_) => false,
-            Group::Sign => false,
+            Group::Pass(_, over) | Group::Stop(_, over) => over,
+            Group::Middle(_) | Group::Sign => false,
         }
     }
 }
 
-// What `assess_feas` says of a point: nothing is broken, or the first broken group and the betas of its cut.
+// The first group that a point breaks, and the betas of its cut.
 #[derive(Clone, Copy)]
-pub enum Verdict {
-    Feasible,
-    Cut(Group, CutChoice),
-    Refused(Refusal),
+pub struct Cut {
+    pub group: Group,
+    pub beta: CutChoice,
 }
 
-// The oracle after an assessment; as it came where the call is refused.
+// The oracle after an assessment, as it came where the call is refused. The verdict is none where nothing is broken.
 #[derive(Clone, Copy)]
 pub struct Assessed {
     pub oracle: LowpassOracle,
-    pub verdict: Verdict,
+    pub verdict: Result<Option<Cut>, Refusal>,
 }
 
-// What `assess_optim` says: the betas of the improving cut of a feasible point, or of the broken group's cut.
+// What `assess_optim` says: the betas of the improving cut of a feasible point, or the broken group's cut.
 #[derive(Clone, Copy)]
 pub enum OptimVerdict {
     Improved(CutChoice),
-    Cut(Group, CutChoice),
-    Refused(Refusal),
+    Cut(Cut),
 }
 
 // `gamma` is the caller's sp_sq, after the call.
@@ -95,7 +92,7 @@ pub enum OptimVerdict {
 pub struct AssessedOptim {
     pub oracle: LowpassOracle,
     pub gamma: f64,
-    pub verdict: OptimVerdict,
+    pub verdict: Result<OptimVerdict, Refusal>,
 }
 
 // Whether the cursor's band is lo .. hi − 1.
@@ -106,17 +103,17 @@ fn has_band(rr: RoundRobin, lo: i32, hi: i32) -> bool
 }
 
 // Where a fresh cursor stands. What is no band is refused by every call, whatever stands here.
-fn fresh_cur(fresh: CursorAnswer) -> i32
+fn fresh_cur(fresh: Result<RoundRobin, Refusal>) -> i32
     ensures { result ≡ fresh_cur fresh }
 {
     match fresh {
-        CursorAnswer::Accepted(rr) => rr.cur,
-        CursorAnswer::Refused(_) => -1,
+        Ok(rr) => rr.cur,
+        Err(_) => -1,
     }
 }
 
 impl LowpassOracle {
-    // An oracle that has assessed nothing yet, over the rows 0 to mdim − 1: each idx before its band, the cursors where they are told to stand.
+    // An oracle that has assessed nothing yet, over the rows 0 to mdim − 1: each idx before its band, the cursors where they are told to stand. Its numbers come one by one, as a job and C have them.
     pub fn start(
         nwpass: i32,
         nwstop: i32,
@@ -143,7 +140,7 @@ impl LowpassOracle {
             sp_sq,
             idx2: fresh_cur(fresh2),
             idx3: fresh_cur(fresh3),
-            fmax: -1.0 / 0.0,
+            fmax: f64::NEG_INFINITY,
             kmax: -1,
             rr1: RoundRobin {
                 cur: cur1,
@@ -216,17 +213,17 @@ impl LowpassOracle {
         ensures by_feas_rule { ByFeasRule self n rows table.now x.now grad.old result }
     {
         let lengths = table_fits(n, rows, table.len(), x.len()) & (grad.len() == n);
-        let fault = first_fault(
+        let tests = first_refusal(
             is_dimension(n),
             lengths,
             self.bands_fit(rows),
             self.cursors_fit(),
         );
-        match fault {
-            Ok(()) => self.assess(n, table, x, grad),
-            Err(Fault { why, .. }) => Assessed {
+        match tests {
+            Ok(()) => self.assess(Rows { n, table, x }, grad),
+            Err(why) => Assessed {
                 oracle: self,
-                verdict: Verdict::Refused(why),
+                verdict: Err(why),
             },
         }
     }
@@ -249,16 +246,18 @@ impl LowpassOracle {
         let oracle = assessed.oracle;
         let verdict = assessed.verdict;
         match verdict {
-            Verdict::Feasible => self.improved(gamma, oracle, n, table, grad),
-            Verdict::Cut(group, beta) => AssessedOptim {
-                oracle,
-                gamma,
-                verdict: OptimVerdict::Cut(group, beta),
+            Ok(found) => match found {
+                None => self.improved(gamma, oracle, Rows { n, table, x }, grad),
+                Some(cut) => AssessedOptim {
+                    oracle,
+                    gamma,
+                    verdict: Ok(OptimVerdict::Cut(cut)),
+                },
             },
-            Verdict::Refused(why) => AssessedOptim {
+            Err(why) => AssessedOptim {
                 oracle: self,
                 gamma,
-                verdict: OptimVerdict::Refused(why),
+                verdict: Err(why),
             },
         }
     }
@@ -268,25 +267,24 @@ impl LowpassOracle {
         self,
         gamma: f64,
         after: LowpassOracle,
-        n: usize,
-        table: &[f64],
+        rows: Rows,
         grad: &mut [f64],
     ) -> AssessedOptim
-        requires { (2 ≤ n) × (n ≤ 32) × (lt_z after.kmax (pos 0) ≡ false → nat_abs after.kmax * n + n ≤ length table.now) × (length grad.old ≡ n) }
-        ensures { (result, grad.new) ≡ improved_of self gamma after n table.now grad.old }
+        requires { (2 ≤ rows.n) × (rows.n ≤ 32) × (lt_z after.kmax (pos 0) ≡ false → nat_abs after.kmax * rows.n + rows.n ≤ length rows.table.now) × (length grad.old ≡ rows.n) }
+        ensures { (result, grad.new) ≡ improved_of self gamma after rows.entry.n rows.entry.table.now grad.old }
     {
         if after.kmax < 0 {
             return AssessedOptim {
                 oracle: self,
                 gamma,
-                verdict: OptimVerdict::Refused(Refusal::NoStopValue),
+                verdict: Err(Refusal::NoStopValue),
             };
         }
-        gradient_into(n, table, after.kmax as usize, true, grad);
+        gradient_into(rows, after.kmax as usize, true, grad);
         AssessedOptim {
             oracle: after,
             gamma: after.fmax,
-            verdict: OptimVerdict::Improved(CutChoice::Parallel(0.0, after.fmax)),
+            verdict: Ok(OptimVerdict::Improved(CutChoice::Parallel(0.0, after.fmax))),
         }
     }
 }

@@ -1,6 +1,6 @@
 // The cursor: a round-robin index over a band of rows (round_robin.rs).
 ghost use Rattle.std.specs.Prelude.{◌≡◌, ◌<◌, pos};
-ghost use Rattle.oracles.specs.RoundRobin.{is_band, is_at, with_cur, advanced, new_range_answer, advance_answer};
+ghost use Rattle.oracles.specs.RoundRobin.{is_band, is_at, advanced, new_range_answer, advance_answer};
 ghost use Rattle.oracles.specs.laws.RoundRobin.{Legal};
 
 use numbers::refusal::Refusal;
@@ -13,12 +13,6 @@ pub struct RoundRobin {
     pub hi: i32,
 }
 
-#[derive(Clone, Copy)]
-pub enum CursorAnswer {
-    Accepted(RoundRobin),
-    Refused(Refusal),
-}
-
 // Whether lo and hi are a band of some table.
 pub fn is_band(lo: i32, hi: i32) -> bool
     ensures { result ≡ is_band lo hi }
@@ -28,20 +22,20 @@ pub fn is_band(lo: i32, hi: i32) -> bool
 
 impl RoundRobin {
     // A fresh cursor over 0 .. hi − 1.
-    pub fn new(hi: i32) -> CursorAnswer
+    pub fn new(hi: i32) -> Result<RoundRobin, Refusal>
         ensures { result ≡ new_range_answer (pos 0) hi }
     {
         RoundRobin::new_range(0, hi)
     }
 
     // A fresh cursor over lo .. hi − 1.
-    pub fn new_range(lo: i32, hi: i32) -> CursorAnswer
+    pub fn new_range(lo: i32, hi: i32) -> Result<RoundRobin, Refusal>
         ensures { result ≡ new_range_answer lo hi }
     {
         if !is_band(lo, hi) {
-            return CursorAnswer::Refused(Refusal::Band);
+            return Err(Refusal::Band);
         }
-        CursorAnswer::Accepted(RoundRobin {
+        Ok(RoundRobin {
             cur: lo - 1,
             lo,
             hi,
@@ -55,17 +49,6 @@ impl RoundRobin {
         (self.cur < self.hi) && self.lo <= self.cur + 1
     }
 
-    // The cursor at another row.
-    pub(crate) fn with_cur(self, cur: i32) -> RoundRobin
-        ensures { result ≡ with_cur self cur }
-    {
-        RoundRobin {
-            cur,
-            lo: self.lo,
-            hi: self.hi,
-        }
-    }
-
     // `advance` with nothing left to refuse.
     pub(crate) fn step(self) -> RoundRobin
         requires { Legal self }
@@ -75,30 +58,25 @@ impl RoundRobin {
         if next == self.hi {
             return RoundRobin {
                 cur: self.lo,
-                lo: self.lo,
-                hi: self.hi,
+                ..self
             };
         }
-        RoundRobin {
-            cur: next,
-            lo: self.lo,
-            hi: self.hi,
-        }
+        RoundRobin { cur: next, ..self }
     }
 
     // One on, and hi turns into lo.
-    pub fn advance(self) -> CursorAnswer
+    pub fn advance(self) -> Result<RoundRobin, Refusal>
         ensures { result ≡ advance_answer self }
     {
         let lo = self.lo;
         let hi = self.hi;
         if !(is_band(lo, hi) & (lo < hi)) {
-            return CursorAnswer::Refused(Refusal::Band);
+            return Err(Refusal::Band);
         }
         if !self.is_at() {
-            return CursorAnswer::Refused(Refusal::Cursor);
+            return Err(Refusal::Cursor);
         }
-        CursorAnswer::Accepted(self.step())
+        Ok(self.step())
     }
 
     // The row last given.

@@ -1,49 +1,36 @@
 // A scan: the rows of a band in turn, from where its cursor stands. The cursor is had by value.
 ghost use Rattle.std.specs.Prelude.{◌≡◌, ◌+◌, ◌*◌, ◌≤◌, ◌<◌, T, ◌⊎◌, pos, nat_abs, length};
 ghost use Rattle.std.specs.Int.Signed.{non_neg};
-ghost use Rattle.oracles.specs.declared.scan.Upper.TheVariants.{Limit};
-ghost use Rattle.oracles.specs.laws.ScanRun.{limit_of, is_broken, judged_of, scan_run, RowsLeft};
+ghost use Rattle.oracles.specs.laws.ScanRun.{judged_of, scan_run, RowsLeft};
 ghost use Rattle.oracles.specs.Scan.{scan_from, scan_of};
 ghost use Rattle.oracles.specs.laws.RoundRobin.{Legal};
 ghost use Rattle.oracles.specs.laws.ScanRows.{Ready};
 
 use crate::round_robin::RoundRobin;
-use crate::table::{four_values, row_value};
+use crate::table::Rows;
 use numbers::refusal::Refusal;
 
-// The upper limit of a band, where it has one.
+// The first row that breaks a limit: its number, its value, and whether the value lies above the upper limit, a side that says nothing of the other two.
 #[derive(Clone, Copy)]
-pub enum Upper {
-    Absent,
-    Limit(f64),
-}
-
-// The first row that breaks a limit: its number, its value, and whether the value lies above the upper limit.
-#[derive(Clone, Copy)]
-pub enum Violation {
-    Nothing,
-    Broken(usize, f64, bool),
+pub struct Violation {
+    pub row: usize,
+    pub value: f64,
+    pub is_over: bool,
 }
 
 // What a scan found: the violation, the largest value before it and its row (minus infinity and −1 where there is none), and where cur was left.
 #[derive(Clone, Copy)]
 pub struct Scan {
-    pub viol: Violation,
+    pub viol: Option<Violation>,
     pub fmax: f64,
     pub kmax: i32,
     pub last: i32,
 }
 
-#[derive(Clone, Copy)]
-pub enum ScanAnswer {
-    Scanned(Scan),
-    Refused(Refusal),
-}
-
 // An answer, and the cursor after it.
 #[derive(Clone, Copy)]
 pub struct ScanEnd {
-    pub answer: ScanAnswer,
+    pub answer: Result<Scan, Refusal>,
     pub cursor: RoundRobin,
 }
 
@@ -52,25 +39,6 @@ pub struct ScanEnd {
 pub(crate) struct Swept {
     pub(crate) scan: Scan,
     pub(crate) cursor: RoundRobin,
-}
-
-// The upper limit as a number: infinity, above which no value lies, where there is none.
-fn limit_of(upper: Upper) -> f64
-    ensures { result ≡ limit_of upper }
-{
-    match upper {
-        Upper::Absent => 1.0 / 0.0,
-        Upper::Limit(u) => u,
-    }
-}
-
-fn is_broken(viol: Violation) -> bool
-    ensures { result ≡ is_broken viol }
-{
-    match viol {
-        Violation::Nothing => false,
-        Violation::Broken(_, _, _) => true,
-    }
 }
 
 // The cursor in row numbers: its band's first row.
@@ -106,7 +74,11 @@ fn test_row(row: usize, value: f64, lower: f64, limit: f64, fmax: f64, kmax: i32
     let over = value > limit;
     if over {
         return Scan {
-            viol: Violation::Broken(row, value, true),
+            viol: Some(Violation {
+                row,
+                value,
+                is_over: true,
+            }),
             fmax,
             kmax,
             last,
@@ -114,7 +86,11 @@ fn test_row(row: usize, value: f64, lower: f64, limit: f64, fmax: f64, kmax: i32
     }
     if value < lower {
         return Scan {
-            viol: Violation::Broken(row, value, false),
+            viol: Some(Violation {
+                row,
+                value,
+                is_over: false,
+            }),
             fmax,
             kmax,
             last,
@@ -122,14 +98,14 @@ fn test_row(row: usize, value: f64, lower: f64, limit: f64, fmax: f64, kmax: i32
     }
     if value > fmax {
         return Scan {
-            viol: Violation::Nothing,
+            viol: None,
             fmax: value,
             kmax: last,
             last,
         };
     }
     Scan {
-        viol: Violation::Nothing,
+        viol: None,
         fmax,
         kmax,
         last,
@@ -137,33 +113,21 @@ fn test_row(row: usize, value: f64, lower: f64, limit: f64, fmax: f64, kmax: i32
 }
 
 // Four rows, whose values are had side by side, judged in turn up to the first that breaks a limit.
-fn look_at_four(
-    n: usize,
-    table: &[f64],
-    x: &[f64],
-    row: usize,
-    lower: f64,
-    limit: f64,
-    fmax: f64,
-    kmax: i32,
-) -> Scan
-    requires { (row + 4 ≤ 1024) × (row * n + 4 * n ≤ length table.now) }
-    ensures { result ≡ scan_run n table.now x.now lower limit 4 row fmax kmax }
+fn look_at_four(rows: Rows, row: usize, lower: f64, limit: f64, fmax: f64, kmax: i32) -> Scan
+    requires { (row + 4 ≤ 1024) × (row * rows.n + 4 * rows.n ≤ length rows.table.now) }
+    ensures { result ≡ scan_run rows.entry.n rows.entry.table.now rows.entry.x.now lower limit 4 row fmax kmax }
 {
-    let values = four_values(n, table, x, row);
+    let values = rows.four_values(row);
     let s = test_row(row, values.a, lower, limit, fmax, kmax);
-    let sv = s.viol;
-    if is_broken(sv) {
+    if s.viol.is_some() {
         return s;
     }
     let t = test_row(row + 1, values.b, lower, limit, s.fmax, s.kmax);
-    let tv = t.viol;
-    if is_broken(tv) {
+    if t.viol.is_some() {
         return t;
     }
     let u = test_row(row + 2, values.c, lower, limit, t.fmax, t.kmax);
-    let uv = u.viol;
-    if is_broken(uv) {
+    if u.viol.is_some() {
         return u;
     }
     test_row(row + 3, values.d, lower, limit, u.fmax, u.kmax)
@@ -171,9 +135,7 @@ fn look_at_four(
 
 // The next row, or the next four.
 fn look_at(
-    n: usize,
-    table: &[f64],
-    x: &[f64],
+    rows: Rows,
     row: usize,
     many: usize,
     lower: f64,
@@ -181,13 +143,13 @@ fn look_at(
     fmax: f64,
     kmax: i32,
 ) -> Scan
-    requires { ((many ≡ 1) ⊎ (many ≡ 4)) × (row + many ≤ 1024) × (row * n + many * n ≤ length table.now) }
-    ensures { result ≡ scan_run n table.now x.now lower limit many row fmax kmax }
+    requires { ((many ≡ 1) ⊎ (many ≡ 4)) × (row + many ≤ 1024) × (row * rows.n + many * rows.n ≤ length rows.table.now) }
+    ensures { result ≡ scan_run rows.entry.n rows.entry.table.now rows.entry.x.now lower limit many row fmax kmax }
 {
     if many == 4 {
-        return look_at_four(n, table, x, row, lower, limit, fmax, kmax);
+        return look_at_four(rows, row, lower, limit, fmax, kmax);
     }
-    let value = row_value(n, table, x, row);
+    let value = rows.row_value(row);
     test_row(row, value, lower, limit, fmax, kmax)
 }
 
@@ -207,9 +169,7 @@ fn rows_together(left: usize, ahead: usize) -> usize
 
 // `count` rows from a cursor on, after the largest value so far and its row. The cursor goes on to a row, and from there to the last that is looked at with it.
 fn scan_rest(
-    n: usize,
-    table: &[f64],
-    x: &[f64],
+    rows: Rows,
     start: RoundRobin,
     count: usize,
     lower: f64,
@@ -217,29 +177,29 @@ fn scan_rest(
     peak: f64,
     peak_row: i32,
 ) -> Scan
-    requires { RowsLeft n table.now start count }
-    ensures { result ≡ scan_from n table.now x.now lower (Limit limit) count start peak peak_row }
+    requires { RowsLeft rows.n rows.table.now start count }
+    ensures { result ≡ scan_from rows.entry.n rows.entry.table.now rows.entry.x.now lower (Some limit) count start peak peak_row }
 {
     let mut rr = start;
     let mut fmax = peak;
     let mut kmax = peak_row;
     let mut left = count;
+    // a turn takes one row or four, so this is no `for`
     while left > 0 {
         rr = rr.step();
         let row = row_at(rr);
         let many = rows_together(left, band_past(rr) - row);
-        let s = look_at(n, table, x, row, many, lower, limit, fmax, kmax);
-        let viol = s.viol;
-        if is_broken(viol) {
+        let s = look_at(rows, row, many, lower, limit, fmax, kmax);
+        if s.viol.is_some() {
             return s;
         }
         fmax = s.fmax;
         kmax = s.kmax;
-        rr = rr.with_cur(s.last);
+        rr.cur = s.last;
         left -= many;
     }
     Scan {
-        viol: Violation::Nothing,
+        viol: None,
         fmax,
         kmax,
         last: rr.cur,
@@ -247,23 +207,17 @@ fn scan_rest(
 }
 
 // The rows of the band in turn, each once at most. The first singly: most scans that break a limit end there.
-pub(crate) fn scan_rows(
-    n: usize,
-    table: &[f64],
-    x: &[f64],
-    start: RoundRobin,
-    lower: f64,
-    upper: Upper,
-) -> Scan
-    requires { Ready n table.now x.now start }
-    ensures { result ≡ scan_of n table.now x.now start lower upper }
+pub(crate) fn scan_rows(rows: Rows, start: RoundRobin, lower: f64, upper: Option<f64>) -> Scan
+    requires { Ready rows.n rows.table.now rows.x.now start }
+    ensures { result ≡ scan_of rows.entry.n rows.entry.table.now rows.entry.x.now start lower upper }
 {
-    let limit = limit_of(upper);
+    // infinity, above which no value lies, where there is none
+    let limit = upper.unwrap_or(f64::INFINITY);
     let all = band_past(start) - band_from(start);
-    let fmax: f64 = -1.0 / 0.0;
+    let fmax = f64::NEG_INFINITY;
     if all == 0 {
         return Scan {
-            viol: Violation::Nothing,
+            viol: None,
             fmax,
             kmax: -1,
             last: start.cur,
@@ -271,11 +225,10 @@ pub(crate) fn scan_rows(
     }
     let rr = start.step();
     let row = row_at(rr);
-    let value = row_value(n, table, x, row);
+    let value = rows.row_value(row);
     let s = test_row(row, value, lower, limit, fmax, -1);
-    let viol = s.viol;
-    if is_broken(viol) {
+    if s.viol.is_some() {
         return s;
     }
-    scan_rest(n, table, x, rr, all - 1, lower, limit, s.fmax, s.kmax)
+    scan_rest(rows, rr, all - 1, lower, limit, s.fmax, s.kmax)
 }

@@ -24,25 +24,43 @@ pub fn table_fits(n: usize, rows: usize, table: usize, x: usize) -> bool
     (table / n == rows) & (table % n == 0) & (x == n)
 }
 
-// Row i's value: the row is the part of the table that begins at i × n.
-pub(crate) fn row_value(n: usize, table: &[f64], x: &[f64], i: usize) -> f64
-    requires { i * n + n ≤ length table.now }
-    ensures { result ≡ value_of n table.now x.now i }
-{
-    let at = i * n;
-    let end = at + n;
-    dot_zip(&table[at..end], x)
+// The rows of a table, n numbers each, and the point at which their values are asked for; lent by the caller.
+#[derive(Clone, Copy)]
+pub(crate) struct Rows<'a> {
+    pub(crate) n: usize,
+    pub(crate) table: &'a [f64],
+    pub(crate) x: &'a [f64],
 }
 
-// The values of the four rows from row i on, each handed on as its part of the table.
-pub(crate) fn four_values(n: usize, table: &[f64], x: &[f64], i: usize) -> Four
-    requires { i * n + 4 * n ≤ length table.now }
-    ensures { result ≡ four_values n table.now x.now i }
-{
-    let a = i * n;
-    let b = a + n;
-    let c = b + n;
-    let d = c + n;
-    let end = d + n;
-    dot_four(&table[a..b], &table[b..c], &table[c..d], &table[d..end], x)
+impl Rows<'_> {
+    // Row i's value: the row is the part of the table that begins at i × n.
+    pub(crate) fn row_value(self, i: usize) -> f64
+        requires { i * self.n + self.n ≤ length self.table.now }
+        ensures { result ≡ value_of self.entry.n self.entry.table.now self.entry.x.now i }
+    {
+        let at = i * self.n;
+        let end = at + self.n;
+        dot_zip(&self.table[at..end], self.x)
+    }
+
+    // The values of the four rows from row i on, each handed on as its part of the table.
+    pub(crate) fn four_values(self, i: usize) -> Four
+        requires { i * self.n + 4 * self.n ≤ length self.table.now }
+        ensures { result ≡ four_values self.entry.n self.entry.table.now self.entry.x.now i }
+    {
+        let n = self.n;
+        let table = self.table;
+        let a = i * n;
+        let b = a + n;
+        let c = b + n;
+        let d = c + n;
+        let end = d + n;
+        dot_four(
+            &table[a..b],
+            &table[b..c],
+            &table[c..d],
+            &table[d..end],
+            self.x,
+        )
+    }
 }

@@ -1,107 +1,100 @@
 // Where the slices of an update's case stand: operations 60, 61, 119 and 120.
-use lists::rooms::{plus, times};
-use lists::words::word;
+use lists::inputs::{Inputs, Span};
+use lists::rooms::times;
 
-// Of each slice where it begins and how long it is; an ellipsoid that is not stable has one vector of scratch. Then where kappa and tsq, and the betas, stand, and where the case ends.
+// The slices; an ellipsoid that is not stable has one vector of scratch, and the others have no words. Then where kappa and tsq, and the betas, stand, and where the case ends.
 #[derive(Clone, Copy)]
 pub(crate) struct Places {
-    pub(crate) xc: usize,
-    pub(crate) xc_len: usize,
-    pub(crate) mq: usize,
-    pub(crate) mq_len: usize,
-    pub(crate) s1: usize,
-    pub(crate) s1_len: usize,
-    pub(crate) s2: usize,
-    pub(crate) s2_len: usize,
-    pub(crate) s3: usize,
-    pub(crate) s3_len: usize,
-    pub(crate) s4: usize,
-    pub(crate) s4_len: usize,
-    pub(crate) grad: usize,
-    pub(crate) grad_len: usize,
+    pub(crate) xc: Span,
+    pub(crate) mq: Span,
+    pub(crate) s1: Span,
+    pub(crate) s2: Span,
+    pub(crate) s3: Span,
+    pub(crate) s4: Span,
+    pub(crate) grad: Span,
     pub(crate) numbers: usize,
     pub(crate) betas: usize,
     pub(crate) end: usize,
 }
 
 // Operations 60 and 61: xc stands at `xc`, kappa and tsq before it, and the scratch is not given.
-fn places_legal(inputs: &[u8], xc: usize) -> Places {
-    let n = word(inputs, 1) as usize;
-    let size = times(n, n);
-    let mq = plus(xc, n);
-    let grad = plus(mq, size);
-    let betas = plus(grad, n);
+fn places_legal(inputs: &Inputs<'_>, at: usize, numbers: usize) -> Places {
+    let n = inputs.size(1);
+    let xc = Span { at, len: n };
+    let mq = xc.then(times(n, n));
+    let grad = mq.then(n);
+    let betas = grad.then(2);
+    let scratch = Span { at: 0, len: n };
     Places {
         xc,
-        xc_len: n,
         mq,
-        mq_len: size,
-        s1: 0,
-        s1_len: n,
-        s2: 0,
-        s2_len: n,
-        s3: 0,
-        s3_len: n,
-        s4: 0,
-        s4_len: n,
+        s1: scratch,
+        s2: scratch,
+        s3: scratch,
+        s4: scratch,
         grad,
-        grad_len: n,
-        numbers: if xc == 5 { 3 } else { 2 },
-        betas,
-        end: plus(betas, 2),
+        numbers,
+        betas: betas.at,
+        end: betas.end(),
     }
 }
 
-// Word k has the length of a vector of scratch that only `EllStable` has.
-fn stable_length(inputs: &[u8], is_stable: bool, k: usize) -> usize {
-    if is_stable {
-        return word(inputs, k) as usize;
-    }
-    0
-}
-
-// Operations 119 and 120: words 4 on have the lengths, of one vector of scratch or of four.
-fn places_any(inputs: &[u8], is_stable: bool) -> Places {
-    let xc = if is_stable { 13 } else { 10 };
-    let l2 = stable_length(inputs, is_stable, 7);
-    let l3 = stable_length(inputs, is_stable, 8);
-    let l4 = stable_length(inputs, is_stable, 9);
-    let lg = word(inputs, if is_stable { 10 } else { 7 }) as usize;
-    let lx = word(inputs, 4) as usize;
-    let lm = word(inputs, 5) as usize;
-    let l1 = word(inputs, 6) as usize;
-    let mq = plus(xc, lx);
-    let s1 = plus(mq, lm);
-    let s2 = plus(s1, l1);
-    let s3 = plus(s2, l2);
-    let s4 = plus(s3, l3);
-    let grad = plus(s4, l4);
+// Operation 119: the lengths begin in word 4.
+fn places_ell(inputs: &Inputs<'_>) -> Places {
+    let xc = Span {
+        at: 10,
+        len: inputs.size(4),
+    };
+    let mq = xc.then(inputs.size(5));
+    let s1 = mq.then(inputs.size(6));
+    let none = s1.then(0);
+    let grad = s1.then(inputs.size(7));
     Places {
         xc,
-        xc_len: lx,
         mq,
-        mq_len: lm,
         s1,
-        s1_len: l1,
-        s2,
-        s2_len: l2,
-        s3,
-        s3_len: l3,
-        s4,
-        s4_len: l4,
+        s2: none,
+        s3: none,
+        s4: none,
         grad,
-        grad_len: lg,
         numbers: 2,
-        betas: if is_stable { 11 } else { 8 },
-        end: plus(grad, lg),
+        betas: 8,
+        end: grad.end(),
     }
 }
 
-pub(crate) fn places_of(op: u64, inputs: &[u8]) -> Places {
-    match op {
-        60 => places_legal(inputs, 5),
-        61 => places_legal(inputs, 4),
-        119 => places_any(inputs, false),
-        _ => places_any(inputs, true),
+// Operation 120: the same with four vectors of scratch.
+fn places_stable(inputs: &Inputs<'_>) -> Places {
+    let xc = Span {
+        at: 13,
+        len: inputs.size(4),
+    };
+    let mq = xc.then(inputs.size(5));
+    let s1 = mq.then(inputs.size(6));
+    let s2 = s1.then(inputs.size(7));
+    let s3 = s2.then(inputs.size(8));
+    let s4 = s3.then(inputs.size(9));
+    let grad = s4.then(inputs.size(10));
+    Places {
+        xc,
+        mq,
+        s1,
+        s2,
+        s3,
+        s4,
+        grad,
+        numbers: 2,
+        betas: 11,
+        end: grad.end(),
+    }
+}
+
+// Operation 60 has one word more before kappa and tsq.
+pub(crate) fn places_of(inputs: &Inputs<'_>) -> Places {
+    match inputs.op {
+        60 => places_legal(inputs, 5, 3),
+        61 => places_legal(inputs, 4, 2),
+        119 => places_ell(inputs),
+        _ => places_stable(inputs),
     }
 }

@@ -1,254 +1,163 @@
 // Operations 60, 61 and 119 to 122: the ellipsoids.
-use crate::answers::{
-    Answered, answered_word, answered_words, choice_of, push_room, put_answer, put_answered,
-};
 use crate::ell_places::{Places, places_of};
-use lists::pushes::{Bytes, push_float, push_floats};
-use lists::rooms::{Room, fill, front, part};
-use lists::tally::Replayed;
-use lists::words::{float, word};
-use numbers::bits::to_bits;
-use numbers::cut::CutChoice;
-use oracles::ell::{Ell, NewEll};
-use oracles::ell_common::{CutStrategy, Update};
-use oracles::ell_stable::{EllStable, NewEllStable};
+use lists::inputs::{Inputs, fit};
+use lists::pushes::Got;
+use lists::rooms::{Rooms, front};
+use lists::tally::Unreplayed;
+use numbers::cut::CutStatus;
+use numbers::refusal::Refusal;
+use oracles::ell::Ell;
+use oracles::ell_common::CutStrategy;
+use oracles::ell_stable::EllStable;
 
 // An update's answer, and the numbers of the ellipsoid after it.
 #[derive(Clone, Copy)]
 struct Outcome {
-    answered: Answered,
+    answer: Result<CutStatus, Refusal>,
     kappa: f64,
     tsq: f64,
 }
 
-fn strategy(how: u64) -> CutStrategy {
+// The kind of cut: bias 0, central 1, q 2.
+fn strategy(how: u64) -> Result<CutStrategy, Unreplayed> {
     match how {
-        0 => CutStrategy::BiasCut,
-        1 => CutStrategy::CentralCut,
-        _ => CutStrategy::Q,
+        0 => Ok(CutStrategy::BiasCut),
+        1 => Ok(CutStrategy::CentralCut),
+        2 => Ok(CutStrategy::Q),
+        _ => Err(Unreplayed::Unfit),
     }
 }
 
-fn betas_at(inputs: &[u8], k: usize) -> CutChoice {
-    choice_of(float(inputs, k), word(inputs, k.wrapping_add(1)))
-}
-
-fn outcome_of(answer: Update, kappa: f64, tsq: f64) -> Outcome {
-    let answered = match answer {
-        Update::Status(status) => answered_word(answer.number(), status.number() as u64, 1),
-        Update::Refused(_) => answered_word(answer.number(), 0, 0),
-    };
-    Outcome {
-        answered,
-        kappa,
-        tsq,
-    }
-}
-
-// xc, mq and the scratch are at the fronts of the rooms.
-fn update_ell(
-    inputs: &[u8],
-    p: Places,
-    grad: &[f64],
-    a: &mut [f64],
-    b: &mut [f64],
-    c: &mut [f64],
-) -> Outcome {
-    let kappa = float(inputs, p.numbers);
-    let tsq = float(inputs, p.numbers.wrapping_add(1));
-    match Ell::new_with_matrix(word(inputs, 1) as usize, kappa) {
-        NewEll::Made(made) => {
-            let mut ell = made;
+// xc, mq and the scratch are at the fronts of the rooms. Where n is refused there is no ellipsoid, and its numbers stay.
+fn update_ell(inputs: &Inputs<'_>, p: Places, how: CutStrategy, rooms: &mut Rooms) -> Outcome {
+    let kappa = inputs.float(p.numbers);
+    let tsq = inputs.float(p.numbers.wrapping_add(1));
+    match Ell::new_with_matrix(inputs.size(1), kappa) {
+        Ok(mut ell) => {
             ell.tsq = tsq;
-            let how = strategy(word(inputs, 0));
-            let beta = betas_at(inputs, p.betas);
-            let xc = front(a, p.xc_len);
-            let mq = front(b, p.mq_len);
-            let u = ell.update_core(how, grad, beta, mq, xc, front(c, p.s1_len));
-            let after = u.ell;
-            let answer = u.answer;
-            outcome_of(answer, after.kappa, after.tsq)
+            let u = ell.update_core(
+                how,
+                inputs.part(p.grad),
+                inputs.betas(p.betas),
+                front(&mut rooms.b, p.mq.len),
+                front(&mut rooms.a, p.xc.len),
+                front(&mut rooms.c, p.s1.len),
+            );
+            Outcome {
+                answer: u.answer,
+                kappa: u.ell.kappa,
+                tsq: u.ell.tsq,
+            }
         }
-        NewEll::Refused(why) => outcome_of(Update::Refused(why), kappa, tsq),
+        Err(why) => Outcome {
+            answer: Err(why),
+            kappa,
+            tsq,
+        },
     }
 }
 
-fn update_made(
-    ell: EllStable,
-    inputs: &[u8],
-    p: Places,
-    grad: &[f64],
-    a: &mut [f64],
-    b: &mut [f64],
-    c: &mut [f64],
-    d: &mut [f64],
-    e: &mut [f64],
-    f: &mut [f64],
-) -> Outcome {
-    let how = strategy(word(inputs, 0));
-    let beta = betas_at(inputs, p.betas);
-    let xc = front(a, p.xc_len);
-    let mq = front(b, p.mq_len);
-    let s1 = front(c, p.s1_len);
-    let s2 = front(d, p.s2_len);
-    let s3 = front(e, p.s3_len);
-    let s4 = front(f, p.s4_len);
-    let u = ell.update_core(how, grad, beta, mq, xc, s1, s2, s3, s4);
-    let after = u.ell;
-    let answer = u.answer;
-    outcome_of(answer, after.kappa, after.tsq)
-}
-
-fn update_stable(
-    inputs: &[u8],
-    p: Places,
-    grad: &[f64],
-    a: &mut Room,
-    b: &mut Room,
-    c: &mut Room,
-    d: &mut Room,
-    e: &mut Room,
-    f: &mut Room,
-) -> Outcome {
-    let kappa = float(inputs, p.numbers);
-    let tsq = float(inputs, p.numbers.wrapping_add(1));
-    match EllStable::new_with_matrix(word(inputs, 1) as usize, kappa) {
-        NewEllStable::Made(made) => {
-            let mut ell = made;
+fn update_stable(inputs: &Inputs<'_>, p: Places, how: CutStrategy, rooms: &mut Rooms) -> Outcome {
+    let kappa = inputs.float(p.numbers);
+    let tsq = inputs.float(p.numbers.wrapping_add(1));
+    match EllStable::new_with_matrix(inputs.size(1), kappa) {
+        Ok(mut ell) => {
             ell.tsq = tsq;
-            update_made(ell, inputs, p, grad, a, b, c, d, e, f)
+            let u = ell.update_core(
+                how,
+                inputs.part(p.grad),
+                inputs.betas(p.betas),
+                front(&mut rooms.b, p.mq.len),
+                front(&mut rooms.a, p.xc.len),
+                front(&mut rooms.c, p.s1.len),
+                front(&mut rooms.d, p.s2.len),
+                front(&mut rooms.e, p.s3.len),
+                front(&mut rooms.f, p.s4.len),
+            );
+            Outcome {
+                answer: u.answer,
+                kappa: u.ell.kappa,
+                tsq: u.ell.tsq,
+            }
         }
-        NewEllStable::Refused(why) => outcome_of(Update::Refused(why), kappa, tsq),
+        Err(why) => Outcome {
+            answer: Err(why),
+            kappa,
+            tsq,
+        },
     }
 }
 
-// All but the scratch after its first vector.
+// The status where there is one, the ellipsoid, and the scratch.
 fn put_outcome(
-    got: &mut Bytes,
+    got: &mut Got,
     any: bool,
     outcome: Outcome,
     p: Places,
-    xc: &[f64],
-    mq: &[f64],
-    s1: &[f64],
-) -> usize {
-    let answered = outcome.answered;
-    let k = put_answered(got, any, answered);
-    let k = push_float(got, k, outcome.kappa);
-    let k = push_float(got, k, outcome.tsq);
-    let k = push_floats(got, k, xc, p.xc_len);
-    let k = push_floats(got, k, mq, p.mq_len);
-    push_floats(got, k, s1, p.s1_len)
-}
-
-fn replay_ell(
-    any: bool,
-    p: Places,
-    inputs: &[u8],
-    grad: &[f64],
-    got: &mut Bytes,
-    a: &mut Room,
-    b: &mut Room,
-    c: &mut Room,
-) -> Replayed {
-    let outcome = update_ell(inputs, p, grad, a, b, c);
-    let answered = outcome.answered;
-    if !any & (answered.number > 0) {
-        return Replayed::Refused(answered.number);
+    rooms: &mut Rooms,
+) -> Result<(), Unreplayed> {
+    got.refusal(any, &outcome.answer)?;
+    if let Ok(status) = outcome.answer {
+        got.word(u8::from(status) as u64);
     }
-    Replayed::Words(put_outcome(got, any, outcome, p, a, b, c))
+    got.float(outcome.kappa);
+    got.float(outcome.tsq);
+    got.floats(front(&mut rooms.a, p.xc.len));
+    got.floats(front(&mut rooms.b, p.mq.len));
+    got.floats(front(&mut rooms.c, p.s1.len));
+    Ok(())
 }
 
-// Three vectors of scratch have rooms of their own.
-fn replay_stable(
-    any: bool,
-    p: Places,
-    inputs: &[u8],
-    grad: &[f64],
-    got: &mut Bytes,
-    a: &mut Room,
-    b: &mut Room,
-    c: &mut Room,
-) -> Replayed {
-    let mut d = [0.0f64; 65536];
-    let mut e = [0.0f64; 65536];
-    let mut f = [0.0f64; 65536];
-    fill(&mut d, inputs, any, p.s2, p.s2_len);
-    fill(&mut e, inputs, any, p.s3, p.s3_len);
-    fill(&mut f, inputs, any, p.s4, p.s4_len);
-    let outcome = update_stable(inputs, p, grad, a, b, c, &mut d, &mut e, &mut f);
-    let answered = outcome.answered;
-    if !any & (answered.number > 0) {
-        return Replayed::Refused(answered.number);
-    }
-    let k = put_outcome(got, any, outcome, p, a, b, c);
-    let k = push_room(got, k, &d, p.s2_len);
-    let k = push_room(got, k, &e, p.s3_len);
-    Replayed::Words(push_room(got, k, &f, p.s4_len))
+fn put_more_scratch(got: &mut Got, p: Places, rooms: &mut Rooms) {
+    got.floats(front(&mut rooms.d, p.s2.len));
+    got.floats(front(&mut rooms.e, p.s3.len));
+    got.floats(front(&mut rooms.f, p.s4.len));
 }
 
-// The kind of cut is one of three, and the Rust's no_defer_trick, which only operation 60 has, is 0.
-fn is_update(op: u64, inputs: &[u8]) -> bool {
-    if (op == 60) & (word(inputs, 2) > 0) {
-        return false;
-    }
-    word(inputs, 0) < 3
-}
-
+// The Rust's no_defer_trick, which only operation 60 has, is 0.
 pub(crate) fn replay_update(
-    op: u64,
-    ins: usize,
-    inputs: &[u8],
-    floats: &[f64],
-    got: &mut Bytes,
-    a: &mut Room,
-    b: &mut Room,
-    c: &mut Room,
-) -> Replayed {
-    let p = places_of(op, inputs);
-    if (p.end != ins) | !is_update(op, inputs) {
-        return Replayed::Unfit;
+    inputs: &Inputs<'_>,
+    rooms: &mut Rooms,
+    got: &mut Got,
+) -> Result<(), Unreplayed> {
+    let any = inputs.is_any();
+    let p = places_of(inputs);
+    fit(p.end == inputs.count)?;
+    fit((inputs.op != 60) | (inputs.word(2) == 0))?;
+    let how = strategy(inputs.word(0))?;
+    inputs.fill(&mut rooms.a, true, p.xc);
+    inputs.fill(&mut rooms.b, true, p.mq);
+    inputs.fill(&mut rooms.c, any, p.s1);
+    if (inputs.op == 60) | (inputs.op == 119) {
+        let outcome = update_ell(inputs, p, how, rooms);
+        return put_outcome(got, any, outcome, p, rooms);
     }
-    let any = op > 100;
-    fill(a, inputs, true, p.xc, p.xc_len);
-    fill(b, inputs, true, p.mq, p.mq_len);
-    fill(c, inputs, any, p.s1, p.s1_len);
-    let grad = part(floats, p.grad, p.grad_len);
-    if (op == 60) | (op == 119) {
-        return replay_ell(any, p, inputs, grad, got, a, b, c);
-    }
-    replay_stable(any, p, inputs, grad, got, a, b, c)
+    inputs.fill(&mut rooms.d, any, p.s2);
+    inputs.fill(&mut rooms.e, any, p.s3);
+    inputs.fill(&mut rooms.f, any, p.s4);
+    let outcome = update_stable(inputs, p, how, rooms);
+    put_outcome(got, any, outcome, p, rooms)?;
+    put_more_scratch(got, p, rooms);
+    Ok(())
 }
 
-fn made(number: u8, kappa: f64, tsq: f64) -> Answered {
-    answered_words(number, [to_bits(kappa), to_bits(tsq), 0, 0, 0, 0, 0], 2)
+// Kappa and tsq of a new ellipsoid; zeros where it is refused.
+fn put_new(got: &mut Got, new: Result<(f64, f64), Refusal>) -> Result<(), Unreplayed> {
+    got.refusal(true, &new)?;
+    let (kappa, tsq) = new.unwrap_or((0.0, 0.0));
+    got.float(kappa);
+    got.float(tsq);
+    Ok(())
 }
 
-fn answered_new(op: u64, n: usize, kappa: f64) -> Answered {
-    if op == 121 {
+pub(crate) fn replay_new(inputs: &Inputs<'_>, got: &mut Got) -> Result<(), Unreplayed> {
+    fit(inputs.count == 2)?;
+    let n = inputs.size(0);
+    let kappa = inputs.float(1);
+    if inputs.op == 121 {
         let new = Ell::new_with_matrix(n, kappa);
-        return match new {
-            NewEll::Made(ell) => made(new.number(), ell.kappa, ell.tsq),
-            NewEll::Refused(_) => answered_words(new.number(), [0; 7], 2),
-        };
+        return put_new(got, new.map(|ell| (ell.kappa, ell.tsq)));
     }
     let new = EllStable::new_with_matrix(n, kappa);
-    match new {
-        NewEllStable::Made(ell) => made(new.number(), ell.kappa, ell.tsq),
-        NewEllStable::Refused(_) => answered_words(new.number(), [0; 7], 2),
-    }
-}
-
-pub(crate) fn replay_new(
-    op: u64,
-    ins: usize,
-    inputs: &[u8],
-    floats: &[f64],
-    got: &mut Bytes,
-) -> Replayed {
-    if ins != 2 {
-        return Replayed::Unfit;
-    }
-    let answered = answered_new(op, word(inputs, 0) as usize, float(inputs, 1));
-    put_answer(got, true, answered, floats, 0)
+    put_new(got, new.map(|ell| (ell.kappa, ell.tsq)))
 }

@@ -1,111 +1,103 @@
 // Operations 50 to 52 and 115 to 117: factor, witness and quadratic form.
-use crate::answers::{Answered, answered_word, answered_words, put_answer};
-use lists::pushes::Bytes;
-use lists::rooms::{Room, fill, front, part, plus, times};
-use lists::tally::Replayed;
-use lists::words::word;
-use numbers::refusal::{Refusal, number};
-use numbers::bits::to_bits;
-use oracles::ldlt_mgr::{Factored, Pos, factor, sym_quad, witness};
+use lists::inputs::{Inputs, Span, fit};
+use lists::pushes::Got;
+use lists::rooms::{Room, Rooms, front, times};
+use lists::tally::Unreplayed;
+use numbers::refusal::Refusal;
+use oracles::ldlt_mgr::{Pos, factor, sym_quad, witness};
 
-// Two slices, one after the other, and the words of the case up to their end.
+// Two slices, one after the other.
 #[derive(Clone, Copy)]
 struct Places {
-    first: usize,
-    first_len: usize,
-    second: usize,
-    second_len: usize,
-    end: usize,
+    first: Span,
+    second: Span,
 }
 
-fn places_from(first: usize, first_len: usize, second_len: usize) -> Places {
-    let second = plus(first, first_len);
+fn slices_from(at: usize, first: usize, second: usize) -> Places {
+    let first = Span { at, len: first };
     Places {
         first,
-        first_len,
-        second,
-        second_len,
-        end: plus(second, second_len),
+        second: first.then(second),
     }
 }
 
-fn places_of(op: u64, inputs: &[u8]) -> Places {
-    let m = word(inputs, 0) as usize;
+fn places_of(inputs: &Inputs<'_>) -> Places {
+    let m = inputs.size(0);
     let size = times(m, m);
-    match op {
-        50 => places_from(1, size, size),
-        51 => places_from(3, size, m),
-        52 => places_from(3, m, size),
-        115 => places_from(3, word(inputs, 1) as usize, word(inputs, 2) as usize),
-        _ => places_from(5, word(inputs, 3) as usize, word(inputs, 4) as usize),
+    match inputs.op {
+        50 => slices_from(1, size, size),
+        51 => slices_from(3, size, m),
+        52 => slices_from(3, m, size),
+        115 => slices_from(3, inputs.size(1), inputs.size(2)),
+        _ => slices_from(5, inputs.size(3), inputs.size(4)),
     }
 }
 
-fn call_factor(m: usize, mat: &[f64], storage: &mut [f64]) -> Answered {
-    let answer = factor(m, mat, storage);
+// Where a matrix is not definite, 1 and the position at which the factorization stopped.
+fn put_factored(got: &mut Got, answer: Result<Option<Pos>, Refusal>) {
     match answer {
-        Factored::Definite => answered_words(answer.number(), [0; 7], 3),
-        Factored::Stopped(pos) => answered_words(
-            answer.number(),
-            [1, pos.start as u64, pos.end as u64, 0, 0, 0, 0],
-            3,
-        ),
-        Factored::Refused(_) => answered_words(answer.number(), [0; 7], 0),
+        Ok(None) => got.words(&[0; 3]),
+        Ok(Some(pos)) => got.words(&[1, pos.start as u64, pos.end as u64]),
+        Err(_) => {}
     }
 }
 
-// The value is 0 where a call is refused.
-fn value_of(x: Result<f64, Refusal>) -> Answered {
-    match x {
-        Ok(v) => answered_word(number(&x), to_bits(v), 1),
-        Err(_) => answered_word(number(&x), 0, 1),
-    }
+// The slice that the call writes is `kept`.
+fn replay_factor(
+    inputs: &Inputs<'_>,
+    mat: Span,
+    kept: Span,
+    room: &mut Room,
+    got: &mut Got,
+) -> Result<(), Unreplayed> {
+    inputs.fill(room, true, kept);
+    let kept = front(room, kept.len);
+    let answer = factor(inputs.size(0), inputs.part(mat), kept);
+    got.refusal(inputs.is_any(), &answer)?;
+    put_factored(got, answer);
+    got.floats(kept);
+    Ok(())
 }
 
-// The slice that the call writes is at the front of `a`.
-fn call(
-    op: u64,
-    inputs: &[u8],
-    first: &[f64],
-    second: &[f64],
-    a: &mut [f64],
-    len: usize,
-) -> Answered {
-    let kept = front(a, len);
-    let m = word(inputs, 0) as usize;
+// A value is 0 where a call is refused.
+fn replay_value(
+    inputs: &Inputs<'_>,
+    p: Places,
+    room: &mut Room,
+    got: &mut Got,
+) -> Result<(), Unreplayed> {
+    let m = inputs.size(0);
     let pos = Pos {
-        start: word(inputs, 1) as usize,
-        end: word(inputs, 2) as usize,
+        start: inputs.size(1),
+        end: inputs.size(2),
     };
-    match op {
-        50 => call_factor(m, second, kept),
-        115 => call_factor(m, first, kept),
-        51 | 116 => value_of(witness(m, pos, first, kept)),
-        _ => value_of(sym_quad(m, pos, first, second)),
+    let first = inputs.part(p.first);
+    if (inputs.op == 52) | (inputs.op == 117) {
+        let answer = sym_quad(m, pos, first, inputs.part(p.second));
+        got.refusal(inputs.is_any(), &answer)?;
+        got.float(answer.unwrap_or(0.0));
+        return Ok(());
     }
+    inputs.fill(room, true, p.second);
+    let wit = front(room, p.second.len);
+    let answer = witness(m, pos, first, wit);
+    got.refusal(inputs.is_any(), &answer)?;
+    got.float(answer.unwrap_or(0.0));
+    got.floats(wit);
+    Ok(())
 }
 
+// The list has the storage of operation 50 before the matrix.
 pub(crate) fn replay_ldlt(
-    op: u64,
-    ins: usize,
-    inputs: &[u8],
-    floats: &[f64],
-    got: &mut Bytes,
-    a: &mut Room,
-) -> Replayed {
-    let p = places_of(op, inputs);
-    if p.end != ins {
-        return Replayed::Unfit;
+    inputs: &Inputs<'_>,
+    rooms: &mut Rooms,
+    got: &mut Got,
+) -> Result<(), Unreplayed> {
+    let p = places_of(inputs);
+    fit(p.second.end() == inputs.count)?;
+    match inputs.op {
+        50 => replay_factor(inputs, p.second, p.first, &mut rooms.a, got),
+        115 => replay_factor(inputs, p.first, p.second, &mut rooms.a, got),
+        _ => replay_value(inputs, p, &mut rooms.a, got),
     }
-    let at = if op == 50 { p.first } else { p.second };
-    let len = match op {
-        50 => p.first_len,
-        52 | 117 => 0,
-        _ => p.second_len,
-    };
-    fill(a, inputs, true, at, len);
-    let first = part(floats, p.first, p.first_len);
-    let second = part(floats, p.second, p.second_len);
-    let answered = call(op, inputs, first, second, a, len);
-    put_answer(got, op > 100, answered, a, len)
 }

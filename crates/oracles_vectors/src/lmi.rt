@@ -1,66 +1,36 @@
 // Operations 53 and 118: the LMI oracle.
-use crate::answers::{Answered, answered_words, beta0_word, put_answered};
-use lists::pushes::{Bytes, push_floats, push_words};
-use lists::rooms::{Room, fill, front, part, plus, times};
-use lists::tally::Replayed;
-use lists::words::word;
-use oracles::lmi_oracle::{LmiVerdict, assess_feas};
+use crate::answers::put_beta0;
+use lists::inputs::{Inputs, Span, fit};
+use lists::pushes::Got;
+use lists::rooms::{Rooms, front, times};
+use lists::tally::Unreplayed;
+use numbers::refusal::Refusal;
+use oracles::ldlt_mgr::Pos;
+use oracles::lmi_oracle::{LmiCut, assess_feas};
 
-#[derive(Clone, Copy)]
-struct Lengths {
-    mat_b: usize,
-    mat_f: usize,
-    x: usize,
-    storage: usize,
-    wit: usize,
-    grad: usize,
-}
-
-// Where the slices begin, and where the last one ends.
+// Where the slices stand, and where the case ends.
 #[derive(Clone, Copy)]
 struct Places {
-    mat_b: usize,
-    mat_f: usize,
-    x: usize,
-    storage: usize,
-    wit: usize,
-    grad: usize,
+    mat_b: Span,
+    mat_f: Span,
+    x: Span,
+    storage: Span,
+    wit: Span,
+    grad: Span,
     end: usize,
 }
 
-// The lengths that m and n say.
-fn right(m: usize, n: usize) -> Lengths {
+// The lengths that m and n say; the gradient is not given.
+fn places_legal(inputs: &Inputs<'_>) -> Places {
+    let m = inputs.size(0);
+    let n = inputs.size(1);
     let size = times(m, m);
-    Lengths {
-        mat_b: size,
-        mat_f: times(n, size),
-        x: n,
-        storage: size,
-        wit: m,
-        grad: n,
-    }
-}
-
-// The lengths that the case says, in words 2 to 7.
-fn any_lengths(inputs: &[u8]) -> Lengths {
-    Lengths {
-        mat_b: word(inputs, 2) as usize,
-        mat_f: word(inputs, 3) as usize,
-        x: word(inputs, 4) as usize,
-        storage: word(inputs, 5) as usize,
-        wit: word(inputs, 6) as usize,
-        grad: word(inputs, 7) as usize,
-    }
-}
-
-fn places_of(any: bool, l: Lengths) -> Places {
-    let mat_b = if any { 8 } else { 2 };
-    let mat_f = plus(mat_b, l.mat_b);
-    let x = plus(mat_f, l.mat_f);
-    let storage = plus(x, l.x);
-    let wit = plus(storage, l.storage);
-    let grad = plus(wit, l.wit);
-    let end = if any { plus(grad, l.grad) } else { grad };
+    let mat_b = Span { at: 2, len: size };
+    let mat_f = mat_b.then(times(n, size));
+    let x = mat_f.then(n);
+    let storage = x.then(size);
+    let wit = storage.then(m);
+    let grad = wit.then(n);
     Places {
         mat_b,
         mat_f,
@@ -68,108 +38,87 @@ fn places_of(any: bool, l: Lengths) -> Places {
         storage,
         wit,
         grad,
-        end,
+        end: grad.at,
     }
 }
 
-// Where the operation has no lengths of its own, a cut's gradient stands before the position, and only the first two words before that.
-fn answered_of(any: bool, verdict: LmiVerdict) -> Answered {
-    match verdict {
-        LmiVerdict::Feasible => answered_words(verdict.number(), [0; 7], 3),
-        LmiVerdict::Cut(pos, beta) => {
-            let words = [
-                1,
-                beta0_word(beta),
-                pos.start as u64,
-                pos.end as u64,
-                0,
-                0,
-                0,
-            ];
-            answered_words(verdict.number(), words, if any { 4 } else { 2 })
+// The lengths that the case says, in words 2 to 7.
+fn places_any(inputs: &Inputs<'_>) -> Places {
+    let mat_b = Span {
+        at: 8,
+        len: inputs.size(2),
+    };
+    let mat_f = mat_b.then(inputs.size(3));
+    let x = mat_f.then(inputs.size(4));
+    let storage = x.then(inputs.size(5));
+    let wit = storage.then(inputs.size(6));
+    let grad = wit.then(inputs.size(7));
+    Places {
+        mat_b,
+        mat_f,
+        x,
+        storage,
+        wit,
+        grad,
+        end: grad.end(),
+    }
+}
+
+fn put_pos(got: &mut Got, pos: Pos) {
+    got.word(pos.start as u64);
+    got.word(pos.end as u64);
+}
+
+// Where the operation has no lengths of its own, a cut's gradient stands before the position; else after the words, whatever they are.
+fn put_verdict(got: &mut Got, any: bool, answer: Result<Option<LmiCut>, Refusal>, grad: &[f64]) {
+    match answer {
+        Ok(None) => got.words(&[0; 3]),
+        Ok(Some(cut)) => {
+            got.word(1);
+            put_beta0(got, cut.beta);
+            if !any {
+                got.floats(grad);
+            }
+            put_pos(got, cut.pos);
         }
-        LmiVerdict::Refused(_) => answered_words(verdict.number(), [0; 7], 0),
+        Err(_) => {}
     }
-}
-
-// The gradient that an answer shows, with the position after it where that is not given.
-fn push_gradient(
-    got: &mut Bytes,
-    k: usize,
-    any: bool,
-    answered: Answered,
-    grad: &[f64],
-    len: usize,
-) -> usize {
-    let is_late = answered.len == 2;
-    let shown = if any | is_late { len } else { 0 };
-    let words = answered.words;
-    let k = push_floats(got, k, grad, shown);
-    push_words(got, k, &words, 2, if is_late { 4 } else { 2 })
-}
-
-fn put_all(
-    any: bool,
-    answered: Answered,
-    l: Lengths,
-    storage: &[f64],
-    wit: &[f64],
-    grad: &[f64],
-    got: &mut Bytes,
-) -> Replayed {
-    if !any & (answered.number > 0) {
-        return Replayed::Refused(answered.number);
+    if any {
+        got.floats(grad);
     }
-    let k = put_answered(got, any, answered);
-    let k = push_gradient(got, k, any, answered, grad, l.grad);
-    let k = push_floats(got, k, storage, l.storage);
-    Replayed::Words(push_floats(got, k, wit, l.wit))
-}
-
-fn call(
-    any: bool,
-    l: Lengths,
-    p: Places,
-    inputs: &[u8],
-    floats: &[f64],
-    a: &mut [f64],
-    b: &mut [f64],
-    c: &mut [f64],
-) -> Answered {
-    let m = word(inputs, 0) as usize;
-    let n = word(inputs, 1) as usize;
-    let mat_b = part(floats, p.mat_b, l.mat_b);
-    let mat_f = part(floats, p.mat_f, l.mat_f);
-    let x = part(floats, p.x, l.x);
-    let storage = front(a, l.storage);
-    let wit = front(b, l.wit);
-    let grad = front(c, l.grad);
-    answered_of(any, assess_feas(m, n, mat_b, mat_f, x, storage, wit, grad))
 }
 
 pub(crate) fn replay_lmi(
-    op: u64,
-    ins: usize,
-    inputs: &[u8],
-    floats: &[f64],
-    got: &mut Bytes,
-    a: &mut Room,
-    b: &mut Room,
-    c: &mut Room,
-) -> Replayed {
-    let any = op == 118;
-    let l = if any {
-        any_lengths(inputs)
+    inputs: &Inputs<'_>,
+    rooms: &mut Rooms,
+    got: &mut Got,
+) -> Result<(), Unreplayed> {
+    let any = inputs.is_any();
+    let p = if any {
+        places_any(inputs)
     } else {
-        right(word(inputs, 0) as usize, word(inputs, 1) as usize)
+        places_legal(inputs)
     };
-    let p = places_of(any, l);
-    if p.end != ins {
-        return Replayed::Unfit;
-    }
-    fill(a, inputs, true, p.storage, l.storage);
-    fill(b, inputs, true, p.wit, l.wit);
-    fill(c, inputs, any, p.grad, l.grad);
-    let answered = call(any, l, p, inputs, floats, a, b, c);
-    put_all(any, answered, l, a, b, c, got)
+    fit(p.end == inputs.count)?;
+    inputs.fill(&mut rooms.a, true, p.storage);
+    inputs.fill(&mut rooms.b, true, p.wit);
+    inputs.fill(&mut rooms.c, any, p.grad);
+    let storage = front(&mut rooms.a, p.storage.len);
+    let wit = front(&mut rooms.b, p.wit.len);
+    let grad = front(&mut rooms.c, p.grad.len);
+    let answer = assess_feas(
+        inputs.size(0),
+        inputs.size(1),
+        inputs.part(p.mat_b),
+        inputs.part(p.mat_f),
+        inputs.part(p.x),
+        storage,
+        wit,
+        grad,
+    );
+    got.refusal(any, &answer)?;
+    put_verdict(got, any, answer, grad);
+    got.floats(storage);
+    got.floats(wit);
+    Ok(())
 }

@@ -1,174 +1,195 @@
 // Operations 42, 43, 113 and 114: the lowpass oracle.
-use crate::answers::{
-    Answered, answered_word, answered_words, beta0_word, beta1_word, put_answered,
-};
-use crate::oracle_state::{Places, is_state, oracle_of, places_any, places_legal, state_words};
-use lists::pushes::{Bytes, push, push_floats, push_words};
-use lists::rooms::{Room, fill, front, part};
-use lists::tally::Replayed;
-use lists::words::{float, word};
-use numbers::bits::to_bits;
-use numbers::cut::CutChoice;
-use oracles::lowpass_oracle::{Group, LowpassOracle, OptimVerdict, Verdict};
+use crate::answers::put_betas;
+use lists::inputs::{Inputs, Span, fit};
+use lists::pushes::Got;
+use lists::rooms::{Rooms, front, plus, times};
+use lists::state::State;
+use lists::tally::Unreplayed;
+use numbers::refusal::Refusal;
+use oracles::lowpass_oracle::{Cut, Group, LowpassOracle, OptimVerdict};
 
-// The outcome of a call: its verdict, and gamma and the state.
+// Where the slices and the state stand, where gamma stands if there is one, and where the case ends.
 #[derive(Clone, Copy)]
-struct Outcome {
-    answered: Answered,
-    rest: [u64; 17],
+struct Places {
+    table: Span,
+    x: Span,
+    grad: Span,
+    gamma: usize,
+    state: State,
+    end: usize,
 }
 
-// The row of a group that has one.
+// Operations 42 and 43; `more` is gamma's one word, or 0. The gradient is not given.
+fn places_legal(inputs: &Inputs<'_>, more: usize) -> Places {
+    let n = inputs.size(0);
+    let table = Span {
+        at: 7,
+        len: times(inputs.size(1), n),
+    };
+    let state = table.then(10);
+    let x = state.then(n);
+    let gamma = x.then(more);
+    Places {
+        table,
+        x,
+        grad: Span { at: 0, len: n },
+        gamma: gamma.at,
+        state: State::legal(state.at),
+        end: gamma.end(),
+    }
+}
+
+// Operations 113 and 114: words 2 to 4 have the lengths.
+fn places_any(inputs: &Inputs<'_>, more: usize) -> Places {
+    let table = Span {
+        at: plus(25, more),
+        len: inputs.size(2),
+    };
+    let x = table.then(inputs.size(3));
+    let grad = x.then(inputs.size(4));
+    Places {
+        table,
+        x,
+        grad,
+        gamma: 25,
+        state: State::any(5),
+        end: grad.end(),
+    }
+}
+
+fn places_of(inputs: &Inputs<'_>, more: usize) -> Places {
+    if inputs.is_any() {
+        return places_any(inputs, more);
+    }
+    places_legal(inputs, more)
+}
+
+// All ones for the group that has no row.
 fn row_word(group: Group) -> u64 {
     match group {
-        Group::Pass(row, _) => row as u64,
-        Group::Stop(row, _) => row as u64,
-        Group::Middle(row) => row as u64,
+        Group::Pass(row, _) | Group::Stop(row, _) | Group::Middle(row) => row as u64,
         Group::Sign => u64::MAX,
     }
 }
 
-// The group, its row and side, and the betas; gamma where it is given.
-fn cut(verdict: u8, group: Group, beta: CutChoice, any: bool, gamma: u64) -> Answered {
-    let b0 = beta0_word(beta);
-    let b1 = beta1_word(beta);
-    let len = if any { 7 } else { 6 };
-    let number = group.number() as u64;
-    let side = group.is_over() as u64;
-    answered_words(
-        verdict,
-        [1, number, row_word(group), side, b0, b1, gamma],
-        len,
-    )
+// The group, its row and side, and the betas.
+fn put_cut(got: &mut Got, cut: Cut) {
+    let group = cut.group;
+    got.word(1);
+    got.word(group.number() as u64);
+    got.word(row_word(group));
+    got.word(group.is_over() as u64);
+    put_betas(got, cut.beta);
 }
 
-fn answered_feas(verdict: Verdict) -> Answered {
-    match verdict {
-        Verdict::Feasible => answered_words(verdict.number(), [0; 7], 1),
-        Verdict::Cut(group, beta) => cut(verdict.number(), group, beta, false, 0),
-        Verdict::Refused(_) => answered_words(verdict.number(), [0; 7], 0),
+// The cursors' bands stand where they are given.
+fn put_oracle(got: &mut Got, any: bool, oracle: LowpassOracle) {
+    got.state(oracle);
+    if any {
+        got.bands(oracle);
     }
 }
 
-fn answered_optim(verdict: OptimVerdict, any: bool, gamma: u64) -> Answered {
-    match verdict {
-        OptimVerdict::Improved(beta) => {
-            let words = [2, beta0_word(beta), beta1_word(beta), gamma, 0, 0, 0];
-            answered_words(verdict.number(), words, if any { 4 } else { 3 })
+// Operation 42 shows no gradient of a feasible point.
+fn put_feas(got: &mut Got, any: bool, answer: Result<Option<Cut>, Refusal>, grad: &[f64]) {
+    match answer {
+        Ok(None) => got.word(0),
+        Ok(Some(cut)) => {
+            put_cut(got, cut);
+            if !any {
+                got.floats(grad);
+            }
         }
-        OptimVerdict::Cut(group, beta) => cut(verdict.number(), group, beta, any, gamma),
-        OptimVerdict::Refused(_) => answered_word(verdict.number(), gamma, 1),
+        Err(_) => {}
+    }
+    if any {
+        got.floats(grad);
     }
 }
 
-fn feas(
-    oracle: LowpassOracle,
-    inputs: &[u8],
-    table: &[f64],
-    x: &[f64],
-    grad: &mut [f64],
-) -> Outcome {
-    let n = word(inputs, 0) as usize;
-    let rows = word(inputs, 1) as usize;
-    let done = oracle.assess_feas(n, rows, table, x, grad);
-    let after = done.oracle;
-    let verdict = done.verdict;
-    Outcome {
-        answered: answered_feas(verdict),
-        rest: state_words(after, 0),
+fn put_optim(got: &mut Got, answer: Result<OptimVerdict, Refusal>) {
+    match answer {
+        Ok(OptimVerdict::Improved(beta)) => {
+            got.word(2);
+            put_betas(got, beta);
+        }
+        Ok(OptimVerdict::Cut(cut)) => put_cut(got, cut),
+        Err(_) => {}
     }
 }
 
-fn optim(
-    any: bool,
-    oracle: LowpassOracle,
-    gamma: f64,
-    inputs: &[u8],
-    table: &[f64],
-    x: &[f64],
-    grad: &mut [f64],
-) -> Outcome {
-    let n = word(inputs, 0) as usize;
-    let rows = word(inputs, 1) as usize;
-    let done = oracle.assess_optim(gamma, n, rows, table, x, grad);
-    let after = done.oracle;
-    let verdict = done.verdict;
-    let better = to_bits(done.gamma);
-    Outcome {
-        answered: answered_optim(verdict, any, better),
-        rest: state_words(after, better),
-    }
-}
-
-// Operation 42 shows no gradient of a feasible point. Gamma stands before the gradient where it is given, and in operation 43 after it. The cursors' bands stand where they are given.
-fn put_outcome(got: &mut Bytes, op: u64, outcome: Outcome, grad: &[f64], len: usize) -> usize {
-    let answered = outcome.answered;
-    let rest = outcome.rest;
-    let shown = if (op > 100) | (answered.len > 1) {
-        len
+// Gamma stands before the gradient where it is given, and in operation 43 after it.
+fn put_gamma(got: &mut Got, any: bool, gamma: f64, grad: &[f64]) {
+    if any {
+        got.float(gamma);
+        got.floats(grad);
     } else {
-        0
-    };
-    let k = put_answered(got, op > 100, answered);
-    let k = push_floats(got, k, grad, shown);
-    let from = if op == 43 { 0 } else { 1 };
-    push_words(got, k, &rest, from, if op > 100 { 17 } else { 11 })
+        got.floats(grad);
+        got.float(gamma);
+    }
+}
+
+fn replay_feas(
+    inputs: &Inputs<'_>,
+    p: Places,
+    grad: &mut [f64],
+    got: &mut Got,
+) -> Result<(), Unreplayed> {
+    let any = inputs.is_any();
+    let n = inputs.size(0);
+    let rows = inputs.size(1);
+    let table = inputs.part(p.table);
+    let x = inputs.part(p.x);
+    let done = p.state.oracle(inputs).assess_feas(n, rows, table, x, grad);
+    let answer = done.verdict;
+    got.refusal(any, &answer)?;
+    put_feas(got, any, answer, grad);
+    put_oracle(got, any, done.oracle);
+    Ok(())
 }
 
 // In operation 43 refusal 6 is the word 3 alone.
-fn put_refused(got: &mut Bytes, op: u64, number: u8) -> Replayed {
-    if (op == 43) & (number == 6) {
-        return Replayed::Words(push(got, 0, 3));
+fn replay_optim(
+    inputs: &Inputs<'_>,
+    p: Places,
+    grad: &mut [f64],
+    got: &mut Got,
+) -> Result<(), Unreplayed> {
+    let any = inputs.is_any();
+    let n = inputs.size(0);
+    let rows = inputs.size(1);
+    let table = inputs.part(p.table);
+    let x = inputs.part(p.x);
+    let gamma = inputs.float(p.gamma);
+    let done = p
+        .state
+        .oracle(inputs)
+        .assess_optim(gamma, n, rows, table, x, grad);
+    let answer = done.verdict;
+    if let (false, Err(Refusal::NoStopValue)) = (any, answer) {
+        got.word(3);
+        return Ok(());
     }
-    Replayed::Refused(number)
-}
-
-// The gradient is at the front of `a`.
-fn call(op: u64, p: Places, inputs: &[u8], floats: &[f64], a: &mut [f64]) -> Outcome {
-    let grad = front(a, p.grad_len);
-    let oracle = oracle_of(op > 100, inputs, p);
-    let table = part(floats, p.table, p.table_len);
-    let x = part(floats, p.x, p.x_len);
-    if (op == 42) | (op == 113) {
-        return feas(oracle, inputs, table, x, grad);
-    }
-    optim(
-        op == 114,
-        oracle,
-        float(inputs, p.gamma),
-        inputs,
-        table,
-        x,
-        grad,
-    )
+    got.refusal(any, &answer)?;
+    put_optim(got, answer);
+    put_gamma(got, any, done.gamma, grad);
+    put_oracle(got, any, done.oracle);
+    Ok(())
 }
 
 pub(crate) fn replay_lowpass(
-    op: u64,
-    ins: usize,
-    inputs: &[u8],
-    floats: &[f64],
-    got: &mut Bytes,
-    a: &mut Room,
-) -> Replayed {
-    let any = op > 100;
-    let more = if (op == 42) | (op == 113) { 0 } else { 1 };
-    let p = if any {
-        places_any(inputs, more)
-    } else {
-        places_legal(inputs, more)
-    };
-    if p.end != ins {
-        return Replayed::Unfit;
+    inputs: &Inputs<'_>,
+    rooms: &mut Rooms,
+    got: &mut Got,
+) -> Result<(), Unreplayed> {
+    let is_feas = (inputs.op == 42) | (inputs.op == 113);
+    let p = places_of(inputs, if is_feas { 0 } else { 1 });
+    fit(p.end == inputs.count)?;
+    p.state.check(inputs)?;
+    inputs.fill(&mut rooms.a, inputs.is_any(), p.grad);
+    let grad = front(&mut rooms.a, p.grad.len);
+    if is_feas {
+        return replay_feas(inputs, p, grad, got);
     }
-    if !is_state(inputs, p) {
-        return Replayed::Unfit;
-    }
-    fill(a, inputs, any, p.grad, p.grad_len);
-    let outcome = call(op, p, inputs, floats, a);
-    let answered = outcome.answered;
-    if !any & (answered.number > 0) {
-        return put_refused(got, op, answered.number);
-    }
-    Replayed::Words(put_outcome(got, op, outcome, a, p.grad_len))
+    replay_optim(inputs, p, grad, got)
 }

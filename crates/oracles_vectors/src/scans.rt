@@ -1,95 +1,92 @@
 // Operations 41 and 112: the scan of one band.
-use crate::answers::{Answered, answered_word, answered_words, put_answer};
-use crate::cursors::cursor_at;
-use lists::pushes::Bytes;
-use lists::rooms::{part, plus, times};
-use lists::signed::{all_signed, word_of};
-use lists::tally::Replayed;
-use lists::words::{float, word};
-use numbers::bits::{of_bits, to_bits};
-use oracles::scan::{Scan, ScanAnswer, Upper, Violation};
+use lists::inputs::{Inputs, Span, fit};
+use lists::pushes::Got;
+use lists::rooms::{plus, times};
+use lists::signed::word_of;
+use lists::state::cursor_at;
+use lists::tally::Unreplayed;
+use oracles::scan::{Scan, Violation};
 use oracles::scan_band::scan_at;
 
-// All ones stand for an absent upper limit.
-fn upper_of(w: u64) -> Upper {
-    if w == u64::MAX {
-        Upper::Absent
-    } else {
-        Upper::Limit(of_bits(w))
-    }
+// The table and the point, where the words of the cursor and the limits begin, and where the case ends.
+#[derive(Clone, Copy)]
+struct Places {
+    table: Span,
+    x: Span,
+    cursor: usize,
+    end: usize,
 }
 
-// The words of a violation or of none, then those of every scan, then the cursor.
-fn scanned(number: u8, scan: Scan, cur: i32) -> Answered {
-    let fmax = to_bits(scan.fmax);
-    let kmax = word_of(scan.kmax);
-    let last = word_of(scan.last);
-    let after = word_of(cur);
-    let viol = scan.viol;
-    match viol {
-        Violation::Nothing => answered_words(
-            number,
-            [u64::MAX, u64::MAX, u64::MAX, fmax, kmax, last, after],
-            7,
-        ),
-        Violation::Broken(row, value, is_over) => answered_words(
-            number,
-            [
-                row as u64,
-                to_bits(value),
-                is_over as u64,
-                fmax,
-                kmax,
-                last,
-                after,
-            ],
-            7,
-        ),
+fn places_of(inputs: &Inputs<'_>) -> Places {
+    let n = inputs.size(0);
+    let rows = inputs.size(1);
+    if inputs.is_any() {
+        let table = Span {
+            at: 9,
+            len: inputs.size(2),
+        };
+        let x = table.then(inputs.size(3));
+        return Places {
+            table,
+            x,
+            cursor: 4,
+            end: x.end(),
+        };
     }
-}
-
-// Words k to k + 4 have the cursor and the limits.
-fn scan_case(inputs: &[u8], k: usize, table: &[f64], x: &[f64]) -> Answered {
-    let n = word(inputs, 0) as usize;
-    let rows = word(inputs, 1) as usize;
-    let lower = float(inputs, k.wrapping_add(3));
-    let upper = upper_of(word(inputs, k.wrapping_add(4)));
-    let end = scan_at(n, rows, table, x, cursor_at(inputs, k), lower, upper);
-    let after = end.cursor;
-    let answer = end.answer;
-    match answer {
-        ScanAnswer::Scanned(scan) => scanned(answer.number(), scan, after.cur),
-        ScanAnswer::Refused(_) => answered_word(answer.number(), word_of(after.cur), 1),
-    }
-}
-
-pub(crate) fn replay_scan(
-    op: u64,
-    ins: usize,
-    inputs: &[u8],
-    floats: &[f64],
-    got: &mut Bytes,
-) -> Replayed {
-    let any = op == 112;
-    let n = word(inputs, 0) as usize;
-    let rows = word(inputs, 1) as usize;
-    let lt = if any {
-        word(inputs, 2) as usize
-    } else {
-        times(rows, n)
+    let table = Span {
+        at: 2,
+        len: times(rows, n),
     };
-    let lx = if any { word(inputs, 3) as usize } else { n };
-    // The table begins here, the words of the cursor and the limits at k.
-    let from = if any { 9 } else { 2 };
-    let x_at = plus(from, lt);
-    let end = plus(x_at, lx);
-    let k = if any { 4 } else { end };
-    if (if any { end } else { plus(end, 5) }) != ins {
-        return Replayed::Unfit;
+    let x = table.then(n);
+    Places {
+        table,
+        x,
+        cursor: x.end(),
+        end: plus(x.end(), 5),
     }
-    if !all_signed(inputs, k, k.wrapping_add(3)) {
-        return Replayed::Unfit;
+}
+
+// The words of a violation or of none, then those of every scan.
+fn put_scan(got: &mut Got, scan: Scan) {
+    match scan.viol {
+        None => got.words(&[u64::MAX; 3]),
+        Some(
+            Violation {
+                row,
+                value,
+                is_over,
+            },
+        ) => {
+            got.word(row as u64);
+            got.float(value);
+            got.word(is_over as u64);
+        }
     }
-    let answered = scan_case(inputs, k, part(floats, from, lt), part(floats, x_at, lx));
-    put_answer(got, any, answered, floats, 0)
+    got.float(scan.fmax);
+    got.word(word_of(scan.kmax));
+    got.word(word_of(scan.last));
+}
+
+// The cursor's and the limits' words are five.
+pub(crate) fn replay_scan(inputs: &Inputs<'_>, got: &mut Got) -> Result<(), Unreplayed> {
+    let p = places_of(inputs);
+    let k = p.cursor;
+    fit(p.end == inputs.count)?;
+    inputs.all_signed(k, k.wrapping_add(3))?;
+    let scanned = scan_at(
+        inputs.size(0),
+        inputs.size(1),
+        inputs.part(p.table),
+        inputs.part(p.x),
+        cursor_at(inputs, k),
+        inputs.float(k.wrapping_add(3)),
+        inputs.optional(k.wrapping_add(4)),
+    );
+    let answer = scanned.answer;
+    got.refusal(inputs.is_any(), &answer)?;
+    if let Ok(scan) = answer {
+        put_scan(got, scan);
+    }
+    got.word(word_of(scanned.cursor.cur));
+    Ok(())
 }

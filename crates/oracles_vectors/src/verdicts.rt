@@ -1,91 +1,79 @@
 // Operation 130: the verdicts on one point from every legal place of the three cursors.
 ghost use Rattle.std.specs.Prelude.{◌≤◌};
 
-use lists::pushes::{Bytes, push};
-use lists::rooms::{Room, front, part, plus, times};
-use lists::signed::{all_signed, signed};
-use lists::tally::Replayed;
-use lists::words::{float, word};
+use lists::inputs::{Inputs, Span, fit};
+use lists::pushes::Got;
+use lists::rooms::{Rooms, front, times};
+use lists::signed::signed;
+use lists::tally::Unreplayed;
 use numbers::bits::of_bits;
 use numbers::refusal::Refusal;
-use oracles::lowpass_oracle::{Group, LowpassOracle, OptimVerdict, Verdict};
+use oracles::lowpass_oracle::{Group, LowpassOracle, OptimVerdict};
 use oracles::round_robin::RoundRobin;
 
 // A group's number, 4 for feasible, or 16 and a refusal's number; the largest stop value where there is one.
-#[derive(Clone, Copy)]
+#[derive(Clone, Copy, PartialEq)]
 struct Seen {
     verdict: u64,
-    has_peak: bool,
-    peak: f64,
+    peak: Option<f64>,
 }
 
+// Of both assessments.
 #[derive(Clone, Copy)]
-struct Agreeing {
-    feas: u64,
-    optim: u64,
+struct Both {
+    feas: Seen,
+    optim: Seen,
 }
 
-fn broken(group: Group) -> Seen {
-    Seen {
-        verdict: group.number() as u64,
-        has_peak: false,
-        peak: 0.0,
-    }
+// Where the table and the point stand.
+#[derive(Clone, Copy)]
+struct Places {
+    table: Span,
+    x: Span,
 }
 
-// Refusal 6 counts as feasible, without a peak.
-fn refused(why: Refusal) -> Seen {
-    let number = u8::from(why) as u64;
-    Seen {
-        verdict: if number == 6 {
-            4
-        } else {
-            16u64.wrapping_add(number)
-        },
-        has_peak: false,
-        peak: 0.0,
+impl Seen {
+    // Refusal 6 counts as feasible, without a peak.
+    fn of(answer: Result<Option<Group>, Refusal>, peak: f64) -> Seen {
+        match answer {
+            Ok(None) => Seen {
+                verdict: 4,
+                peak: Some(peak),
+            },
+            Ok(Some(group)) => Seen {
+                verdict: group.number() as u64,
+                peak: None,
+            },
+            Err(Refusal::NoStopValue) => Seen {
+                verdict: 4,
+                peak: None,
+            },
+            Err(why) => Seen {
+                verdict: 16 + u8::from(why) as u64,
+                peak: None,
+            },
+        }
     }
-}
-
-fn same(a: Seen, b: Seen) -> bool {
-    if a.verdict != b.verdict {
-        return false;
-    }
-    if !a.has_peak {
-        return !b.has_peak;
-    }
-    b.has_peak & (a.peak == b.peak)
-}
-
-fn one_if(b: bool) -> u64 {
-    if b { 1 } else { 0 }
 }
 
 // How many places a cursor of the band has; 1 for a band that no call takes.
-fn places(lo: u64, hi: u64) -> u64
-    ensures { (1 ≤ result) × (result ≤ 1025) }
+fn places_in(lo: u64, hi: u64) -> u64
+    ensures { 1 ≤ result }
 {
-    if hi < lo {
-        return 1;
+    match hi.checked_sub(lo) {
+        Some(rows) if rows <= 1024 => rows + 1,
+        _ => 1,
     }
-    if hi - lo > 1024 {
-        return 1;
-    }
-    hi - lo + 1
-}
-
-fn product(a: u64, b: u64, c: u64) -> u64
-    requires { (a ≤ 1025) × (b ≤ 1025) × (c ≤ 1025) }
-{
-    a * b * c
 }
 
 // How many places the three cursors have together.
-fn positions(inputs: &[u8]) -> u64 {
-    let a = places(0, word(inputs, 2));
-    let b = places(word(inputs, 2), word(inputs, 3));
-    let c = places(word(inputs, 3), word(inputs, 1));
-    product(a, b, c)
+fn positions(inputs: &Inputs<'_>) -> u64 {
+    let nwpass = inputs.word(2);
+    let nwstop = inputs.word(3);
+    let a = places_in(0, nwpass);
+    let b = places_in(nwpass, nwstop);
+    let c = places_in(nwstop, inputs.word(1));
+    a.saturating_mul(b).saturating_mul(c)
 }
 
 // A cursor that has given `i` rows of its band.
@@ -98,20 +86,20 @@ fn cursor_after(lo: u64, hi: u64, i: u64) -> RoundRobin {
 }
 
 // The oracle with its cursors at position p, fresh ones at position 0. What else the state has changes with p, since nothing of it is read.
-fn oracle_at(inputs: &[u8], p: u64) -> LowpassOracle {
-    let nwpass = word(inputs, 2);
-    let nwstop = word(inputs, 3);
-    let rows = word(inputs, 1);
-    let b = places(nwpass, nwstop);
-    let c = places(nwstop, rows);
+fn oracle_at(inputs: &Inputs<'_>, p: u64) -> LowpassOracle {
+    let nwpass = inputs.word(2);
+    let nwstop = inputs.word(3);
+    let rows = inputs.word(1);
+    let b = places_in(nwpass, nwstop);
+    let c = places_in(nwstop, rows);
     LowpassOracle {
         more_alt: p % 2 == 1,
         idx1: signed(p),
         nwpass: signed(nwpass),
         nwstop: signed(nwstop),
-        lp_sq: float(inputs, 4),
-        up_sq: float(inputs, 5),
-        sp_sq: float(inputs, 6),
+        lp_sq: inputs.float(4),
+        up_sq: inputs.float(5),
+        sp_sq: inputs.float(6),
         idx2: signed(3u64.wrapping_sub(p)),
         idx3: signed(p.wrapping_sub(5)),
         fmax: of_bits(0x7FF0_0000_0000_0001_u64.wrapping_sub(p)),
@@ -122,108 +110,71 @@ fn oracle_at(inputs: &[u8], p: u64) -> LowpassOracle {
     }
 }
 
-fn by_feas(p: u64, inputs: &[u8], table: &[f64], x: &[f64], grad: &mut [f64]) -> Seen {
-    let n = word(inputs, 0) as usize;
-    let rows = word(inputs, 1) as usize;
-    let done = oracle_at(inputs, p).assess_feas(n, rows, table, x, grad);
-    let oracle = done.oracle;
-    let verdict = done.verdict;
+fn by_feas(inputs: &Inputs<'_>, p: Places, oracle: LowpassOracle, grad: &mut [f64]) -> Seen {
+    let table = inputs.part(p.table);
+    let x = inputs.part(p.x);
+    let done = oracle.assess_feas(inputs.size(0), inputs.size(1), table, x, grad);
+    let answer = done.verdict;
+    Seen::of(answer.map(|cut| cut.map(|c| c.group)), done.oracle.fmax)
+}
+
+fn broken(verdict: OptimVerdict) -> Option<Group> {
     match verdict {
-        Verdict::Feasible => Seen {
-            verdict: 4,
-            has_peak: true,
-            peak: oracle.fmax,
-        },
-        Verdict::Cut(group, _) => broken(group),
-        Verdict::Refused(why) => refused(why),
+        OptimVerdict::Improved(_) => None,
+        OptimVerdict::Cut(cut) => Some(cut.group),
     }
 }
 
-fn by_optim(p: u64, inputs: &[u8], table: &[f64], x: &[f64], grad: &mut [f64]) -> Seen {
-    let n = word(inputs, 0) as usize;
-    let rows = word(inputs, 1) as usize;
-    let gamma = float(inputs, 7);
-    let done = oracle_at(inputs, p).assess_optim(gamma, n, rows, table, x, grad);
-    let oracle = done.oracle;
-    let verdict = done.verdict;
-    match verdict {
-        OptimVerdict::Improved(_) => Seen {
-            verdict: 4,
-            has_peak: true,
-            peak: oracle.fmax,
-        },
-        OptimVerdict::Cut(group, _) => broken(group),
-        OptimVerdict::Refused(why) => refused(why),
+fn by_optim(inputs: &Inputs<'_>, p: Places, oracle: LowpassOracle, grad: &mut [f64]) -> Seen {
+    let table = inputs.part(p.table);
+    let x = inputs.part(p.x);
+    let gamma = inputs.float(7);
+    let done = oracle.assess_optim(gamma, inputs.size(0), inputs.size(1), table, x, grad);
+    let answer = done.verdict;
+    Seen::of(answer.map(broken), done.oracle.fmax)
+}
+
+fn both_at(inputs: &Inputs<'_>, p: Places, position: u64, grad: &mut [f64]) -> Both {
+    let oracle = oracle_at(inputs, position);
+    Both {
+        feas: by_feas(inputs, p, oracle, grad),
+        optim: by_optim(inputs, p, oracle, grad),
     }
 }
 
-// In how many of so many positions the verdicts are these.
-fn count_agreeing(
-    count: u64,
-    feas: Seen,
-    optim: Seen,
-    inputs: &[u8],
-    table: &[f64],
-    x: &[f64],
+// The count of positions, and of each verdict at the first one in how many positions it is the same.
+fn put_verdicts(
+    inputs: &Inputs<'_>,
+    p: Places,
     grad: &mut [f64],
-) -> Agreeing {
-    let mut by_f = 0u64;
-    let mut by_o = 0u64;
-    let mut p = 0;
-    while p < count {
-        let f = by_feas(p, inputs, table, x, grad);
-        let o = by_optim(p, inputs, table, x, grad);
-        by_f = by_f.wrapping_add(one_if(same(f, feas)));
-        by_o = by_o.wrapping_add(one_if(same(o, optim)));
-        p += 1;
-    }
-    Agreeing {
-        feas: by_f,
-        optim: by_o,
-    }
-}
-
-fn call_verdicts(
-    inputs: &[u8],
-    table: &[f64],
-    x: &[f64],
-    a: &mut [f64],
-    n: usize,
-    got: &mut Bytes,
-) -> Replayed {
-    let grad = front(a, n);
-    let feas = by_feas(0, inputs, table, x, grad);
-    if feas.verdict > 16 {
-        return Replayed::Unfit;
-    }
-    let optim = by_optim(0, inputs, table, x, grad);
+    got: &mut Got,
+) -> Result<(), Unreplayed> {
+    let first = both_at(inputs, p, 0, grad);
+    fit(first.feas.verdict <= 16)?;
     let count = positions(inputs);
-    let found = count_agreeing(count, feas, optim, inputs, table, x, grad);
-    push(got, 0, count);
-    push(got, 1, feas.verdict);
-    push(got, 2, found.feas);
-    push(got, 3, optim.verdict);
-    push(got, 4, found.optim);
-    Replayed::Words(5)
+    let mut feas = 0u64;
+    let mut optim = 0u64;
+    for position in 0..count {
+        let here = both_at(inputs, p, position, grad);
+        feas = feas.wrapping_add(u64::from(here.feas == first.feas));
+        optim = optim.wrapping_add(u64::from(here.optim == first.optim));
+    }
+    got.words(&[count, first.feas.verdict, feas, first.optim.verdict, optim]);
+    Ok(())
 }
 
 pub(crate) fn replay_verdicts(
-    ins: usize,
-    inputs: &[u8],
-    floats: &[f64],
-    got: &mut Bytes,
-    a: &mut Room,
-) -> Replayed {
-    let n = word(inputs, 0) as usize;
-    let lt = times(word(inputs, 1) as usize, n);
-    let x_at = plus(8, lt);
-    if plus(x_at, n) != ins {
-        return Replayed::Unfit;
-    }
-    if !all_signed(inputs, 1, 4) {
-        return Replayed::Unfit;
-    }
-    let table = part(floats, 8, lt);
-    let x = part(floats, x_at, n);
-    call_verdicts(inputs, table, x, a, n, got)
+    inputs: &Inputs<'_>,
+    rooms: &mut Rooms,
+    got: &mut Got,
+) -> Result<(), Unreplayed> {
+    let n = inputs.size(0);
+    let table = Span {
+        at: 8,
+        len: times(inputs.size(1), n),
+    };
+    let x = table.then(n);
+    fit(x.end() == inputs.count)?;
+    inputs.all_signed(1, 4)?;
+    put_verdicts(inputs, Places { table, x }, front(&mut rooms.a, n), got)
 }

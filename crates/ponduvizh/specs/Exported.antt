@@ -1,7 +1,11 @@
 -- What the exported calls answer: the definitions of the three layers, told in numbers. Each call gives 0 or the refusal's number, and the rest through
 -- slices and numbers that it is lent. A refused call leaves those as they were, but for the place of a record's fault and for an optimizing run that 6 halts midway. Definitions only.
+use Rattle.oracles.specs.declared.ldlt_mgr.Pos.{Pos}
+use Rattle.oracles.specs.declared.ell_stable.EllStable.{EllStable}
+use Rattle.oracles.specs.declared.ell.Ell.{Ell}
+use Rattle.numbers.specs.declared.cut.CutStatus.{CutStatus}
 use Rattle.numbers.specs.declared.refusal.Refusal.{Refusal}
-use Rattle.std.specs.Prelude.{ℕ, Bool, List, eqb, Float, Err, Ok, Result, ⊤}
+use Rattle.std.specs.Prelude.{Some, ℕ, Bool, List, eqb, Float, Err, Ok, Result, ⊤, None, Option}
 use Rattle.numbers.specs.Pick.{pick}
 use Rattle.numbers.specs.Refusal.{refusal_number, number_of}
 use Rattle.numbers.specs.Cut.{status_number}
@@ -9,17 +13,8 @@ use Rattle.numbers.specs.declared.cut.CutChoice.{CutChoice}
 use Rattle.numbers.specs.declared.cut.CutChoice.TheVariants.{Single, Parallel}
 use Rattle.oracles.specs.Ell.{EllBuffers, with_tsq, ell_update_answer}
 use Rattle.oracles.specs.EllStable.{StableBuffers, stable_update_answer, with_tsq as with_stable_tsq}
-use Rattle.oracles.specs.Numbered.{factored_number, update_number}
-use Rattle.oracles.specs.declared.ldlt_mgr.Factored.{Factored}
-use Rattle.oracles.specs.declared.ldlt_mgr.Factored.TheVariants.{Definite, Stopped, Refused as NotFactored}
-use Rattle.oracles.specs.declared.ell.NewEll.{NewEll}
-use Rattle.oracles.specs.declared.ell.NewEll.TheVariants.{Made, Refused as NotMade}
-use Rattle.oracles.specs.declared.ell_stable.NewEllStable.{NewEllStable}
-use Rattle.oracles.specs.declared.ell_stable.NewEllStable.TheVariants.{Made as MadeStable, Refused as NotMadeStable}
 use Rattle.oracles.specs.declared.ell_common.CutStrategy.{CutStrategy}
 use Rattle.oracles.specs.declared.ell_common.CutStrategy.TheVariants.{BiasCut, CentralCut, Q}
-use Rattle.oracles.specs.declared.ell_common.Update.{Update}
-use Rattle.oracles.specs.declared.ell_common.Update.TheVariants.{Status, Refused as NotUpdated}
 
 -- ---- the first layer, and the factorization
 
@@ -35,13 +30,13 @@ abbrev pub written_exported : Result ⊤ Refusal × List Float → ℕ × List F
 written_exported a = (number_of a.0, a.1)
 
 -- the rows of the leading block that is not positive definite; 0 where there is none
-abbrev pub factored_end : Factored → ℕ → ℕ
-factored_end Definite old = 0
-factored_end (Stopped p) old = p.end
-factored_end (NotFactored why) old = old
+abbrev pub factored_end : Result (Option Pos) Refusal → ℕ → ℕ
+factored_end (Ok None) old = 0
+factored_end (Ok (Some p)) old = p.end
+factored_end (Err why) old = old
 
-abbrev pub factored_exported : Factored × List Float → ℕ → ℕ × ℕ × List Float
-factored_exported a old = (factored_number a.0, factored_end a.0 old, a.1)
+abbrev pub factored_exported : Result (Option Pos) Refusal × List Float → ℕ → ℕ × ℕ × List Float
+factored_exported a old = (number_of a.0, factored_end a.0 old, a.1)
 
 -- ---- updates
 
@@ -53,9 +48,9 @@ strategy_of k = pick (eqb k 0) BiasCut (pick (eqb k 1) CentralCut Q)
 abbrev pub beta_of : Bool → Float → Float → CutChoice
 beta_of parallel beta0 beta1 = pick parallel (Parallel beta0 beta1) (Single beta0)
 
-abbrev pub status_or : Update → ℕ → ℕ
-status_or (Status status) old = status_number status
-status_or (NotUpdated why) old = old
+abbrev pub status_or : Result CutStatus Refusal → ℕ → ℕ
+status_or (Ok status) old = status_number status
+status_or (Err why) old = old
 
 -- what an update leaves: its number, its status, kappa and tsq, and the slices
 pub record UpdateEnd (Buffers : Type 0) : Type 0 where
@@ -69,19 +64,19 @@ abbrev pub update_end : {Buffers : Type 0} → ℕ → ℕ → Float → Float �
 update_end code status kappa tsq buffers = record { code = code; status = status; kappa = kappa; tsq = tsq; buffers = buffers }
 
 -- its number, and status, kappa and tsq after it
-abbrev pub update_numbers : Update → Float → Float → ℕ → ℕ × ℕ × Float × Float
-update_numbers answer kappa tsq status = (update_number answer, status_or answer status, kappa, tsq)
+abbrev pub update_numbers : Result CutStatus Refusal → Float → Float → ℕ → ℕ × ℕ × Float × Float
+update_numbers answer kappa tsq status = (number_of answer, status_or answer status, kappa, tsq)
 
 -- the ellipsoid of n and kappa is made first, and has this tsq; refusal 1 where it cannot be
-unfoldable pub ell_exported : NewEll → CutStrategy → List Float → CutChoice → Float → Float → ℕ → EllBuffers → UpdateEnd EllBuffers
-ell_exported (Made e) strategy grad beta kappa tsq status b =
+unfoldable pub ell_exported : Result Ell Refusal → CutStrategy → List Float → CutChoice → Float → Float → ℕ → EllBuffers → UpdateEnd EllBuffers
+ell_exported (Ok e) strategy grad beta kappa tsq status b =
     let u = ell_update_answer (with_tsq e e.kappa tsq) strategy grad beta b in
-    update_end (update_number u.0.answer) (status_or u.0.answer status) u.0.ell.kappa u.0.ell.tsq u.1
-ell_exported (NotMade why) strategy grad beta kappa tsq status b = update_end (refusal_number why) status kappa tsq b
+    update_end (number_of u.0.answer) (status_or u.0.answer status) u.0.ell.kappa u.0.ell.tsq u.1
+ell_exported (Err why) strategy grad beta kappa tsq status b = update_end (refusal_number why) status kappa tsq b
 
 -- the same of `EllStable`
-unfoldable pub stable_exported : NewEllStable → CutStrategy → List Float → CutChoice → Float → Float → ℕ → StableBuffers → UpdateEnd StableBuffers
-stable_exported (MadeStable e) strategy grad beta kappa tsq status b =
+unfoldable pub stable_exported : Result EllStable Refusal → CutStrategy → List Float → CutChoice → Float → Float → ℕ → StableBuffers → UpdateEnd StableBuffers
+stable_exported (Ok e) strategy grad beta kappa tsq status b =
     let u = stable_update_answer (with_stable_tsq e e.kappa tsq) strategy grad beta b in
-    update_end (update_number u.0.answer) (status_or u.0.answer status) u.0.ell.kappa u.0.ell.tsq u.1
-stable_exported (NotMadeStable why) strategy grad beta kappa tsq status b = update_end (refusal_number why) status kappa tsq b
+    update_end (number_of u.0.answer) (status_or u.0.answer status) u.0.ell.kappa u.0.ell.tsq u.1
+stable_exported (Err why) strategy grad beta kappa tsq status b = update_end (refusal_number why) status kappa tsq b

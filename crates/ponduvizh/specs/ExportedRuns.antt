@@ -1,26 +1,21 @@
 -- What the exported drivers and the exported reader answer. Definitions only.
-use Rattle.std.specs.Prelude.{ℕ, Bool, false, List, [], ◌∷◌, ℤ, Float}
+use Rattle.drivers.specs.declared.cutting_plane_optim.OptimStop.{OptimStop}
+use Rattle.numbers.specs.declared.refusal.Fault.{Fault}
+use Rattle.numbers.specs.declared.refusal.Refusal.{Refusal}
+use Rattle.std.specs.Prelude.{ℕ, Bool, false, List, [], ◌∷◌, ℤ, Float, Err, Ok, Result}
 use Rattle.numbers.specs.Pick.{pick}
-use Rattle.numbers.specs.Refusal.{refusal_number}
+use Rattle.numbers.specs.Refusal.{refusal_number, number_at}
 use Rattle.oracles.specs.Ell.{EllBuffers}
 use Rattle.oracles.specs.declared.ell.Ell.{Ell}
-use Rattle.oracles.specs.declared.ell.NewEll.{NewEll}
-use Rattle.oracles.specs.declared.ell.NewEll.TheVariants.{Made, Refused as NotMade}
 use Rattle.oracles.specs.declared.lowpass_oracle.LowpassOracle.{LowpassOracle}
 use Rattle.drivers.specs.CuttingPlane.{State}
 use Rattle.drivers.specs.CuttingPlaneFeas.{feas_answer}
-use Rattle.drivers.specs.CuttingPlaneOptim.{OptimEnd, optim_answer}
-use Rattle.drivers.specs.Numbered.{optim_number, job_number}
+use Rattle.drivers.specs.CuttingPlaneOptim.{OptimEnd, optim_answer, halted, optim_refused}
+use Rattle.drivers.specs.Numbered.{optim_number}
 use Rattle.drivers.specs.Job.{job_oracle}
 use Rattle.drivers.specs.declared.answer.Answer.{Answer}
 use Rattle.drivers.specs.declared.cutting_plane.Options.{Options}
-use Rattle.drivers.specs.declared.cutting_plane_feas.FeasAnswer.{FeasAnswer}
-use Rattle.drivers.specs.declared.cutting_plane_feas.FeasAnswer.TheVariants.{Ended, Refused as NotRun}
-use Rattle.drivers.specs.declared.cutting_plane_optim.OptimAnswer.{OptimAnswer}
-use Rattle.drivers.specs.declared.cutting_plane_optim.OptimAnswer.TheVariants.{Ended as EndedOptim, Halted, Refused as NotRunOptim}
 use Rattle.drivers.specs.declared.job.Job.{Job}
-use Rattle.drivers.specs.declared.job.JobAnswer.{JobAnswer}
-use Rattle.drivers.specs.declared.job.JobAnswer.TheVariants.{Read, Refused as NotRead}
 
 -- what an oracle was left with: cur of the cursors of pass, middle and stop, idx1 to idx3, kmax
 unfoldable pub marks_of : LowpassOracle → List ℤ
@@ -50,15 +45,15 @@ unfoldable pub numbers_after : Answer → LowpassOracle → Ell → RunNumbers
 numbers_after a o e = record { answer = answer_of a o; marks = marks_of o; values = values_of o e }
 
 -- an answer of `cutting_plane_feas` as one of `cutting_plane_optim`: it is never halted
-abbrev pub as_optim : FeasAnswer → OptimAnswer
-as_optim (Ended a) = EndedOptim a
-as_optim (NotRun why) = NotRunOptim why
+abbrev pub as_optim : Result Answer Refusal → Result Answer OptimStop
+as_optim (Ok a) = Ok a
+as_optim (Err why) = optim_refused why
 
 -- a run that is refused leaves the numbers as they were; one that is halted says how far it came
-abbrev pub numbers_by : OptimAnswer → LowpassOracle → Ell → RunNumbers → RunNumbers
-numbers_by (EndedOptim a) o e old = numbers_after a o e
-numbers_by (Halted a) o e old = numbers_after a o e
-numbers_by (NotRunOptim why) o e old = old
+abbrev pub numbers_by : Result Answer OptimStop → LowpassOracle → Ell → RunNumbers → RunNumbers
+numbers_by (Ok a) o e old = numbers_after a o e
+numbers_by (halted a) o e old = numbers_after a o e
+numbers_by (optim_refused why) o e old = old
 
 -- what a run leaves: its number, what it says in numbers, and the slices
 pub record RunEnd : Type 0 where
@@ -76,10 +71,10 @@ abbrev pub coded : ℕ → RunEnd → RunEnd
 coded code l = run_end code l.numbers l.buffers l.grad l.best
 
 -- after a run with this answer
-abbrev pub run_end_of : OptimAnswer → State → List Float → RunNumbers → RunEnd
+abbrev pub run_end_of : Result Answer OptimStop → State → List Float → RunNumbers → RunEnd
 run_end_of a s best old = run_end (optim_number a) (numbers_by a s.oracle s.ell old) s.buffers s.grad best
 
-unfoldable pub feas_run_end : FeasAnswer × State × List Float → RunNumbers → RunEnd
+unfoldable pub feas_run_end : Result Answer Refusal × State × List Float → RunNumbers → RunEnd
 feas_run_end r old = run_end_of (as_optim r.0) r.1 r.2 old
 
 -- with gamma
@@ -87,14 +82,14 @@ unfoldable pub optim_run_end : OptimEnd → RunNumbers → RunEnd × Float
 optim_run_end r old = (run_end_of r.answer r.state r.best old, r.gamma)
 
 -- the ellipsoid of n and kappa is made first; refusal 1 where it cannot be
-unfoldable pub feas_exported : NewEll → LowpassOracle → Options → ℕ → List Float → RunEnd → RunEnd
-feas_exported (Made e) o options rows table l = feas_run_end (feas_answer options rows table (record { oracle = o; ell = e; buffers = l.buffers; grad = l.grad }) l.best) l.numbers
-feas_exported (NotMade why) o options rows table l = coded (refusal_number why) l
+unfoldable pub feas_exported : Result Ell Refusal → LowpassOracle → Options → ℕ → List Float → RunEnd → RunEnd
+feas_exported (Ok e) o options rows table l = feas_run_end (feas_answer options rows table (record { oracle = o; ell = e; buffers = l.buffers; grad = l.grad }) l.best) l.numbers
+feas_exported (Err why) o options rows table l = coded (refusal_number why) l
 
-unfoldable pub optim_exported : NewEll → LowpassOracle → Options → ℕ → List Float → Float → RunEnd → RunEnd × Float
-optim_exported (Made e) o options rows table gamma l =
+unfoldable pub optim_exported : Result Ell Refusal → LowpassOracle → Options → ℕ → List Float → Float → RunEnd → RunEnd × Float
+optim_exported (Ok e) o options rows table gamma l =
     optim_run_end (optim_answer options rows table (record { oracle = o; ell = e; buffers = l.buffers; grad = l.grad; gamma = gamma; found = false; best = l.best })) l.numbers
-optim_exported (NotMade why) o options rows table gamma l = (coded (refusal_number why) l, gamma)
+optim_exported (Err why) o options rows table gamma l = (coded (refusal_number why) l, gamma)
 
 -- ---- a job that was read: n, the rows and the step limit; nwpass and nwstop; the marks; lp_sq, up_sq, sp_sq, kappa and the tolerance
 pub record JobNumbers : Type 0 where
@@ -122,16 +117,16 @@ job_numbers j =
     }
 
 -- the place of a refusal, and what was read
-abbrev pub place_or : JobAnswer → ℕ → ℕ
-place_or (Read j) old = old
-place_or (NotRead why at) old = at
+abbrev pub place_or : Result Job Fault → ℕ → ℕ
+place_or (Ok j) old = old
+place_or (Err fault) old = fault.place
 
-abbrev pub job_numbers_or : JobAnswer → JobNumbers → JobNumbers
-job_numbers_or (Read j) old = job_numbers j
-job_numbers_or (NotRead why at) old = old
+abbrev pub job_numbers_or : Result Job Fault → JobNumbers → JobNumbers
+job_numbers_or (Ok j) old = job_numbers j
+job_numbers_or (Err fault) old = old
 
-abbrev pub job_exported : JobAnswer → ℕ → JobNumbers → ℕ × ℕ × JobNumbers
-job_exported a place l = (job_number a, place_or a place, job_numbers_or a l)
+abbrev pub job_exported : Result Job Fault → ℕ → JobNumbers → ℕ × ℕ × JobNumbers
+job_exported a place l = (number_at a, place_or a place, job_numbers_or a l)
 
-unfoldable pub read_exported : JobAnswer × List Float × List Float × List Float → ℕ → JobNumbers → (ℕ × ℕ × JobNumbers) × List Float × List Float × List Float
+unfoldable pub read_exported : Result Job Fault × List Float × List Float × List Float → ℕ → JobNumbers → (ℕ × ℕ × JobNumbers) × List Float × List Float × List Float
 read_exported r place l = (job_exported r.0 place l, r.1, r.2, r.3)

@@ -6,10 +6,11 @@ ghost use Rattle.oracles.specs.EllStable.{stable_buffers, new_ell_stable_answer}
 ghost use Rattle.ponduvizh.specs.Exported.{strategy_of, beta_of, status_or, update_end, update_numbers, ell_exported, stable_exported};
 
 use crate::numeric::code;
-use numbers::cut::CutChoice;
-use oracles::ell::{Ell, NewEll};
-use oracles::ell_common::{CutStrategy, Update};
-use oracles::ell_stable::{EllStable, NewEllStable};
+use numbers::cut::{CutChoice, CutStatus};
+use numbers::refusal::{Refusal, number};
+use oracles::ell::Ell;
+use oracles::ell_common::CutStrategy;
+use oracles::ell_stable::EllStable;
 
 fn strategy_of(k: u64) -> CutStrategy
     ensures { result ≡ strategy_of k }
@@ -32,18 +33,18 @@ fn beta_of(parallel: bool, beta0: f64, beta1: f64) -> CutChoice
     CutChoice::Single(beta0)
 }
 
-fn status_or(answer: Update, old: u64) -> u64
+fn status_or(answer: Result<CutStatus, Refusal>, old: u64) -> u64
     ensures { result ≡ status_or answer old }
 {
     match answer {
-        Update::Status(status) => status.number() as u64,
-        Update::Refused(_) => old,
+        Ok(status) => u8::from(status) as u64,
+        Err(_) => old,
     }
 }
 
 // What an update says beside the slices.
 fn put_update(
-    answer: Update,
+    answer: Result<CutStatus, Refusal>,
     new_kappa: f64,
     new_tsq: f64,
     status: &mut u64,
@@ -55,7 +56,7 @@ fn put_update(
     *status = status_or(answer, *status);
     *kappa = new_kappa;
     *tsq = new_tsq;
-    answer.number() as u64
+    number(&answer) as u64
 }
 
 #[unsafe(no_mangle)]
@@ -80,8 +81,8 @@ pub extern "C" fn ponduvizh_ell_update(
         (ell_buffers mq.old xc.old grad_t.old) }
 {
     match Ell::new_with_matrix(n, *kappa) {
-        NewEll::Refused(why) => code(why),
-        NewEll::Made(made) => {
+        Err(why) => code(why),
+        Ok(made) => {
             let mut ell = made;
             ell.tsq = *tsq;
             let how = strategy_of(strategy);
@@ -119,8 +120,8 @@ pub extern "C" fn ponduvizh_ell_stable_update(
         (stable_buffers mq.old xc.old inv_ml_g.old inv_md_inv_ml_g.old gg_t.old g_t.old) }
 {
     match EllStable::new_with_matrix(n, *kappa) {
-        NewEllStable::Refused(why) => code(why),
-        NewEllStable::Made(made) => {
+        Err(why) => code(why),
+        Ok(made) => {
             let mut ell = made;
             ell.tsq = *tsq;
             let how = strategy_of(strategy);

@@ -4,7 +4,8 @@ ghost use Rattle.drivers.specs.Job.{read_job_answer};
 ghost use Rattle.ponduvizh.specs.ExportedRuns.{JobNumbers, bands_of, numbers_of, numbers_read, job_numbers, place_or, job_numbers_or, read_exported};
 
 use crate::run_numbers::put_marks;
-use drivers::job::{Job, JobAnswer, read_job};
+use drivers::job::{Job, read_job};
+use numbers::refusal::{Fault, number_at};
 
 fn put_bands(job: Job, bands: &mut [i32; 2])
     ensures { bands.new ≡ bands_of job }
@@ -43,7 +44,7 @@ fn put_job(
 
 // What an answer says, in numbers.
 fn put_answer(
-    answer: JobAnswer,
+    answer: Result<Job, Fault>,
     sizes: &mut [usize; 3],
     place: &mut usize,
     bands: &mut [i32; 2],
@@ -55,10 +56,10 @@ fn put_answer(
         (place_or answer place.old, job_numbers_or answer (numbers_read sizes.old bands.old marks.old numbers.old)) }
 {
     match answer {
-        JobAnswer::Refused(_, at) => {
-            *place = at;
+        Err(fault) => {
+            *place = fault.place;
         }
-        JobAnswer::Read(job) => {
+        Ok(job) => {
             put_job(job, sizes, bands, marks, numbers);
         }
     }
@@ -88,5 +89,5 @@ pub extern "C" fn ponduvizh_read_job(
 {
     let answer = read_job(bytes, table, xc, mq);
     put_answer(answer, sizes, place, bands, marks, numbers);
-    answer.number() as u64
+    number_at(&answer) as u64
 }

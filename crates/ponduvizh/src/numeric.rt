@@ -10,7 +10,7 @@ ghost use Rattle.ponduvizh.specs.Exported.{value_or, number_exported, written_ex
 use numbers::arr::{dot, dot_mv_into};
 use numbers::refusal::{Refusal, number};
 use numbers::sqrt::sqrt;
-use oracles::ldlt_mgr::{Factored, factor};
+use oracles::ldlt_mgr::{Pos, factor};
 
 pub(crate) fn code(why: Refusal) -> u64
     ensures { result ≡ refusal_number why }
@@ -27,13 +27,15 @@ fn value_or(answer: Result<f64, Refusal>, old: f64) -> f64
     }
 }
 
-fn factored_end(answer: Factored, old: usize) -> usize
+fn factored_end(answer: Result<Option<Pos>, Refusal>, old: usize) -> usize
     ensures { result ≡ factored_end answer old }
 {
     match answer {
-        Factored::Definite => 0,
-        Factored::Stopped(pos) => pos.end,
-        Factored::Refused(_) => old,
+        Err(_) => old,
+        Ok(stopped) => match stopped {
+            None => 0,
+            Some(pos) => pos.end,
+        },
     }
 }
 
@@ -74,5 +76,5 @@ pub extern "C" fn ponduvizh_factor(
 {
     let answer = factor(m, mat, storage);
     *end = factored_end(answer, *end);
-    answer.number() as u64
+    number(&answer) as u64
 }

@@ -3,8 +3,8 @@ ghost use Rattle.std.specs.Prelude.{◌≡◌};
 ghost use Rattle.ponduvizh.specs.ExportedRuns.{marks_of, values_of, flag_of, answer_of, run_numbers, numbers_after, as_optim, numbers_by};
 
 use drivers::answer::Answer;
-use drivers::cutting_plane_feas::FeasAnswer;
-use drivers::cutting_plane_optim::OptimAnswer;
+use drivers::cutting_plane_optim::OptimStop;
+use numbers::refusal::Refusal;
 use oracles::ell::Ell;
 use oracles::lowpass_oracle::LowpassOracle;
 
@@ -64,7 +64,7 @@ fn put_state(
 
 // What a run says with this answer.
 pub(crate) fn put_run(
-    ended: OptimAnswer,
+    ended: Result<Answer, OptimStop>,
     oracle: LowpassOracle,
     ell: Ell,
     answer: &mut [u64; 3],
@@ -75,21 +75,19 @@ pub(crate) fn put_run(
         ≡ numbers_by ended oracle ell (run_numbers answer.old marks.old values.old) }
 {
     match ended {
-        OptimAnswer::Refused(_) => {}
-        OptimAnswer::Halted(halted) => {
-            put_state(halted, oracle, ell, answer, marks, values);
-        }
-        OptimAnswer::Ended(whole) => {
-            put_state(whole, oracle, ell, answer, marks, values);
-        }
+        Ok(whole) => put_state(whole, oracle, ell, answer, marks, values),
+        Err(stop) => match stop {
+            OptimStop::Halted(halted) => put_state(halted, oracle, ell, answer, marks, values),
+            OptimStop::Refused(_) => {}
+        },
     }
 }
 
-pub(crate) fn as_optim(ended: FeasAnswer) -> OptimAnswer
+pub(crate) fn as_optim(ended: Result<Answer, Refusal>) -> Result<Answer, OptimStop>
     ensures { result ≡ as_optim ended }
 {
     match ended {
-        FeasAnswer::Ended(answer) => OptimAnswer::Ended(answer),
-        FeasAnswer::Refused(why) => OptimAnswer::Refused(why),
+        Ok(answer) => Ok(answer),
+        Err(why) => Err(OptimStop::Refused(why)),
     }
 }

@@ -10,10 +10,11 @@ use crate::numeric::code;
 use crate::run_numbers::{as_optim, put_run};
 use drivers::cutting_plane::Options;
 use drivers::cutting_plane_feas::cutting_plane_feas;
-use drivers::cutting_plane_optim::cutting_plane_optim;
-use oracles::ell::{Ell, NewEll};
+use drivers::cutting_plane_optim::{cutting_plane_optim, optim_number};
+use oracles::ell::Ell;
 use oracles::lowpass_oracle::LowpassOracle;
 
+// C gives both runs their slices one by one; they differ in gamma, and in what is left of a run that is halted.
 // The run over an ellipsoid that was made.
 fn feas_made(
     oracle: LowpassOracle,
@@ -46,7 +47,7 @@ fn feas_made(
     let answered = run.answer;
     let ended = as_optim(answered);
     put_run(ended, after, space, answer, marks, values);
-    ended.number() as u64
+    optim_number(&ended) as u64
 }
 
 fn optim_made(
@@ -91,7 +92,7 @@ fn optim_made(
     let ended = run.answer;
     *gamma = run.gamma;
     put_run(ended, after, space, answer, marks, values);
-    ended.number() as u64
+    optim_number(&ended) as u64
 }
 
 #[unsafe(no_mangle)]
@@ -135,8 +136,8 @@ pub extern "C" fn ponduvizh_cutting_plane_feas(
     let oracle = LowpassOracle::start(nwpass, nwstop, mdim, cur1, cur2, cur3, lp_sq, up_sq, sp_sq);
     let options = Options::new(max_iters, tolerance);
     match Ell::new_with_matrix(n, kappa) {
-        NewEll::Refused(why) => code(why),
-        NewEll::Made(ell) => feas_made(
+        Err(why) => code(why),
+        Ok(ell) => feas_made(
             oracle, ell, options, rows, answer, marks, values, table, mq, xc, grad, grad_t, x_best,
         ),
     }
@@ -191,8 +192,8 @@ pub extern "C" fn ponduvizh_cutting_plane_optim(
     let oracle = LowpassOracle::start(nwpass, nwstop, mdim, cur1, cur2, cur3, lp_sq, up_sq, sp_sq);
     let options = Options::new(max_iters, tolerance);
     match Ell::new_with_matrix(n, kappa) {
-        NewEll::Refused(why) => code(why),
-        NewEll::Made(ell) => optim_made(
+        Err(why) => code(why),
+        Ok(ell) => optim_made(
             oracle, ell, options, rows, gamma, answer, marks, values, table, mq, xc, grad, grad_t,
             x_best,
         ),

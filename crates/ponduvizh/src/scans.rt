@@ -4,26 +4,24 @@ ghost use Rattle.std.specs.Prelude.{◌≡◌};
 ghost use Rattle.oracles.specs.Scan.{scan_band_answer};
 ghost use Rattle.ponduvizh.specs.ExportedScan.{upper_of, side_of, row_of, value_of, numbers_found, scan_numbers, scan_numbers_or, scan_end};
 
+use numbers::refusal::{Refusal, number};
 use oracles::round_robin::RoundRobin;
-use oracles::scan::{Scan, ScanAnswer, Upper, Violation};
+use oracles::scan::{Scan, Violation};
 use oracles::scan_band::scan_at;
 
-fn upper_of(bounded: bool, upper: f64) -> Upper
+fn upper_of(bounded: bool, upper: f64) -> Option<f64>
     ensures { result ≡ upper_of bounded upper }
 {
-    if bounded {
-        return Upper::Limit(upper);
-    }
-    Upper::Absent
+    bounded.then_some(upper)
 }
 
-fn side_of(viol: Violation) -> usize
+fn side_of(viol: Option<Violation>) -> usize
     ensures { result ≡ side_of viol }
 {
     match viol {
-        Violation::Nothing => 0,
-        Violation::Broken(_, _, over) => {
-            if over {
+        None => 0,
+        Some(broken) => {
+            if broken.is_over {
                 return 2;
             }
             1
@@ -31,21 +29,21 @@ fn side_of(viol: Violation) -> usize
     }
 }
 
-fn row_of(viol: Violation) -> usize
+fn row_of(viol: Option<Violation>) -> usize
     ensures { result ≡ row_of viol }
 {
     match viol {
-        Violation::Nothing => 0,
-        Violation::Broken(row, _, _) => row,
+        None => 0,
+        Some(broken) => broken.row,
     }
 }
 
-fn value_of(viol: Violation) -> f64
+fn value_of(viol: Option<Violation>) -> f64
     ensures { result ≡ value_of viol }
 {
     match viol {
-        Violation::Nothing => 0.0,
-        Violation::Broken(_, value, _) => value,
+        None => 0.0,
+        Some(broken) => broken.value,
     }
 }
 
@@ -60,14 +58,19 @@ fn put_scan(scan: Scan, found: &mut [usize; 2], values: &mut [f64; 2], kmax: &mu
 }
 
 // What an answer says, in numbers.
-fn put_answer(answer: ScanAnswer, found: &mut [usize; 2], values: &mut [f64; 2], kmax: &mut i32)
+fn put_answer(
+    answer: Result<Scan, Refusal>,
+    found: &mut [usize; 2],
+    values: &mut [f64; 2],
+    kmax: &mut i32,
+)
     ensures { numbers_found found.new values.new kmax.new
         ≡ scan_numbers_or answer
         (numbers_found found.old values.old kmax.old) }
 {
     match answer {
-        ScanAnswer::Refused(_) => {}
-        ScanAnswer::Scanned(scan) => {
+        Err(_) => {}
+        Ok(scan) => {
             put_scan(scan, found, values, kmax);
         }
     }
@@ -87,7 +90,7 @@ fn scan_from(
     x: &[f64],
     start: RoundRobin,
     lower: f64,
-    upper: Upper,
+    upper: Option<f64>,
     cur: &mut i32,
     found: &mut [usize; 2],
     values: &mut [f64; 2],
@@ -104,7 +107,7 @@ fn scan_from(
     let last = cursor.cur;
     *cur = last;
     put_answer(answer, found, values, kmax);
-    answer.number() as u64
+    number(&answer) as u64
 }
 
 #[unsafe(no_mangle)]

@@ -1,5 +1,5 @@
 // A job from standard input is run by the steps of `cutting_plane_feas` (`Run::next`), and the text of each is handed to standard output as it comes.
-ghost use Rattle.std.specs.Prelude.{◌≡◌, [], ◌*◌, ◌≤◌, length, take, replicate};
+ghost use Rattle.std.specs.Prelude.{◌≡◌, ◌*◌, take, replicate};
 ghost use Rattle.oracles.specs.Ell.{ell_buffers};
 ghost use Rattle.numbers.specs.F64.{0ᶠ};
 ghost use Rattle.drivers.specs.Run.{next_answer};
@@ -7,46 +7,20 @@ ghost use Rattle.drivers.specs.Program.{program_text};
 ghost use Rattle.drivers.specs.laws.Program.{RunHeld};
 ghost use Rattle.drivers.specs.laws.Trace.{text_in};
 ghost use Rattle.drivers.specs.laws.Calls.{run_all_answer, run_all_text};
-ghost use Rattle.streams.specs.Mark.{marked, mark_of};
-ghost use Rattle.streams.specs.Input.{Within, of_read};
+ghost use Rattle.streams.specs.Output.{Hands, HandedOver};
+ghost use Rattle.streams.specs.declared.output.Stream.TheVariants.{Stdout};
 ghost use Rattle.runner.specs.Run.{Ran};
 
+use crate::buffers::{Buffers, MAX_N};
+use crate::handing::hand_text;
 use drivers::input::INPUT_ROOM;
-use drivers::run::{Opened, Printed, Run, open};
-use drivers::trace::Text;
+use drivers::run::{Printed, Run, open};
 use std::io::{Read, Write};
-use streams::input::{Input, read_all};
-use streams::output::hand_next;
+use streams::output::{Console, Handed, Stream};
 
-// Writes the text at the front of `out`.
-fn write_text<W: Write, E: Write>(
-    output: &mut W,
-    errors: &mut E,
-    mark: &mut u64,
-    has_failed: &mut bool,
-    out: &[u8],
-    text: Text,
-)
-    ensures { mark.new ≡ marked mark.old (text_in text out.now) }
-{
-    match text {
-        Text::Bytes(count) => {
-            if out.len() < count {
-                hand_next(output, errors, mark, has_failed, out);
-                return;
-            }
-            hand_next(output, errors, mark, has_failed, &out[..count]);
-        }
-        Text::Refused(_) => {}
-    }
-}
-
-// The next step, whose text is written.
+// The next step, whose text is handed over.
 fn step<W: Write, E: Write>(
-    output: &mut W,
-    errors: &mut E,
-    mark: &mut u64,
-    has_failed: &mut bool,
+    console: &mut Console<'_, W, E>,
     run: Run,
     table: &[f64],
     mq: &mut [f64],
@@ -57,20 +31,16 @@ fn step<W: Write, E: Write>(
 ) -> Printed
     ensures out_after { (result, ell_buffers mq.new xc.new grad_t.new, grad.new, out.new)
         ≡ next_answer run table.now (ell_buffers mq.old xc.old grad_t.old) grad.old out.old }
-    ensures mark_after { mark.new ≡ marked mark.old (text_in result.text out.new) }
+    ensures handed { Hands W.contents console.old console.new Stdout (text_in result.text out.new) }
 {
     let printed = run.next(table, mq, xc, grad, grad_t, out);
-    let text = printed.text;
-    write_text(output, errors, mark, has_failed, out, text);
+    hand_text(console, Stream::Stdout, out, printed.text);
     printed
 }
 
-// Takes steps until there is no more to come, each text written; what the last one left.
+// Takes steps until there is no more to come, each text handed over; what the last one left.
 fn run_all<W: Write, E: Write>(
-    output: &mut W,
-    errors: &mut E,
-    mark: &mut u64,
-    has_failed: &mut bool,
+    console: &mut Console<'_, W, E>,
     first: Run,
     table: &[f64],
     mq: &mut [f64],
@@ -81,131 +51,93 @@ fn run_all<W: Write, E: Write>(
 ) -> Printed
     ensures out_after { (result, ell_buffers mq.new xc.new grad_t.new, grad.new, out.new)
         ≡ run_all_answer first table.now (ell_buffers mq.old xc.old grad_t.old) grad.old out.old }
-    ensures mark_after { mark.new ≡ marked mark.old
+    ensures handed { Hands W.contents console.old console.new Stdout
         (run_all_text first table.now (ell_buffers mq.old xc.old grad_t.old) grad.old out.old) }
 {
-    let mut printed = step(
-        output, errors, mark, has_failed, first, table, mq, xc, grad, grad_t, out,
-    );
+    let mut printed = step(console, first, table, mq, xc, grad, grad_t, out);
     while printed.more {
         let run = printed.run;
-        printed = step(
-            output, errors, mark, has_failed, run, table, mq, xc, grad, grad_t, out,
-        );
+        printed = step(console, run, table, mq, xc, grad, grad_t, out);
     }
     printed
 }
 
-// The run on the fronts of the slices that its job fills: rows × n, n × n and n numbers.
-fn run_sized<W: Write, E: Write>(
-    output: &mut W,
-    errors: &mut E,
-    mark: &mut u64,
-    has_failed: &mut bool,
-    run: Run,
-    table: &[f64],
-    mq: &mut [f64],
-    xc: &mut [f64],
-    grad: &mut [f64],
-    grad_t: &mut [f64],
-    out: &mut [u8],
-)
-    requires { RunHeld run table.now xc.old mq.old × (run.ell.ndim ≤ length grad.old) × (run.ell.ndim ≤ length grad_t.old) }
-    ensures { mark.new ≡ marked mark.old
-        (run_all_text run (take (run.rows * run.ell.ndim) table.now)
-        (ell_buffers (take (run.ell.ndim * run.ell.ndim) mq.old) (take run.ell.ndim xc.old) (take run.ell.ndim grad_t.old))
-        (take run.ell.ndim grad.old) out.old) }
+// The run on the fronts of the arrays that its job fills, rows × n, n × n and n numbers, and scratch of zeros. Beside `jobfile`'s, which runs the whole driver, this one takes its steps.
+fn run_sized<W: Write, E: Write>(console: &mut Console<'_, W, E>, run: Run, buffers: &mut Buffers)
+    requires { RunHeld run buffers.old.table buffers.old.xc buffers.old.mq }
+    ensures { Hands W.contents console.old console.new Stdout
+        (let n = run.ell.ndim in run_all_text run (take (run.rows * n) buffers.old.table)
+        (ell_buffers (take (n * n) buffers.old.mq) (take n buffers.old.xc) (replicate n 0ᶠ)) (replicate n 0ᶠ) buffers.old.out) }
 {
     let n = run.n();
     let numbers = run.rows() * n;
     let square = n * n;
+    let mut grad = [0.0f64; MAX_N];
+    let mut grad_t = [0.0f64; MAX_N];
+    let mq = &mut buffers.mq[..];
+    let xc = &mut buffers.xc[..];
     run_all(
-        output,
-        errors,
-        mark,
-        has_failed,
+        console,
         run,
-        &table[..numbers],
+        &buffers.table[..numbers],
         &mut mq[..square],
         &mut xc[..n],
         &mut grad[..n],
         &mut grad_t[..n],
-        out,
+        &mut buffers.out,
     );
 }
 
-// A job's run, in slices that are long enough for every job.
+// A job's run, in arrays that are long enough for every job.
 fn run_lent<W: Write, E: Write>(
-    output: &mut W,
-    errors: &mut E,
-    mark: &mut u64,
-    has_failed: &mut bool,
+    console: &mut Console<'_, W, E>,
     bytes: &[u8],
-    table: &mut [f64; 32768],
-    mq: &mut [f64; 1024],
-    xc: &mut [f64; 32],
-    grad: &mut [f64; 32],
-    grad_t: &mut [f64; 32],
-    out: &mut [u8; 128],
+    buffers: &mut Buffers,
 )
-    requires { (grad.old ≡ replicate 32 0ᶠ) × (grad_t.old ≡ replicate 32 0ᶠ) }
-    ensures { mark.new ≡ marked mark.old (program_text bytes.now) }
+    ensures { Hands W.contents console.old console.new Stdout (program_text bytes.now) }
 {
-    let opened = open(bytes, table, xc, mq, out);
-    match opened {
-        Opened::Started(run) => {
-            run_sized(
-                output, errors, mark, has_failed, run, table, mq, xc, grad, grad_t, out,
-            )
-        }
-        Opened::Refused(text) => write_text(output, errors, mark, has_failed, out, text),
-    }
-}
-
-// Runs the job; the mark of what is written is that of the program's text of these bytes.
-pub fn run_input<W: Write, E: Write>(output: &mut W, errors: &mut E, bytes: &[u8]) -> u64
-    ensures { result ≡ mark_of (program_text bytes.now) }
-{
-    let mut mark = 1;
-    let mut has_failed = false;
-    let mut table = [0.0f64; 32768];
-    let mut mq = [0.0f64; 1024];
-    let mut xc = [0.0f64; 32];
-    let mut grad = [0.0f64; 32];
-    let mut grad_t = [0.0f64; 32];
-    let mut out = [0u8; 128];
-    run_lent(
-        output,
-        errors,
-        &mut mark,
-        &mut has_failed,
+    let opened = open(
         bytes,
-        &mut table,
-        &mut mq,
-        &mut xc,
-        &mut grad,
-        &mut grad_t,
-        &mut out,
+        &mut buffers.table,
+        &mut buffers.xc,
+        &mut buffers.mq,
+        &mut buffers.out,
     );
-    mark
+    match opened {
+        Ok(run) => run_sized(console, run, buffers),
+        Err(text) => hand_text(console, Stream::Stdout, &buffers.out, text),
+    }
 }
 
-// Runs the job that was read, if the input could be read.
-fn run_read<W: Write, E: Write>(output: &mut W, errors: &mut E, bytes: &[u8], read: Input) -> u64
-    requires { Within read (length bytes.now) }
-    ensures { result ≡ mark_of (of_read read bytes.now program_text []) }
+// Runs the job that these bytes record: the program's text of them is what is handed over.
+fn run_bytes<W: Write, E: Write>(console: &mut Console<'_, W, E>, bytes: &[u8])
+    ensures { Hands W.contents console.old console.new Stdout (program_text bytes.now) }
 {
-    match read {
-        Input::Bytes(count) => run_input(output, errors, &bytes[..count]),
-        Input::Failed => 1,
-    }
+    let mut buffers = Buffers::new();
+    run_lent(console, bytes, &mut buffers);
+}
+
+pub fn run_input<W: Write, E: Write>(output: &mut W, errors: &mut E, bytes: &[u8]) -> Handed
+    ensures { HandedOver W.contents output.old output.new result Stdout (program_text bytes.now) }
+{
+    let mut console = Console::new(output, errors);
+    run_bytes(&mut console, bytes);
+    console.end()
 }
 
 // Runs the job that stands on standard input.
-pub fn run_stdin<R: Read, W: Write, E: Write>(input: &mut R, output: &mut W, errors: &mut E) -> u64
-    ensures { Ran result }
+pub fn run_stdin<R: Read, W: Write, E: Write>(
+    input: &mut R,
+    output: &mut W,
+    errors: &mut E,
+) -> Handed
+    ensures { Ran W.contents output.old output.new result }
 {
+    let mut console = Console::new(output, errors);
     let mut bytes = [0u8; INPUT_ROOM];
-    let read = read_all(input, errors, b"standard input", &mut bytes);
-    run_read(output, errors, &bytes, read)
+    let read = console.read_all(input, b"standard input", &mut bytes);
+    if let Some(count) = read {
+        run_bytes(&mut console, &bytes[..count]);
+    }
+    console.end()
 }

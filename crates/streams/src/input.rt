@@ -1,5 +1,5 @@
 // Reading an input to its end. Of the bytes no contract can say anything.
-ghost use Rattle.std.specs.Prelude.{length};
+ghost use Rattle.std.specs.Prelude.{◌≡◌, ◌≤◌, length, Some, None, IfOk, MatchResult};
 ghost use Rattle.streams.specs.Input.{Within};
 
 use crate::failure::tell;
@@ -13,83 +13,74 @@ const ENAMETOOLONG: i32 = 36;
 
 const EINVAL: i32 = 22;
 
-// How many bytes were read; or a read failed.
-#[derive(Clone, Copy)]
-pub enum Input {
-    Bytes(usize),
-    Failed,
+// Reads until the slice is full or the input ends. std has no call that does both: `read_exact` wants the whole slice, and the others a heap.
+fn fill<R: Read>(input: &mut R, bytes: &mut [u8]) -> Result<usize, Error>
+    ensures { IfOk result (λ count. count ≤ length bytes.old) }
+{
+    let mut done = 0;
+    while done < bytes.len() {
+        let count = input.read(&mut bytes[done..])?;
+        if count == 0 {
+            return Ok(done);
+        }
+        done += count;
+    }
+    Ok(done)
 }
 
-// One read, to the front of `part`. A read that fails is told on standard error, under the input's name.
-fn read_once<R: Read, E: Write>(
-    input: &mut R,
-    errors: &mut E,
-    name: &[u8],
-    part: &mut [u8],
-) -> Input
-    ensures { Within result (length part.old) }
+// How many bytes were read, or none where that failed, which is told on standard error under the input's name.
+fn ok_or_tell<E: Write>(errors: &mut E, name: &[u8], read: Result<usize, Error>) -> Option<usize>
+    ensures { MatchResult read (λ count. result ≡ Some count) (λ _. result ≡ None) }
 {
-    match input.read(part) {
-        Ok(count) => Input::Bytes(count),
+    match read {
+        Ok(count) => Some(count),
         Err(error) => {
             tell(errors, name, error);
-            Input::Failed
+            None
         }
     }
 }
 
-// Reads until the slice is full or the input ends. A read that fails is said on standard error, under the input's name.
+// How many bytes were read until the slice was full or the input ended.
 pub fn read_all<R: Read, E: Write>(
     input: &mut R,
     errors: &mut E,
     name: &[u8],
     bytes: &mut [u8],
-) -> Input
+) -> Option<usize>
     ensures { Within result (length bytes.old) }
 {
-    let mut done = 0;
-    while done < bytes.len() {
-        match read_once(input, errors, name, &mut bytes[done..]) {
-            Input::Bytes(count) => {
-                if count == 0 {
-                    return Input::Bytes(done);
-                }
-                done += count;
-            }
-            Input::Failed => return Input::Failed,
-        }
-    }
-    Input::Bytes(done)
-}
-
-// Reads the file of this name, which is text.
-fn read_named<R: Files, E: Write>(rt: &R, errors: &mut E, name: &str, bytes: &mut [u8]) -> Input
-    ensures { Within result (length bytes.old) }
-{
-    match File::open(rt, name) {
-        Ok(mut file) => read_all(&mut file, errors, name.as_bytes(), bytes),
-        Err(error) => {
-            tell(errors, name.as_bytes(), error);
-            Input::Failed
-        }
-    }
+    let filled = fill(input, bytes);
+    ok_or_tell(errors, name, filled)
 }
 
 // Reads the file of this name. std opens none by a name that is not UTF-8.
-pub fn read_file<R: Files, E: Write>(rt: &R, errors: &mut E, name: &[u8], bytes: &mut [u8]) -> Input
-    ensures { Within result (length bytes.old) }
+fn fill_from<R: Files>(rt: &R, name: &[u8], bytes: &mut [u8]) -> Result<usize, Error>
+    ensures { IfOk result (λ count. count ≤ length bytes.old) }
 {
     match str::from_utf8(name) {
-        Ok(text) => read_named(rt, errors, text, bytes),
-        Err(_) => {
-            let error = Error::new(ErrorKind::InvalidFilename, "the name is not UTF-8");
-            tell(errors, name, error);
-            Input::Failed
+        Ok(text) => {
+            let mut file = File::open(rt, text)?;
+            fill(&mut file, bytes)
         }
+        Err(_) => Err(Error::new(ErrorKind::InvalidFilename, "the name is not UTF-8")),
     }
 }
 
-// Why an argument could not be had, by the system's numbers.
+// Reads the file of this name.
+pub fn read_file<R: Files, E: Write>(
+    rt: &R,
+    errors: &mut E,
+    name: &[u8],
+    bytes: &mut [u8],
+) -> Option<usize>
+    ensures { Within result (length bytes.old) }
+{
+    let filled = fill_from(rt, name, bytes);
+    ok_or_tell(errors, name, filled)
+}
+
+// Why an argument could not be had, by the system's numbers. Both types are std's, so this can be no From.
 fn reason(error: FillError) -> Error {
     match error {
         FillError::TooLong => Error::from_raw_os_error(ENAMETOOLONG),
@@ -103,7 +94,7 @@ pub fn read_argument<R: Files + Env, E: Write>(
     errors: &mut E,
     i: usize,
     bytes: &mut [u8],
-) -> Input
+) -> Option<usize>
     ensures { Within result (length bytes.old) }
 {
     let mut name = [0u8; 4096];
@@ -111,7 +102,7 @@ pub fn read_argument<R: Files + Env, E: Write>(
         Ok(length) => read_file(rt, errors, &name[..length], bytes),
         Err(error) => {
             tell(errors, b"argument", reason(error));
-            Input::Failed
+            None
         }
     }
 }

@@ -8,11 +8,6 @@ const PRIME: u64 = 0xff_ffff_ffff_fffb;
 pub fn mark_on(from: u64, text: &[u8]) -> u64
     ensures { result ≡ marked from text.now }
 {
-    let mut mark = from;
-    let mut i = 0;
-    while i < text.len() {
-        mark = mark % PRIME * 256 + text[i] as u64;
-        i += 1;
-    }
-    mark
+    text.iter()
+        .fold(from, |mark, byte| mark % PRIME * 256 + *byte as u64)
 }

@@ -1,5 +1,6 @@
 -- Laws of Answer: the driver's answer over a job's slices is the record that the command writes. Assumes nothing.
-use Rattle.std.specs.Prelude.{ℕ, ◌*◌, ◌≤◌, ◌≡◌, true, List, [], length, take, replicate, Float}
+use Rattle.drivers.specs.Trace.{Text}
+use Rattle.std.specs.Prelude.{ℕ, ◌*◌, ◌≤◌, ◌≡◌, true, List, [], length, take, replicate, Float, Err, Ok, Result}
 use Rattle.std.proofs.Common.{sym, ap, ◌∙◌, take_all, arith}
 use Rattle.numbers.specs.F64.{0ᶠ}
 use Rattle.numbers.specs.Arr.{is_dimension}
@@ -8,8 +9,6 @@ use Rattle.numbers.specs.laws.Over.{front_over}
 use Rattle.numbers.specs.declared.refusal.Refusal.{Refusal}
 use Rattle.oracles.specs.Ell.{EllBuffers, ell_buffers, fresh_ell, new_ell_answer}
 use Rattle.oracles.specs.laws.EllCalls.{ell_makes}
-use Rattle.oracles.specs.declared.ell.NewEll.{NewEll}
-use Rattle.oracles.specs.declared.ell.NewEll.TheVariants.{Made, Refused as NoEll}
 use Rattle.oracles.specs.declared.ell.Ell.{Ell}
 use Rattle.oracles.specs.declared.lowpass_oracle.LowpassOracle.{LowpassOracle}
 use Rattle.streams.specs.declared.output.Stream.TheVariants.{Stdout, Stderr}
@@ -19,27 +18,21 @@ use Rattle.drivers.specs.Record.{fronted}
 use Rattle.drivers.specs.Job.{FullJob, job_oracle, full_job_at, job_walk, full_job}
 use Rattle.drivers.specs.Input.{take_job_answer}
 use Rattle.drivers.specs.laws.Trace.{text_in}
-use Rattle.drivers.specs.declared.trace.Text.{Text}
-use Rattle.drivers.specs.declared.input.TakenJob.TheVariants.{Refused as NotTaken}
 use Rattle.drivers.specs.Answer.{answer_bytes, write_answer_answer}
 use Rattle.drivers.specs.Program.{first_state}
 use Rattle.drivers.specs.laws.Job.{JobSound}
 use Rattle.drivers.specs.laws.JobRuns.{JobSlices, FullLong, full_long, job_state, front_is}
 use Rattle.drivers.specs.laws.FoundFeasible.{job_call, found_point}
 use Rattle.drivers.specs.laws.AnswerBytes.{same_bytes, write_answer_front}
-use Rattle.drivers.specs.declared.answer.AnswerWritten.{AnswerWritten}
-use Rattle.drivers.specs.declared.answer.AnswerWritten.TheVariants.{Bytes, Refused as NotWritten}
 use Rattle.drivers.specs.declared.answer.Answer.{Answer}
 use Rattle.drivers.specs.declared.job.Job.{Job}
 use Rattle.drivers.specs.declared.trace.Source.TheVariants.{Only}
-use Rattle.drivers.specs.declared.cutting_plane_feas.FeasAnswer.{FeasAnswer}
-use Rattle.drivers.specs.declared.cutting_plane_feas.FeasAnswer.TheVariants.{Ended, Refused as NotRun}
 use Rattle.commands.specs.Output.{Written}
 use Rattle.commands.specs.Answer.{job_answer, answer_record, answer_written}
 use Rattle.commands.specs.laws.Taken.{JobIs, goes_on, job_refused_is}
 
 -- what is written of the run of a job in slices of its own lengths ..
-abbrev pub run_answer_of : Job → List Float → EllBuffers → List Float → FeasAnswer × State
+abbrev pub run_answer_of : Job → List Float → EllBuffers → List Float → Result Answer Refusal × State
 run_answer_of j table b grad = feas_run j.rows table j.options.tolerance j.options.max_iters 0 (job_state j b grad)
 
 abbrev pub run_written : Job → List Float → EllBuffers → List Float → Written
@@ -53,7 +46,7 @@ fronts_written j table xc mq =
 
 -- the driver's call over the job's oracle and its new ellipsoid
 pub call_of : (j : Job) (table : List Float) (b : EllBuffers) (grad best : List Float) (o : LowpassOracle) (e : Ell) → o ≡ job_oracle j → e ≡ fresh_ell j.n j.kappa
-    → {r : FeasAnswer × State × List Float} → r ≡ feas_answer j.options j.rows table (state_of o e b.mq b.xc grad b.grad_t) best
+    → {r : Result Answer Refusal × State × List Float} → r ≡ feas_answer j.options j.rows table (state_of o e b.mq b.xc grad b.grad_t) best
     → r ≡ feas_answer j.options j.rows table (job_state j b grad) best
 call_of j table b grad best o e o_is e_is h = h ∙ (λ i. feas_answer j.options j.rows table (state_of (o_is i) (e_is i) b.mq b.xc grad b.grad_t) best)
 
@@ -62,8 +55,8 @@ module _ (j : Job) (h : JobSound j) (table : List Float) (b : EllBuffers) (grad 
   room = omega (arith, long)
 
   -- the call's answer and its point, as a record
-  pub ended_record : (r : FeasAnswer) (s : State) (best' : List Float) → (r, s, best') ≡ feas_answer j.options j.rows table (job_state j b grad) best → length best' ≡ j.n
-      → (a : Answer) → r ≡ Ended a → answer_bytes a best' ≡ answer_record (run_answer_of j table b grad).0 (run_answer_of j table b grad).1
+  pub ended_record : (r : (Result Answer Refusal)) (s : State) (best' : List Float) → (r, s, best') ≡ feas_answer j.options j.rows table (job_state j b grad) best → length best' ≡ j.n
+      → (a : Answer) → r ≡ Ok a → answer_bytes a best' ≡ answer_record (run_answer_of j table b grad).0 (run_answer_of j table b grad).1
   ended_record r s best' e long' a ra =
       let f = e ∙ job_call j h table b grad best l room in
       let r_is : r ≡ (run_answer_of j table b grad).0 = ap (λ z. z.0) f in
@@ -71,12 +64,12 @@ module _ (j : Job) (h : JobSound j) (table : List Float) (b : EllBuffers) (grad 
       let point : a.found ≡ true → best' ≡ (run_answer_of j table b grad).1.buffers.xc =
       λ t. sym (take_all j.n best' (omega (arith, long'))) ∙ ap (take j.n) best_is ∙ found_point j h table b grad best l room (ap is_found (sym r_is ∙ ra) ∙ t) in
       same_bytes a best' (run_answer_of j table b grad).1.buffers.xc point
-      ∙ ap (λ (z : FeasAnswer). answer_record z (run_answer_of j table b grad).1) (sym ra ∙ r_is)
+      ∙ ap (λ (z : (Result Answer Refusal)). answer_record z (run_answer_of j table b grad).1) (sym ra ∙ r_is)
 
   -- no record where the call is refused, which a sound job's is not
-  pub not_ended : (r : FeasAnswer) (s : State) (best' : List Float) → (r, s, best') ≡ feas_answer j.options j.rows table (job_state j b grad) best
-      → (why : Refusal) → r ≡ NotRun why → [] ≡ answer_record (run_answer_of j table b grad).0 (run_answer_of j table b grad).1
-  not_ended r s best' e why k = ap (λ (z : FeasAnswer). answer_record z (run_answer_of j table b grad).1) (sym k ∙ ap (λ z. z.0) (e ∙ job_call j h table b grad best l room))
+  pub not_ended : (r : (Result Answer Refusal)) (s : State) (best' : List Float) → (r, s, best') ≡ feas_answer j.options j.rows table (job_state j b grad) best
+      → (why : Refusal) → r ≡ Err why → [] ≡ answer_record (run_answer_of j table b grad).0 (run_answer_of j table b grad).1
+  not_ended r s best' e why k = ap (λ (z : (Result Answer Refusal)). answer_record z (run_answer_of j table b grad).1) (sym k ∙ ap (λ z. z.0) (e ∙ job_call j h table b grad best l room))
 
 -- of the numbers of a record, at the fronts of the slices that they were read into, it is the job's own run
 full_run : (f : FullJob) (table xc mq : List Float) → FullLong f → fronts_written f.job (fronted f.table table) (fronted f.point xc) (fronted f.matrix mq) ≡ (let r = job_answer f in (Stdout, answer_record r.0 r.1))
@@ -95,22 +88,22 @@ taken_written bytes table xc mq out j table' xc' mq' out' t x m is =
 
 -- a record that is not taken
 pub refused_written : (bytes : List ℕ) (table xc mq : List Float) (out : List ℕ) → length table ≡ 32768 → length xc ≡ 32 → length mq ≡ 1024 → 128 ≤ length out
-    → (text : Text) (table' xc' mq' : List Float) (out' : List ℕ) → (NotTaken text, table', xc', mq', out') ≡ take_job_answer Only bytes table xc mq out → (Stderr, text_in text out') ≡ answer_written bytes
+    → (text : Text) (table' xc' mq' : List Float) (out' : List ℕ) → (Err text, table', xc', mq', out') ≡ take_job_answer Only bytes table xc mq out → (Stderr, text_in text out') ≡ answer_written bytes
 unfolding answer_written
 refused_written bytes table xc mq out t x m room text table' xc' mq' out' e = job_refused_is Only bytes table xc mq out t x m room text table' xc' mq' out' e _
 
 -- ---- the ellipsoid of a sound job is made
 
-module _ (j : Job) (h : JobSound j) (r : NewEll) (r_is : r ≡ new_ell_answer j.n j.kappa) where
-  made_is : r ≡ Made (fresh_ell j.n j.kappa)
+module _ (j : Job) (h : JobSound j) (r : (Result Ell Refusal)) (r_is : r ≡ new_ell_answer j.n j.kappa) where
+  made_is : r ≡ Ok (fresh_ell j.n j.kappa)
   made_is = r_is ∙ ell_makes j.n j.kappa h.dimension
 
-  pub made_fresh : (e : Ell) → r ≡ Made e → e ≡ fresh_ell j.n j.kappa
+  pub made_fresh : (e : Ell) → r ≡ Ok e → e ≡ fresh_ell j.n j.kappa
   made_fresh e k =
       let m = made_is in
       cc
 
-  pub made_always : (why : Refusal) → r ≡ NoEll why → ⊥
+  pub made_always : (why : Refusal) → r ≡ Err why → ⊥
   made_always why k =
       let m = made_is in
       let z : ◌≡◌ {A = ℕ} 0 1 = cc in
@@ -120,18 +113,18 @@ module _ (j : Job) (h : JobSound j) (r : NewEll) (r_is : r ≡ new_ell_answer j.
 
 module _ (n : ℕ) (a : Answer) (point : List Float) (out : List ℕ) (d : is_dimension n ≡ true) (h : n ≤ 32) (l : length point ≡ n) (long : 268 ≤ length out) where
   -- it is what was written to the front
-  pub record_front : (w : AnswerWritten) (out' : List ℕ) (count : ℕ) → (w, out') ≡ write_answer_answer n a point out → w ≡ Bytes count → take count out' ≡ answer_bytes a point
+  pub record_front : (w : (Result ℕ Refusal)) (out' : List ℕ) (count : ℕ) → (w, out') ≡ write_answer_answer n a point out → w ≡ Ok count → take count out' ≡ answer_bytes a point
   record_front w out' count e k =
       let bytes = answer_bytes a point in
       let f = e ∙ write_answer_front a point n out d h l long in
-      let w_is : w ≡ Bytes (length bytes) = ap (λ z. z.0) f in
+      let w_is : w ≡ Ok (length bytes) = ap (λ z. z.0) f in
       let count_is : count ≡ length bytes = cc in
       let out_is : out' ≡ over out 0 bytes = ap (λ z. z.1) f in
       (λ i. take (count_is i) (out_is i)) ∙ front_over out bytes
 
   -- and it is never refused
-  pub record_made : (w : AnswerWritten) (out' : List ℕ) (why : Refusal) → (w, out') ≡ write_answer_answer n a point out → w ≡ NotWritten why → ⊥
+  pub record_made : (w : (Result ℕ Refusal)) (out' : List ℕ) (why : Refusal) → (w, out') ≡ write_answer_answer n a point out → w ≡ Err why → ⊥
   record_made w out' why e k =
-      let w_is : w ≡ Bytes (length (answer_bytes a point)) = ap (λ z. z.0) (e ∙ write_answer_front a point n out d h l long) in
+      let w_is : w ≡ Ok (length (answer_bytes a point)) = ap (λ z. z.0) (e ∙ write_answer_front a point n out d h l long) in
       let z : ◌≡◌ {A = ℕ} 0 1 = cc in
       omega arith

@@ -1,5 +1,7 @@
 -- Laws of Belongs: what `belongs` answers of the slices is what the definition says of the bytes. Assumes nothing.
-use Rattle.std.specs.Prelude.{ℕ, ◌*◌, ◌≤◌, ◌≡◌, refl, Bool, false, ◌&&◌, length, take, Float}
+use Rattle.numbers.specs.declared.refusal.Refusal.{Refusal}
+use Rattle.drivers.specs.Trace.{Text}
+use Rattle.std.specs.Prelude.{ℕ, ◌*◌, ◌≤◌, ◌≡◌, refl, Bool, false, ◌&&◌, length, take, Float, Err, Ok, Result}
 use Rattle.std.proofs.Common.{sym, ◌∙◌}
 use Rattle.std.proofs.Math.Path.{ap}
 use Rattle.std.proofs.Math.Bool.{true}
@@ -18,28 +20,24 @@ use Rattle.drivers.specs.Record.{fronted, numbers_at, number_at, place}
 use Rattle.drivers.specs.Rules.{found_place}
 use Rattle.drivers.specs.Job.{job_oracle}
 use Rattle.drivers.specs.Answer.{has_point, answer_at, point_at, answer_walk}
-use Rattle.drivers.specs.Belongs.{yes_if, feasible_for, is_of, belongs_tests, belongs_answer}
+use Rattle.drivers.specs.Belongs.{feasible_for, is_of, belongs_tests, belongs_answer}
 use Rattle.drivers.specs.Input.{take_answer_answer}
 use Rattle.drivers.specs.laws.Trace.{text_in}
-use Rattle.drivers.specs.declared.trace.Text.{Text}
-use Rattle.drivers.specs.declared.input.TakenAnswer.TheVariants.{Refused as NoAnswer}
 use Rattle.drivers.specs.laws.Job.{JobSound}
 use Rattle.drivers.specs.laws.JobRuns.{front_is}
 use Rattle.drivers.specs.declared.answer.Answer.{Answer}
 use Rattle.drivers.specs.declared.job.Job.{Job}
-use Rattle.drivers.specs.declared.belongs.Belonging.{Belonging}
-use Rattle.drivers.specs.declared.belongs.Belonging.TheVariants.{Yes, No, Refused}
 use Rattle.commands.specs.Output.{Written, nothing_written}
 use Rattle.commands.specs.Belongs.{yes_or_no, judged_written}
 use Rattle.commands.specs.laws.Taken.{AnswerIs, judges, answer_refused_is}
 
 -- what is said of what `belongs` answered
-abbrev pub said : Belonging → Written
-said Yes = (Stdout, bytes_of "yes\n")
-said No = (Stdout, bytes_of "no\n")
-said (Refused why) = nothing_written
+abbrev pub said : Result Bool Refusal → Written
+said (Ok true) = (Stdout, bytes_of "yes\n")
+said (Ok false) = (Stdout, bytes_of "no\n")
+said (Err why) = nothing_written
 
-said_so : (t : Bool) → said (yes_if t) ≡ yes_or_no t
+said_so : (t : Bool) → said (Ok t) ≡ yes_or_no t
 unfolding pick
 said_so true = refl
 said_so false = refl
@@ -56,21 +54,21 @@ point_read n bytes places point h =
 
 module _ (j : Job) (h : JobSound j) (table x grad : List Float) (t : length table ≡ j.rows * j.n) (xl : length x ≡ j.n) (g : length grad ≡ j.n) where
   -- no job that was read is refused
-  answered : (a : Answer) (p : List Float) → length p ≡ j.n → (belongs_answer j table x a p grad).0 ≡ yes_if (is_of j table x a p)
+  answered : (a : Answer) (p : List Float) → length p ≡ j.n → (belongs_answer j table x a p grad).0 ≡ Ok (is_of j table x a p)
   unfolding belongs_answer
   answered a p l =
       let fit : (table_fits j.n j.rows table x && eqb (length p) j.n && eqb (length grad) j.n) ≡ true =
       rw (eq-eqb (length table) (j.rows * j.n) t, eq-eqb (length x) j.n xl, eq-eqb (length p) j.n l, eq-eqb (length grad) j.n g) in
-      ap (λ (r : Belonging × List Float). r.0)
+      ap (λ (r : Result Bool Refusal × List Float). r.0)
       (sym (accepts _ _ (belongs_tests j table x p grad) (fits_oracle (job_oracle j) j.n j.rows _ (record { dimension = h.dimension; long = fit; bands = h.bands; cursors = h.cursors })) refl))
 
   pub judged_is : (bytes : List ℕ) (point : List Float) (out : List ℕ) (a : Answer) (point' : List Float) (out' : List ℕ) → j.n ≤ length point → AnswerIs j.n bytes point out a point' out'
-      → length (take j.n point') ≡ j.n → (b : Belonging) (grad' : List Float) → (b, grad') ≡ belongs_answer j table x a (take j.n point') grad → said b ≡ judged_written j table x bytes
+      → length (take j.n point') ≡ j.n → (b : (Result Bool Refusal)) (grad' : List Float) → (b, grad') ≡ belongs_answer j table x a (take j.n point') grad → said b ≡ judged_written j table x bytes
   unfolding judged_written
   judged_is bytes point out a point' out' room is l b grad' e =
       let n = j.n in
       let places = (answer_walk bytes).1 in
-      ap said (ap (λ (r : Belonging × List Float). r.0) e ∙ answered a (take n point') l)
+      ap said (ap (λ (r : Result Bool Refusal × List Float). r.0) e ∙ answered a (take n point') l)
       ∙ said_so (is_of j table x a (take n point'))
       ∙ ap yes_or_no
       (rw (is.answer_is, is.point_is)
@@ -79,6 +77,6 @@ module _ (j : Job) (h : JobSound j) (table x grad : List Float) (t : length tabl
 
 -- an answer that is not taken
 pub refused_judged : (j : Job) (table x : List Float) (bytes : List ℕ) (point : List Float) (out : List ℕ) → j.n ≤ length point → 128 ≤ length out
-    → (text : Text) (point' : List Float) (out' : List ℕ) → (NoAnswer text, point', out') ≡ take_answer_answer j.n bytes point out → (Stderr, text_in text out') ≡ judged_written j table x bytes
+    → (text : Text) (point' : List Float) (out' : List ℕ) → (Err text, point', out') ≡ take_answer_answer j.n bytes point out → (Stderr, text_in text out') ≡ judged_written j table x bytes
 unfolding judged_written
 refused_judged j table x bytes point out h room text point' out' e = answer_refused_is j.n bytes point out h room text point' out' e _

@@ -1,51 +1,50 @@
 -- Laws of Jobfile: what `belongs` writes of a job, whatever is read of the answer's file. Assumes nothing.
-use Rattle.std.specs.Prelude.{ℕ, ◌*◌, ◌≡◌, List, length, take, Float}
+use Rattle.std.specs.Prelude.{ℕ, ◌*◌, ◌≡◌, List, length, take, Float, Option, Some, None}
 use Rattle.std.proofs.Common.{sym, ◌∙◌, subst}
 use Rattle.streams.specs.Input.{ReadInto, of_read}
 use Rattle.streams.specs.laws.Input.{input_room, read_none}
-use Rattle.streams.specs.declared.input.Input.{Input}
-use Rattle.streams.specs.declared.input.Input.TheVariants.{Bytes, Failed}
-use Rattle.streams.specs.declared.output.Handed.{Handed}
+use Rattle.streams.specs.declared.output.Console.{Console}
 use Rattle.drivers.specs.Job.{full_job_at, job_walk, full_job}
 use Rattle.drivers.specs.laws.JobRuns.{full_long, front_is}
 use Rattle.drivers.specs.declared.job.Job.{Job}
 use Rattle.drivers.specs.declared.trace.Source.TheVariants.{Job as TheJob}
-use Rattle.commands.specs.Output.{Written, nothing_written, handed_over}
+use Rattle.commands.specs.Output.{Written, nothing_written, Writes}
 use Rattle.commands.specs.Belongs.{judged_written, belongs_written}
 use Rattle.commands.specs.Jobfile.{Wrote, judged}
 use Rattle.commands.specs.declared.arguments.Command.TheVariants.{Belongs}
 use Rattle.commands.specs.laws.Taken.{JobIs, goes_on}
 
--- what was handed over of a job that was read ..
-pub data Judged (j : Job) (table x : List Float) : Handed → Type 0 where
-  of_answer : (read : Input) (bytes : List ℕ) → ReadInto read bytes → Judged j table x (handed_over (of_read read bytes (judged_written j table x) nothing_written))
+-- a console hands over one text of those that P allows
+pub record Writing {W E : Type 0} (contents : W → Option (List ℕ)) (before after : Console W E) (P : Written → Type 0) : Type 0 where
+  pub written : Written
+  pub is_one : P written
+  pub writes : Writes contents before after written
 
--- .. of its bytes ..
-pub data JobJudged (job : List ℕ) : Handed → Type 0 where
-  of_both : (read : Input) (bytes : List ℕ) → ReadInto read bytes → JobJudged job (handed_over (belongs_written job read bytes))
+-- what is written of a job that was read ..
+pub data Judged (j : Job) (table x : List Float) : Written → Type 0 where
+  of_answer : (read : Option ℕ) (bytes : List ℕ) → ReadInto read bytes → Judged j table x (of_read read bytes (judged_written j table x) nothing_written)
 
--- .. and of what was read of its file
-pub data FileJudged (read : Input) (bytes : List ℕ) : Handed → Type 0 where
-  of_files : (read' : Input) (bytes' : List ℕ) → ReadInto read' bytes' → FileJudged read bytes (handed_over (of_read read bytes (λ job. belongs_written job read' bytes') nothing_written))
+-- .. and of its bytes
+pub data JobJudged (job : List ℕ) : Written → Type 0 where
+  of_both : (read : Option ℕ) (bytes : List ℕ) → ReadInto read bytes → JobJudged job (belongs_written job read bytes)
 
-pub of_file : (read : Input) (bytes : List ℕ) → ReadInto read bytes → (h : Handed) → FileJudged read bytes h → Wrote Belongs h
-of_file read bytes i h (of_files read' bytes' i') = judged read bytes i read' bytes' i'
+-- .. and then of its file
+module _ (read : Option ℕ) (bytes : List ℕ) (i : ReadInto read bytes) where
+  pub of_job_file : (count : ℕ) → read ≡ Some count → (w : Written) → JobJudged (take count bytes) w → Wrote Belongs w
+  of_job_file count e w (of_both read' bytes' i') =
+      subst (λ (z : Option ℕ). Wrote Belongs (of_read z bytes (λ job. belongs_written job read' bytes') nothing_written)) e (judged read bytes i read' bytes' i')
 
-pub of_job_file : (read : Input) (bytes : List ℕ) (count : ℕ) → read ≡ Bytes count → (h : Handed) → JobJudged (take count bytes) h → FileJudged read bytes h
-of_job_file read bytes count e h (of_both read' bytes' i) =
-    subst (λ (z : Input). FileJudged z bytes (handed_over (belongs_written (take count bytes) read' bytes'))) (sym e) (of_files read' bytes' i)
+  pub unread_file : read ≡ None → Wrote Belongs nothing_written
+  unread_file e = subst (λ (z : Option ℕ). Wrote Belongs (of_read z bytes (λ job. belongs_written job None input_room) nothing_written)) e (judged read bytes i None input_room read_none)
 
-pub unread_file : (read : Input) (bytes : List ℕ) → read ≡ Failed → FileJudged read bytes (handed_over nothing_written)
-unread_file read bytes e = subst (λ (z : Input). FileJudged z bytes (handed_over nothing_written)) (sym e) (of_files Failed input_room read_none)
-
-pub of_judged : (job : List ℕ) (j : Job) (table x : List Float) → ((read : Input) (bytes : List ℕ) → of_read read bytes (judged_written j table x) nothing_written ≡ belongs_written job read bytes)
-    → (h : Handed) → Judged j table x h → JobJudged job h
-of_judged job j table x e h (of_answer read bytes i) = subst (λ (w : Written). JobJudged job (handed_over w)) (sym (e read bytes)) (of_both read bytes i)
+pub of_judged : (job : List ℕ) (j : Job) (table x : List Float) → ((read : Option ℕ) (bytes : List ℕ) → of_read read bytes (judged_written j table x) nothing_written ≡ belongs_written job read bytes)
+    → (w : Written) → Judged j table x w → JobJudged job w
+of_judged job j table x e w (of_answer read bytes i) = subst (JobJudged job) (sym (e read bytes)) (of_both read bytes i)
 
 -- of the fronts of the slices that a job was taken into
 pub fronts_judged : (bytes : List ℕ) (table xc mq : List Float) (out : List ℕ) (j : Job) (table' xc' mq' : List Float) (out' : List ℕ) → length table ≡ 32768 → length xc ≡ 32 → length mq ≡ 1024
     → JobIs TheJob bytes table xc mq out j table' xc' mq' out'
-    → (read : Input) (answer : List ℕ) → of_read read answer (judged_written j (take (j.rows * j.n) table') (take j.n xc')) nothing_written ≡ belongs_written bytes read answer
+    → (read : Option ℕ) (answer : List ℕ) → of_read read answer (judged_written j (take (j.rows * j.n) table') (take j.n xc')) nothing_written ≡ belongs_written bytes read answer
 unfolding belongs_written full_job_at
 fronts_judged bytes table xc mq out j table' xc' mq' out' t x m is read answer =
     let f = full_job bytes in

@@ -1,20 +1,22 @@
 -- What `take_job` and `take_answer` took, where the slices hold every job and every line: the record, or the line of its own first fault. Assumes nothing.
-use Rattle.std.specs.Prelude.{ℕ, ◌≤◌, length, Err}
+use Rattle.std.specs.Prelude.{ℕ, ◌≤◌, length, Option, Some, None, Err, Ok, Result}
 use Rattle.std.proofs.Math.Path.{◌≡◌, refl, ap, subst}
 use Rattle.std.proofs.Common.{sym, ◌∙◌, arith, le-leb}
 use mathlib.Core.List.{List, []}
 use Rattle.std.specs.Float.Ieee.{Float}
-use Rattle.numbers.specs.Refusal.{◌⨾◌, unless, At, Sound, Tests}
+use Rattle.numbers.specs.Refusal.{◌⨾◌, unless, Sound, Tests}
 use Rattle.numbers.specs.laws.Arr.{length_tab}
 use Rattle.numbers.specs.laws.Pick.{by_test}
 use Rattle.numbers.specs.laws.Refusal.{held, both_sound, accepts}
 use Rattle.numbers.specs.declared.refusal.Refusal.TheVariants.{Room}
-use Rattle.streams.specs.declared.output.Stream.TheVariants.{Stderr}
+use Rattle.streams.specs.Output.{Hands}
+use Rattle.streams.specs.declared.output.Stream.TheVariants.{Stdout, Stderr}
+use Rattle.streams.specs.declared.output.Console.{Console}
 use Rattle.drivers.specs.Record.{fronted, numbers_at, number_at, place}
 use Rattle.drivers.specs.Rules.{found_place}
 use Rattle.drivers.specs.Job.{full_job, job_fault}
 use Rattle.drivers.specs.Answer.{answer_at, point_at, has_point, answer_walk, answer_fault, point_room}
-use Rattle.drivers.specs.Trace.{refused_text, printed, refused_line_answer}
+use Rattle.drivers.specs.Trace.{refused_text, printed, refused_line_answer, Text}
 use Rattle.drivers.specs.Input.{input_tests, with_slices, job_refused, take_job_tests, take_job_answer, answer_refused, take_answer_tests, take_answer_answer}
 use Rattle.drivers.specs.laws.Input.{own_faults, last_held}
 use Rattle.drivers.specs.laws.Job.{JobSound}
@@ -25,18 +27,14 @@ use Rattle.drivers.specs.declared.answer.Answer.{Answer}
 use Rattle.drivers.specs.declared.job.Job.{Job}
 use Rattle.drivers.specs.declared.trace.Source.{Source}
 use Rattle.drivers.specs.declared.trace.Source.TheVariants.{Answer as OfAnswer}
-use Rattle.drivers.specs.declared.trace.Text.{Text}
-use Rattle.drivers.specs.declared.input.TakenJob.{TakenJob}
-use Rattle.drivers.specs.declared.input.TakenJob.TheVariants.{Taken, Refused}
-use Rattle.drivers.specs.declared.input.TakenAnswer.{TakenAnswer}
-use Rattle.drivers.specs.declared.input.TakenAnswer.TheVariants.{Taken as AnswerTaken, Refused as NoAnswer}
-use Rattle.commands.specs.Output.{Written, refusal_written}
+use Rattle.runner.specs.declared.buffers.Buffers.{Buffers}
+use Rattle.commands.specs.Output.{Written, refusal_written, Writes}
 
 -- ---- a job
 
 module _ (source : Source) (bytes : List ℕ) (table xc mq : List Float) (out : List ℕ) where
-  abbrev job_done : TakenJob × List Float × List Float × List Float × List ℕ
-  job_done = let f = full_job bytes in (Taken f.job, fronted f.table table, fronted f.point xc, fronted f.matrix mq, out)
+  abbrev job_done : Result Job Text × List Float × List Float × List Float × List ℕ
+  job_done = let f = full_job bytes in (Ok f.job, fronted f.table table, fronted f.point xc, fronted f.matrix mq, out)
 
   -- what was taken is the record's, and it has no fault
   pub record JobIs (j : Job) (table' xc' mq' : List Float) (out' : List ℕ) : Type 0 where
@@ -47,19 +45,19 @@ module _ (source : Source) (bytes : List ℕ) (table xc mq : List Float) (out : 
     pub mq_is : mq' ≡ fronted (full_job bytes).matrix mq
     pub out_is : out' ≡ out
 
-  pub job_taken_is : (j : Job) (table' xc' mq' : List Float) (out' : List ℕ) → (Taken j, table', xc', mq', out') ≡ take_job_answer source bytes table xc mq out → JobIs j table' xc' mq' out'
+  pub job_taken_is : (j : Job) (table' xc' mq' : List Float) (out' : List ℕ) → (Ok j, table', xc', mq', out') ≡ take_job_answer source bytes table xc mq out → JobIs j table' xc' mq' out'
   unfolding take_job_answer
   job_taken_is j table' xc' mq' out' = go (take_job_tests bytes table xc mq) refl
     where
       go : (fault : Tests) → take_job_tests bytes table xc mq ≡ fault
-          → ◌≡◌ {A = TakenJob × List Float × List Float × List Float × List ℕ} (Taken j, table', xc', mq', out')
+          → ◌≡◌ {A = (Result Job Text) × List Float × List Float × List Float × List ℕ} (Ok j, table', xc', mq', out')
           (unless fault (λ why place. with_slices table xc mq (job_refused (refused_line_answer source why place out))) job_done)
           → JobIs j table' xc' mq' out'
       go Sound s e =
-          let e₀ : Taken j ≡ Taken (full_job bytes).job = ap (λ z. z.0) e in
+          let e₀ : Ok j ≡ Ok (full_job bytes).job = ap (λ z. z.0) e in
           record { tests = s; job_is = cc; table_is = ap (λ z. z.1) e; xc_is = ap (λ z. z.2) e; mq_is = ap (λ z. z.3) e; out_is = ap (λ z. z.4) e }
       go (Err fault) s e =
-          let e₀ : Taken j ≡ Refused (refused_line_answer source fault.why fault.place out).0 = ap (λ z. z.0) e in
+          let e₀ : Ok j ≡ Err (refused_line_answer source fault.why fault.place out).0 = ap (λ z. z.0) e in
           absurd (let z : ◌≡◌ {A = ℕ} 0 1 = cc in omega arith)
 
   module _ (t : length table ≡ 32768) (x : length xc ≡ 32) (m : length mq ≡ 1024) where
@@ -68,27 +66,27 @@ module _ (source : Source) (bytes : List ℕ) (table xc mq : List Float) (out : 
     goes_on is done = accepts _ _ (input_tests bytes ⨾ job_fault bytes) (sym is.tests ∙ own_faults bytes table xc mq t x m) refl
 
     -- else the line is that of its fault
-    pub job_refused_is : 128 ≤ length out → (text : Text) (table' xc' mq' : List Float) (out' : List ℕ) → (Refused text, table', xc', mq', out') ≡ take_job_answer source bytes table xc mq out
+    pub job_refused_is : 128 ≤ length out → (text : Text) (table' xc' mq' : List Float) (out' : List ℕ) → (Err text, table', xc', mq', out') ≡ take_job_answer source bytes table xc mq out
         → (done : Written) → (Stderr, text_in text out') ≡ unless (input_tests bytes ⨾ job_fault bytes) (refusal_written source) done
     unfolding take_job_answer
     job_refused_is room text table' xc' mq' out' e done = subst (λ (f : Tests). (Stderr, text_in text out') ≡ unless f (refusal_written source) done) (own_faults bytes table xc mq t x m) (go (take_job_tests bytes table xc mq) e)
       where
-        go : (fault : Tests) → ◌≡◌ {A = TakenJob × List Float × List Float × List Float × List ℕ} (Refused text, table', xc', mq', out')
+        go : (fault : Tests) → ◌≡◌ {A = (Result Job Text) × List Float × List Float × List Float × List ℕ} (Err text, table', xc', mq', out')
             (unless fault (λ why place. with_slices table xc mq (job_refused (refused_line_answer source why place out))) job_done)
             → (Stderr, text_in text out') ≡ unless fault (refusal_written source) done
         go Sound e =
-            let e₀ : Refused text ≡ Taken (full_job bytes).job = ap (λ z. z.0) e in
+            let e₀ : Err text ≡ Ok (full_job bytes).job = ap (λ z. z.0) e in
             absurd (let z : ◌≡◌ {A = ℕ} 0 1 = cc in omega arith)
         go (Err fault) e =
             let line = refused_text source fault.why fault.place in
-            let e₀ : Refused text ≡ Refused (printed line out).0 = ap (λ z. z.0) e in
+            let e₀ : Err text ≡ Err (printed line out).0 = ap (λ z. z.0) e in
             let e₁ : text ≡ (printed line out).0 = cc in
             let e₂ : out' ≡ (printed line out).1 = ap (λ z. z.4) e in
             ap (λ (l : List ℕ). (Stderr, l)) ((λ i. text_in (e₁ i) (e₂ i)) ∙ printed_front line out room)
 
 -- the answer of `take_job`, once a branch knows which it is
-pub as_taken : {t u : TakenJob} {table xc mq : List Float} {out : List ℕ} {r : TakenJob × List Float × List Float × List Float × List ℕ} → (t, table, xc, mq, out) ≡ r → t ≡ u → (u, table, xc, mq, out) ≡ r
-as_taken {table = table} {xc = xc} {mq = mq} {out = out} e h = ap (λ (t : TakenJob). (t, table, xc, mq, out)) (sym h) ∙ e
+pub as_taken : {t u : (Result Job Text)} {table xc mq : List Float} {out : List ℕ} {r : Result Job Text × List Float × List Float × List Float × List ℕ} → (t, table, xc, mq, out) ≡ r → t ≡ u → (u, table, xc, mq, out) ≡ r
+as_taken {table = table} {xc = xc} {mq = mq} {out = out} e h = ap (λ (t : (Result Job Text)). (t, table, xc, mq, out)) (sym h) ∙ e
 
 -- a taken job can be run, and its numbers stand at the fronts of the slices
 pub taken_held : (source : Source) (bytes : List ℕ) (table xc mq : List Float) (out : List ℕ) (j : Job) (table' xc' mq' : List Float) (out' : List ℕ)
@@ -99,8 +97,8 @@ taken_held source bytes table xc mq out j table' xc' mq' out' is =
 -- ---- an answer, with room for every point
 
 module _ (n : ℕ) (bytes : List ℕ) (point : List Float) (out : List ℕ) where
-  abbrev answer_done : TakenAnswer × List Float × List ℕ
-  answer_done = let places = (answer_walk bytes).1 in (AnswerTaken (answer_at bytes places), fronted (point_at n bytes places) point, out)
+  abbrev answer_done : Result Answer Text × List Float × List ℕ
+  answer_done = let places = (answer_walk bytes).1 in (Ok (answer_at bytes places), fronted (point_at n bytes places) point, out)
 
   pub record AnswerIs (a : Answer) (point' : List Float) (out' : List ℕ) : Type 0 where
     pub tests : take_answer_tests n bytes point ≡ Sound
@@ -108,18 +106,18 @@ module _ (n : ℕ) (bytes : List ℕ) (point : List Float) (out : List ℕ) wher
     pub point_is : point' ≡ fronted (point_at n bytes (answer_walk bytes).1) point
     pub out_is : out' ≡ out
 
-  pub answer_taken_is : (a : Answer) (point' : List Float) (out' : List ℕ) → (AnswerTaken a, point', out') ≡ take_answer_answer n bytes point out → AnswerIs a point' out'
+  pub answer_taken_is : (a : Answer) (point' : List Float) (out' : List ℕ) → (Ok a, point', out') ≡ take_answer_answer n bytes point out → AnswerIs a point' out'
   unfolding take_answer_answer
   answer_taken_is a point' out' = go (take_answer_tests n bytes point) refl
     where
       go : (fault : Tests) → take_answer_tests n bytes point ≡ fault
-          → ◌≡◌ {A = TakenAnswer × List Float × List ℕ} (AnswerTaken a, point', out') (unless fault (λ why place. answer_refused point (refused_line_answer OfAnswer why place out)) answer_done)
+          → ◌≡◌ {A = (Result Answer Text) × List Float × List ℕ} (Ok a, point', out') (unless fault (λ why place. answer_refused point (refused_line_answer OfAnswer why place out)) answer_done)
           → AnswerIs a point' out'
       go Sound s e =
-          let e₀ : AnswerTaken a ≡ AnswerTaken (answer_at bytes (answer_walk bytes).1) = ap (λ z. z.0) e in
+          let e₀ : Ok a ≡ Ok (answer_at bytes (answer_walk bytes).1) = ap (λ z. z.0) e in
           record { tests = s; answer_is = cc; point_is = ap (λ z. z.1) e; out_is = ap (λ z. z.2) e }
       go (Err fault) s e =
-          let e₀ : AnswerTaken a ≡ NoAnswer (refused_line_answer OfAnswer fault.why fault.place out).0 = ap (λ z. z.0) e in
+          let e₀ : Ok a ≡ Err (refused_line_answer OfAnswer fault.why fault.place out).0 = ap (λ z. z.0) e in
           absurd (let z : ◌≡◌ {A = ℕ} 0 1 = cc in omega arith)
 
   module _ (h : n ≤ length point) where
@@ -137,22 +135,30 @@ module _ (n : ℕ) (bytes : List ℕ) (point : List Float) (out : List ℕ) wher
     pub judges : {a : Answer} {point' : List Float} {out' : List ℕ} → AnswerIs a point' out' → (done : Written) → done ≡ unless (input_tests bytes ⨾ answer_fault n bytes) (refusal_written OfAnswer) done
     judges is done = accepts _ _ (input_tests bytes ⨾ answer_fault n bytes) (sym is.tests ∙ own) refl
 
-    pub answer_refused_is : 128 ≤ length out → (text : Text) (point' : List Float) (out' : List ℕ) → (NoAnswer text, point', out') ≡ take_answer_answer n bytes point out
+    pub answer_refused_is : 128 ≤ length out → (text : Text) (point' : List Float) (out' : List ℕ) → (Err text, point', out') ≡ take_answer_answer n bytes point out
         → (done : Written) → (Stderr, text_in text out') ≡ unless (input_tests bytes ⨾ answer_fault n bytes) (refusal_written OfAnswer) done
     unfolding take_answer_answer
     answer_refused_is room text point' out' e done = subst (λ (f : Tests). (Stderr, text_in text out') ≡ unless f (refusal_written OfAnswer) done) own (go (take_answer_tests n bytes point) e)
       where
-        go : (fault : Tests) → ◌≡◌ {A = TakenAnswer × List Float × List ℕ} (NoAnswer text, point', out') (unless fault (λ why place. answer_refused point (refused_line_answer OfAnswer why place out)) answer_done)
+        go : (fault : Tests) → ◌≡◌ {A = (Result Answer Text) × List Float × List ℕ} (Err text, point', out') (unless fault (λ why place. answer_refused point (refused_line_answer OfAnswer why place out)) answer_done)
             → (Stderr, text_in text out') ≡ unless fault (refusal_written OfAnswer) done
         go Sound e =
-            let e₀ : NoAnswer text ≡ AnswerTaken (answer_at bytes (answer_walk bytes).1) = ap (λ z. z.0) e in
+            let e₀ : Err text ≡ Ok (answer_at bytes (answer_walk bytes).1) = ap (λ z. z.0) e in
             absurd (let z : ◌≡◌ {A = ℕ} 0 1 = cc in omega arith)
         go (Err fault) e =
             let line = refused_text OfAnswer fault.why fault.place in
-            let e₀ : NoAnswer text ≡ NoAnswer (printed line out).0 = ap (λ z. z.0) e in
+            let e₀ : Err text ≡ Err (printed line out).0 = ap (λ z. z.0) e in
             let e₁ : text ≡ (printed line out).0 = cc in
             let e₂ : out' ≡ (printed line out).1 = ap (λ z. z.2) e in
             ap (λ (l : List ℕ). (Stderr, l)) ((λ i. text_in (e₁ i) (e₂ i)) ∙ printed_front line out room)
 
-pub as_answer : {t u : TakenAnswer} {point : List Float} {out : List ℕ} {r : TakenAnswer × List Float × List ℕ} → (t, point, out) ≡ r → t ≡ u → (u, point, out) ≡ r
-as_answer {point = point} {out = out} e h = ap (λ (t : TakenAnswer). (t, point, out)) (sym h) ∙ e
+pub as_answer : {t u : (Result Answer Text)} {point : List Float} {out : List ℕ} {r : Result Answer Text × List Float × List ℕ} → (t, point, out) ≡ r → t ≡ u → (u, point, out) ≡ r
+as_answer {point = point} {out = out} e h = ap (λ (t : (Result Answer Text)). (t, point, out)) (sym h) ∙ e
+
+-- ---- a job, or its refusal
+
+-- a job, and nothing is handed over; or the line that refuses it, whatever a command would have done
+abbrev pub Took : {W E : Type 0} → (W → Option (List ℕ)) → Console W E → Console W E → Source → List ℕ → Buffers → Buffers → Option Job → Type 0
+Took contents before after source bytes b b' (Some j) = Hands contents before after Stdout [] × JobIs source bytes b.table b.xc b.mq b.out j b'.table b'.xc b'.mq b'.out
+    × (length b.table ≡ 32768) × (length b.xc ≡ 32) × (length b.mq ≡ 1024)
+Took contents before after source bytes b b' None = (done : Written) → Writes contents before after (unless (input_tests bytes ⨾ job_fault bytes) (refusal_written source) done)

@@ -1,21 +1,18 @@
 -- A step from what its calls answered: the assessment, then the update. Assumes nothing.
+use Rattle.std.specs.Prelude.{Some, None, Ok, Err}
 use mathlib.Core.Path.{◌≡◌, sym, ap, ◌∙◌}
 use mathlib.Core.List.{List}
 use Prim.Native.Nat.{ℕ}
 use lib.Ieee.{Float}
 use Rattle.numbers.specs.declared.refusal.Refusal.{Refusal}
-use Rattle.numbers.specs.declared.cut.CutChoice.{CutChoice}
 use Rattle.oracles.specs.LowpassOracle.{assess_feas_answer}
 use Rattle.oracles.specs.Ell.{EllBuffers, ell_update_answer}
 use Rattle.oracles.specs.declared.ell.EllUpdate.{EllUpdate}
 use Rattle.oracles.specs.declared.ell_common.CutStrategy.TheVariants.{BiasCut}
-use Rattle.oracles.specs.declared.lowpass_oracle.Group.{Group}
+use Rattle.oracles.specs.declared.lowpass_oracle.Cut.{Cut}
 use Rattle.oracles.specs.declared.lowpass_oracle.Assessed.{Assessed}
-use Rattle.oracles.specs.declared.lowpass_oracle.Verdict.TheVariants.{Feasible as IsFeasible, Cut as IsCut, Refused as NotAssessed}
 use Rattle.drivers.specs.CuttingPlane.{State}
-use Rattle.drivers.specs.CuttingPlaneFeas.{cut_answer, feas_cut, feas_step}
-use Rattle.drivers.specs.declared.cutting_plane_feas.StepAnswer.{StepAnswer}
-use Rattle.drivers.specs.declared.cutting_plane_feas.StepAnswer.TheVariants.{Feasible, Refused}
+use Rattle.drivers.specs.CuttingPlaneFeas.{cut_answer, feas_cut, feas_step, StepAnswer}
 
 -- the assessment r left the gradient g
 
@@ -24,17 +21,17 @@ module _ (rows : ℕ) (table : List Float) (s : State) (r : Assessed) (g : List 
   unfolding feas_step
   assessed = ap (λ (a : Assessed × List Float). feas_cut s a.0.oracle a.0.verdict a.1) e
 
-  pub step_feasible : r.verdict ≡ IsFeasible → (Feasible, record { oracle = r.oracle; ell = s.ell; buffers = s.buffers; grad = g }) ≡ feas_step rows table s
+  pub step_feasible : r.verdict ≡ Ok None → (Ok None, record { oracle = r.oracle; ell = s.ell; buffers = s.buffers; grad = g }) ≡ feas_step rows table s
   step_feasible v = sym (ap (λ w. feas_cut s r.oracle w g) v) ∙ assessed
 
-  pub step_refused : (why : Refusal) → r.verdict ≡ NotAssessed why → (Refused why, record { oracle = r.oracle; ell = s.ell; buffers = s.buffers; grad = g }) ≡ feas_step rows table s
+  pub step_refused : (why : Refusal) → r.verdict ≡ Err why → (Err why, record { oracle = r.oracle; ell = s.ell; buffers = s.buffers; grad = g }) ≡ feas_step rows table s
   step_refused why v = sym (ap (λ w. feas_cut s r.oracle w g) v) ∙ assessed
 
   -- the update u left the buffers b, and `said` was made of it
-  pub step_cut : (group : Group) (beta : CutChoice) → r.verdict ≡ IsCut group beta → (u : EllUpdate) (b : EllBuffers) → (u, b) ≡ ell_update_answer s.ell BiasCut g beta s.buffers
-      → (answer : StepAnswer) → answer ≡ cut_answer group beta u.answer → (answer, record { oracle = r.oracle; ell = u.ell; buffers = b; grad = g }) ≡ feas_step rows table s
-  step_cut group beta v u b d answer q =
+  pub step_cut : (cut : Cut) → r.verdict ≡ Ok (Some cut) → (u : EllUpdate) (b : EllBuffers) → (u, b) ≡ ell_update_answer s.ell BiasCut g cut.beta s.buffers
+      → (answer : StepAnswer) → answer ≡ cut_answer cut u.answer → (answer, record { oracle = r.oracle; ell = u.ell; buffers = b; grad = g }) ≡ feas_step rows table s
+  step_cut cut v u b d answer q =
       ap (λ w. (w, record { oracle = r.oracle; ell = u.ell; buffers = b; grad = g })) q
-      ∙ ap (λ (w : EllUpdate × EllBuffers). (cut_answer group beta w.0.answer, record { oracle = r.oracle; ell = w.0.ell; buffers = w.1; grad = g })) d
+      ∙ ap (λ (w : EllUpdate × EllBuffers). (cut_answer cut w.0.answer, record { oracle = r.oracle; ell = w.0.ell; buffers = w.1; grad = g })) d
       ∙ sym (ap (λ w. feas_cut s r.oracle w g) v)
       ∙ assessed

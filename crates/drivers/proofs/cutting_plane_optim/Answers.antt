@@ -1,4 +1,7 @@
 -- What `cutting_plane_optim` answers, from what its calls answered: the tests, the run. Assumes nothing.
+use Rattle.drivers.specs.declared.cutting_plane_optim.OptimStop.{OptimStop}
+use Rattle.drivers.specs.declared.answer.Answer.{Answer}
+use Rattle.std.specs.Prelude.{Result}
 use Rattle.numbers.specs.Refusal.{At, Sound, Tests}
 use mathlib.Core.Path.{◌≡◌, refl, sym, ap, ◌∙◌}
 use mathlib.Core.List.{List}
@@ -7,24 +10,22 @@ use lib.Ieee.{Float}
 use Rattle.numbers.specs.declared.refusal.Refusal.{Refusal}
 use Rattle.numbers.specs.laws.Refusal.{refuses, accepts}
 use Rattle.drivers.specs.CuttingPlane.{run_tests}
-use Rattle.drivers.specs.CuttingPlaneOptim.{OptimState, OptimEnd, plain, end_of, optim_run, optim_answer}
-use Rattle.drivers.specs.laws.Refused.{optim_refused}
+use Rattle.drivers.specs.CuttingPlaneOptim.{OptimState, OptimEnd, plain, end_of, optim_run, optim_answer, optim_refused}
+use Rattle.drivers.specs.laws.Refused.{optim_refused as refused_stays}
 use Rattle.drivers.specs.declared.cutting_plane.Options.{Options}
-use Rattle.drivers.specs.declared.cutting_plane_optim.OptimAnswer.{OptimAnswer}
-use Rattle.drivers.specs.declared.cutting_plane_optim.OptimAnswer.TheVariants.{Refused as NotRunOptim}
 
 -- the tests said k
 module _ (options : Options) (rows : ℕ) (table : List Float) (s : OptimState) (k : Tests) (e : k ≡ run_tests rows table (plain s) s.best) where
   abbrev OptimPromised : OptimEnd → Type 0
-  OptimPromised r = (r ≡ optim_answer options rows table s) × ((why : Refusal) → r.answer ≡ NotRunOptim why → r ≡ end_of r.answer s)
+  OptimPromised r = (r ≡ optim_answer options rows table s) × ((why : Refusal) → r.answer ≡ optim_refused why → r ≡ end_of r.answer s)
 
   optim_promised : (r : OptimEnd) → r ≡ optim_answer options rows table s → OptimPromised r
   optim_promised r d =
-      (d, λ why h. d ∙ optim_refused options rows table s why (sym (ap (λ (z : OptimEnd). z.answer) d) ∙ h) ∙ ap (λ (a : OptimAnswer). end_of a s) (sym h))
+      (d, λ why h. d ∙ refused_stays options rows table s why (sym (ap (λ (z : OptimEnd). z.answer) d) ∙ h) ∙ ap (λ (a : (Result Answer OptimStop)). end_of a s) (sym h))
 
-  pub optim_faulty : (why : Refusal) (place : ℕ) → k ≡ At why place → OptimPromised (end_of (NotRunOptim why) s)
+  pub optim_faulty : (why : Refusal) (place : ℕ) → k ≡ At why place → OptimPromised (end_of (optim_refused why) s)
   unfolding optim_answer
-  optim_faulty why place w = optim_promised (end_of (NotRunOptim why) s) (refuses _ _ (run_tests rows table (plain s) s.best) (sym w ∙ e) refl)
+  optim_faulty why place w = optim_promised (end_of (optim_refused why) s) (refuses _ _ (run_tests rows table (plain s) s.best) (sym w ∙ e) refl)
 
   pub optim_done : k ≡ Sound → (r : OptimEnd) → r ≡ optim_run rows table options.tolerance options.max_iters 0 s → OptimPromised r
   unfolding optim_answer

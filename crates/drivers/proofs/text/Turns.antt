@@ -1,48 +1,42 @@
 -- The turns of the loops of `text`. Assumes nothing.
 use Prim.Native.Nat.{ℕ, zero, suc, ◌+◌, ◌-◌, ◌*◌, ◌/◌, ◌%◌, ◌^◌, ◌≤◌, ◌<◌}
 use mathlib.Core.Path.{◌≡◌, refl, sym, ap, ◌∙◌, subst}
-use mathlib.Core.List.{List, ◌∷◌, ◌++◌}
+use mathlib.Core.Bool.{Bool, true, false, not}
+use mathlib.Core.List.{List, ◌∷◌, ◌++◌, append_assoc}
 use native.Mathlib.Nat.{pow-succ'}
-use native.Mathlib.Numerals.{add-one}
 use native.Mathlib.Omega.{arith}
-use borrow.Author.Tests.{lt-ltb, le-ltb}
-use lib.Dec.{ltb}
-use lib.ListN.{length, take, drop, set, get_or, length-set}
-use lib.Seq.{paste, paste-zero, paste-suc, take-length}
+use borrow.Author.Tests.{lt-ltb, le-ltb, leb-true, leb-false}
+use lib.Dec.{ltb, leb}
+use lib.ListN.{length, take, drop, set, length-set}
+use lib.Seq.{drop-drop}
+use borrow.Rule.Slice.PartMut.{put_mid}
 use Rattle.drivers.specs.Text.{digit_char, digits_of, digit_count_to, digit_count}
-use Rattle.drivers.specs.laws.Text.{put_fits, digits_more, length_digits, put}
-use Rattle.numbers.specs.laws.Pick.{is_hit, is_skip}
+use Rattle.drivers.specs.laws.Text.{put_fits, put_not, digits_more, length_digits, put}
+use Rattle.numbers.specs.laws.Pick.{is_hit, is_skip, says_no, says_yes}
 use Rattle.numbers.specs.Over.{over}
 use Rattle.numbers.specs.laws.Over.{over_none, store_before}
 use Rattle.numbers.specs.laws.Bits.{shift, shift_more}
 
--- ---- a copy: i bytes of the text stand from `at` on
+-- ---- a piece of k bytes, by the test of its room
 
-pub record Copied (out₀ out : List ℕ) (at : ℕ) (text : List ℕ) (i : ℕ) : Type 0 where
-  pub within : i ≤ length text
-  pub room : at + length text ≤ length out₀
-  pub long : length out ≡ length out₀
-  pub is : out ≡ paste out₀ at text i
+module _ (out : List ℕ) (at : ℕ) (text : List ℕ) (k : ℕ) (long : length text ≡ k) (r : Bool) (e : r ≡ leb (at + k) (length out)) where
+  pub no_room : not r ≡ true → (at, out) ≡ put out at text
+  no_room h = put_not out at text (omega (arith, long, leb-false (at + k) (length out) (says_no r _ e h)))
 
-module _ (out₀ : List ℕ) (at : ℕ) (text : List ℕ) where
-  pub copied_start : at + length text ≤ length out₀ → Copied out₀ out₀ at text 0
-  copied_start h = record { within = omega arith; room = h; long = refl; is = paste-zero out₀ at text }
+  pub room : not r ≡ false → at + k ≤ length out
+  room h = leb-true (at + k) (length out) (says_yes r _ e h)
 
-  pub copied_turn : (out : List ℕ) (i : ℕ) → Copied out₀ out at text i → i < length text → Copied out₀ (set out (at + i) (get_or text i 0)) at text (i + 1)
-  copied_turn out i h l = record {
-    within = omega arith;
-    room = h.room;
-    long = simp length-set h.long;
-    is = rw (h.is, add-one) (paste-suc out₀ at text i 0 (omega (arith, h.room)) l);
-  }
+-- ---- a copy
 
-  pub copied_done : (out : List ℕ) (i : ℕ) → Copied out₀ out at text i → length text ≤ i → (at + length text, out) ≡ put out₀ at text
-  unfolding over
-  copied_done out i h l =
-      let e : i ≡ length text = omega (arith, h.within) in
-      ap (λ (o : List ℕ). (at + length text, o))
-      (h.is ∙ ap (λ (n : ℕ). paste out₀ at text n) e ∙ ap (λ (t : List ℕ). take at out₀ ++ t ++ drop (at + length text) out₀) (take-length text))
-      ∙ put_fits out₀ at text h.room
+pub copied : (out : List ℕ) (at : ℕ) (text new : List ℕ) → at + length text ≤ length out → new ≡ text
+    → (at + length text, put_mid at (at + length text - at) out new) ≡ put out at text
+unfolding over
+copied out at text new h e =
+    let k : at + length text - at ≡ length text = omega arith in
+    rw (e, k)
+    (ap (λ (l : List ℕ). (at + length text, take at out ++ (text ++ l))) (drop-drop (length text) at out)
+    ∙ ap (λ (l : List ℕ). (at + length text, l)) (sym (append_assoc (take at out) text (drop (at + length text) out))))
+    ∙ put_fits out at text h
 
 -- ---- digits, from the last one down: those from i to the end stand
 

@@ -2,7 +2,7 @@
 use Rattle.std.specs.Prelude.{◌≡◌, refl, Bool, true, false, ◌&&◌, List, [], ℕ, ◌≤◌, leb, ltb, length, Err}
 use Rattle.std.proofs.Common.{sym, ap, ◌∙◌, arith, ltb-true, ltb-false, leb-true, le-leb}
 use Rattle.std.proofs.lemmas.Bool.{lt-leb}
-use Rattle.numbers.specs.Refusal.{◌⨾◌, ask, At, Sound, Tests}
+use Rattle.numbers.specs.Refusal.{◌⨾◌, ask, Sound, Tests}
 use Rattle.numbers.specs.Arr.{is_dimension}
 use Rattle.numbers.specs.laws.Pick.{and_parts, is_hit, is_skip}
 use Rattle.numbers.specs.laws.Refusal.{both_sound, ask_sound}

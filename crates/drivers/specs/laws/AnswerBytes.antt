@@ -1,5 +1,5 @@
 -- Laws of an answer's bytes: their fields, how many they are, and that `write_answer` puts them where there is room. Assumes nothing.
-use Rattle.std.specs.Prelude.{ℕ, ◌+◌, ◌*◌, ◌≤◌, ◌≡◌, refl, true, false, Float}
+use Rattle.std.specs.Prelude.{ℕ, ◌+◌, ◌*◌, ◌≤◌, ◌≡◌, refl, true, false, Float, Ok}
 use Rattle.std.proofs.Math.Path.{sym, ap}
 use Rattle.std.proofs.Common.{◌∙◌, arith, le-leb, eq-eqb}
 use mathlib.Core.List.{List, [], ◌∷◌}
@@ -15,7 +15,6 @@ use Rattle.drivers.specs.Fields.{Field, record_bytes, number_bytes}
 use Rattle.drivers.specs.laws.OneField.{length_numbers}
 use Rattle.drivers.specs.Answer.{outcome_field, steps_field, point_field, answer_fields, answer_bytes, write_answer_tests, write_answer_answer}
 use Rattle.drivers.specs.declared.answer.Answer.{Answer}
-use Rattle.drivers.specs.declared.answer.AnswerWritten.TheVariants.{Bytes}
 
 module _ (a : Answer) (point : List Float) where
   -- the fields, by whether there is a point
@@ -39,7 +38,7 @@ module _ (a : Answer) (point : List Float) where
 
   -- where there is room for the longest, they stand at the front
   pub write_answer_front : (n : ℕ) (out : List ℕ) → is_dimension n ≡ true → n ≤ 32 → length point ≡ n → 268 ≤ length out
-      → write_answer_answer n a point out ≡ (Bytes (length (answer_bytes a point)), over out 0 (answer_bytes a point))
+      → write_answer_answer n a point out ≡ (Ok (length (answer_bytes a point)), over out 0 (answer_bytes a point))
   unfolding over write_answer_answer
   write_answer_front n out d h l room =
       sym (accepts _ _ (write_answer_tests n a point out)

@@ -13,7 +13,7 @@ use Rattle.std.proofs.Math.Seq.{drop-append-add}
 use Rattle.numbers.specs.Pick.{pick}
 use Rattle.numbers.specs.Bits.{le_bytes}
 use Rattle.numbers.specs.laws.Pick.{is_hit, is_skip, pick_cong}
-use Rattle.numbers.specs.Refusal.{◌⨾◌, ask_at, At, Sound, Tests}
+use Rattle.numbers.specs.Refusal.{◌⨾◌, ask_at, Sound, Tests}
 use Rattle.numbers.specs.declared.refusal.Refusal.TheVariants.{Length, CutShort, ForeignTag, RepeatedTag}
 use Rattle.drivers.specs.declared.rules.Form.{Form}
 use Rattle.drivers.specs.Text.{joined}

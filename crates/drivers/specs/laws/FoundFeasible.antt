@@ -1,5 +1,6 @@
 -- What `cutting_plane_feas` answers to a job belongs to that job, if its step limit is above 0. Assumes nothing.
-use Rattle.std.specs.Prelude.{ℕ, ◌*◌, ◌≤◌, ◌≡◌, refl, true, not, ◌&&◌, List, leb, length, take, Float}
+use Rattle.numbers.specs.declared.refusal.Refusal.{Refusal}
+use Rattle.std.specs.Prelude.{ℕ, ◌*◌, ◌≤◌, ◌≡◌, refl, true, not, ◌&&◌, List, leb, length, take, Float, Ok, Result}
 use Rattle.std.proofs.Math.Path.{sym}
 use Rattle.std.proofs.Common.{ap, subst, ◌∙◌, arith, le-leb}
 use Rattle.oracles.specs.Verdict.{judge, is_feasible}
@@ -14,26 +15,23 @@ use Rattle.drivers.specs.laws.RunEnds.{RunEnded, asked_again}
 use Rattle.drivers.specs.laws.Job.{JobSound}
 use Rattle.drivers.specs.laws.JobRuns.{JobSlices, job_sound, held_slices, job_state, job_run_sound, job_ends}
 use Rattle.drivers.specs.declared.answer.Answer.{Answer}
-use Rattle.drivers.specs.declared.cutting_plane_feas.FeasAnswer.{FeasAnswer}
-use Rattle.drivers.specs.declared.cutting_plane_feas.FeasAnswer.TheVariants.{Ended}
 use Rattle.drivers.specs.declared.job.Job.{Job}
-use Rattle.drivers.specs.declared.job.JobAnswer.TheVariants.{Read}
 use Rattle.numbers.specs.laws.Pick.{is_hit, both_ways}
 use Rattle.numbers.specs.laws.Refusal.{held, at_next, accepts}
 use Rattle.numbers.specs.laws.Over.{front_over}
 
 -- An answer, r, to a job whose point is x. Its steps are within the job's limit. A point that is found is feasible for the job.
 -- Where the limit allows a step, an answer without a point belongs to the job too: its own point is not feasible.
-pub record Answered (j : Job) (table x : List Float) (r : FeasAnswer × State × List Float) : Type 0 where
+pub record Answered (j : Job) (table x : List Float) (r : Result Answer Refusal × State × List Float) : Type 0 where
   pub answer : Answer
-  pub answer_is : r.0 ≡ Ended answer
+  pub answer_is : r.0 ≡ Ok answer
   pub steps_within : answer.steps ≤ j.options.max_iters
   pub found_feasible : answer.found ≡ true → feasible_for j table (take j.n r.2) ≡ true
   pub belongs : 1 ≤ j.options.max_iters → is_of j table x answer (take j.n r.2) ≡ true
 
 module _ (j : Job) (h : JobSound j) (table : List Float) (b : EllBuffers) (grad best : List Float) (l : JobSlices j table b grad) (room : j.n ≤ length best) where
   -- the run, its steps, and what is called of it
-  abbrev pub job_run_answer : FeasAnswer × State
+  abbrev pub job_run_answer : Result Answer Refusal × State
   job_run_answer = feas_run j.rows table j.options.tolerance j.options.max_iters 0 (job_state j b grad)
 
   ends : RunEnded j.rows table j.options.max_iters 0 (job_state j b grad) job_run_answer
@@ -72,7 +70,7 @@ module _ (j : Job) (h : JobSound j) (table : List Float) (b : EllBuffers) (grad 
       })
 
 -- So every job that `read_job` has read is answered over the slices that it was read into, with scratch and an output of n numbers.
-pub read_answered : (bytes : List ℕ) (table xc mq table' xc' mq' : List Float) (j : Job) → read_job_answer bytes table xc mq ≡ (Read j, table', xc', mq')
+pub read_answered : (bytes : List ℕ) (table xc mq table' xc' mq' : List Float) (j : Job) → read_job_answer bytes table xc mq ≡ (Ok j, table', xc', mq')
     → (grad grad_t best : List Float) → length grad ≡ j.n → length grad_t ≡ j.n → j.n ≤ length best
     → let rows = take (j.rows * j.n) table' in
     let b : EllBuffers = record { mq = take (j.n * j.n) mq'; xc = take j.n xc'; grad_t = grad_t } in

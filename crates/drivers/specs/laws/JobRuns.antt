@@ -1,5 +1,6 @@
 -- A job that `read_job` has read can be run, and its run ends with an answer. Assumes nothing.
-use Rattle.std.specs.Prelude.{ℕ, zero, suc, ◌*◌, ◌≤◌, refl, Bool, true, false, ◌&&◌, leb, length, take, replicate, Err}
+use Rattle.numbers.specs.declared.refusal.Fault.{Fault}
+use Rattle.std.specs.Prelude.{ℕ, zero, suc, ◌*◌, ◌≤◌, refl, Bool, true, false, ◌&&◌, leb, length, take, replicate, Err, Ok, Result}
 use Rattle.std.proofs.Math.Path.{◌≡◌, ap}
 use Rattle.std.proofs.Common.{sym, ◌∙◌, zero-mul, one-mul, add-mul, arith, leb-true, length-append, length-take-le}
 use mathlib.Core.List.{List, [], ◌∷◌}
@@ -22,10 +23,7 @@ use Rattle.drivers.specs.laws.StepSound.{fits_sound}
 use Rattle.drivers.specs.laws.RunEnds.{RunEnded, run_ends}
 use Rattle.numbers.specs.declared.refusal.Refusal.TheVariants.{Room}
 use Rattle.drivers.specs.declared.job.Job.{Job}
-use Rattle.drivers.specs.declared.job.JobAnswer.{JobAnswer}
-use Rattle.drivers.specs.declared.job.JobAnswer.TheVariants.{Read, Refused}
 use Rattle.drivers.specs.declared.run.Run.{Run}
-use Rattle.drivers.specs.declared.run.NewRun.TheVariants.{Made}
 use Rattle.drivers.specs.Rules.{matrix_place, point_place}
 use Rattle.numbers.specs.laws.Over.{length_over, front_over}
 
@@ -101,24 +99,24 @@ module _ (bytes : List ℕ) (table xc mq : List Float) where
       (sound_job bytes s.0, room_held f table xc mq (full_long bytes (job_walk bytes).1) (ask_sound (has_room f.job (length table) (length xc) (length mq)) Room 0 s.1))
 
   -- A job that is read passes every test of a run, and the slices are long enough for its numbers.
-  pub job_sound : (j : Job) (table' xc' mq' : List Float) → read_job_answer bytes table xc mq ≡ (Read j, table', xc', mq') → JobSound j × JobHeld j table' xc' mq'
+  pub job_sound : (j : Job) (table' xc' mq' : List Float) → read_job_answer bytes table xc mq ≡ (Ok j, table', xc', mq') → JobSound j × JobHeld j table' xc' mq'
   unfolding read_job_answer full_job_at
   job_sound j table' xc' mq' =
       go (full_job bytes) (read_job_tests bytes table xc mq) tests_held
     where
       go : (f : FullJob) (fault : Tests) → (fault ≡ Sound → JobSound f.job × JobHeld f.job (fronted f.table table) (fronted f.point xc) (fronted f.matrix mq))
-          → ◌≡◌ {A = JobAnswer × List Float × List Float × List Float}
-          (unless fault (λ why place. (Refused why place, table, xc, mq)) (Read f.job, fronted f.table table, fronted f.point xc, fronted f.matrix mq)) (Read j, table', xc', mq')
+          → ◌≡◌ {A = (Result Job Fault) × List Float × List Float × List Float}
+          (unless fault (λ why place. (At why place, table, xc, mq)) (Ok f.job, fronted f.table table, fronted f.point xc, fronted f.matrix mq)) (Ok j, table', xc', mq')
           → JobSound j × JobHeld j table' xc' mq'
       go f Sound h e =
-          let e₀ : Read f.job ≡ Read j = ap (λ z. z.0) e in
+          let e₀ : Ok f.job ≡ Ok j = ap (λ z. z.0) e in
           let j_is : f.job ≡ j = cc in
           let t_is : fronted f.table table ≡ table' = ap (λ z. z.1) e in
           let x_is : fronted f.point xc ≡ xc' = ap (λ z. z.2) e in
           let m_is : fronted f.matrix mq ≡ mq' = ap (λ z. z.3) e in
           rw (← j_is, ← t_is, ← x_is, ← m_is) (h refl)
       go f (Err fault) h e =
-          let e₀ : Refused fault.why fault.place ≡ Read j = ap (λ z. z.0) e in
+          let e₀ : At fault.why fault.place ≡ Ok j = ap (λ z. z.0) e in
           absurd (let z : ◌≡◌ {A = ℕ} 0 1 = cc in omega arith)
 
 -- ---- its run
@@ -131,7 +129,7 @@ job_run j =
 abbrev pub job_state : Job → EllBuffers → List Float → State
 job_state j b grad = run_state (job_run j) b grad
 
-pub run_made : (j : Job) → JobSound j → new_run_answer j ≡ Made (job_run j)
+pub run_made : (j : Job) → JobSound j → new_run_answer j ≡ Ok (job_run j)
 run_made j h = ap (λ z. run_of j z) (ell_makes j.n j.kappa h.dimension)
 
 -- the lengths of those

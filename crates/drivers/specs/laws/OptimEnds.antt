@@ -1,21 +1,19 @@
 -- A run of `cutting_plane_optim` that passes its tests ends, or is halted by refusal 6 and by nothing else. Assumes nothing.
-use Rattle.numbers.specs.Refusal.{Sound}
+use Rattle.numbers.specs.declared.refusal.Refusal.{Refusal}
+use Rattle.numbers.specs.declared.cut.CutStatus.{CutStatus}
+use Rattle.numbers.specs.Refusal.{Sound, number_of}
 use Prim.Native.Nat.{ℕ, zero, suc, ◌≤◌, ◌<◌, ◌+◌}
-use Rattle.std.specs.Prelude.{◌≡◌, refl, true, false, List, ◌⊎◌, length, Float}
+use Rattle.std.specs.Prelude.{◌≡◌, refl, true, false, List, ◌⊎◌, length, Float, Err, Ok, Result}
 use Rattle.std.proofs.Common.{sym, ap, subst, ◌∙◌, inr, arith, le-leb}
 use Rattle.std.proofs.Math.Logic.{inl}
 use Rattle.oracles.specs.Verdict.{feasible, judge, no_stop_value}
-use Rattle.oracles.specs.Numbered.{update_number}
-use Rattle.oracles.specs.declared.ell_common.Update.{Update}
-use Rattle.oracles.specs.declared.ell_common.Update.TheVariants.{Status, Refused as NotUpdated}
-use Rattle.drivers.specs.CuttingPlaneOptim.{OptimState, OptimEnd, plain, end_of, optim_step, optim_goes_on, optim_ended, optim_run, optim_answer}
+use Rattle.drivers.specs.CuttingPlaneOptim.{OptimState, OptimEnd, plain, end_of, optim_step, optim_goes_on, optim_ended, optim_run, optim_answer, halted}
 use Rattle.drivers.specs.CuttingPlane.{check_state, run_tests}
 use Rattle.drivers.specs.Numbered.{optim_number}
 use Rattle.drivers.specs.laws.OptimSound.{offer_asked, OptimStepped, optim_step_sound}
 use Rattle.drivers.specs.laws.OptimBest.{Best, best_later, BeforeStep, start, next}
 use Rattle.drivers.specs.declared.answer.Answer.{Answer}
 use Rattle.drivers.specs.declared.cutting_plane.Options.{Options}
-use Rattle.drivers.specs.declared.cutting_plane_optim.OptimAnswer.TheVariants.{Ended as EndedOptim, Halted}
 use Rattle.numbers.specs.laws.Pick.{by_test}
 use Rattle.numbers.specs.laws.Refusal.{held, at_next, accepts}
 
@@ -23,7 +21,7 @@ use Rattle.numbers.specs.laws.Refusal.{held, at_next, accepts}
 -- It leaves what stood before a step: the one after the last. Where it is halted, that is the halted step itself, which is refused by 6, on a centre that is feasible for gamma while no stop value compares.
 pub record OptimRunEnded (rows : ℕ) (table : List Float) (s₀ : OptimState) (k₀ left k : ℕ) (r : OptimEnd) : Type 0 where
   pub answer : Answer
-  pub outcome : ((r.answer ≡ EndedOptim answer) × (optim_number r.answer ≡ 0)) ⊎ ((r.answer ≡ Halted answer) × (optim_number r.answer ≡ 6))
+  pub outcome : ((r.answer ≡ Ok answer) × (optim_number r.answer ≡ 0)) ⊎ ((r.answer ≡ halted answer) × (optim_number r.answer ≡ 6))
   pub steps_from : k ≤ answer.steps
   pub steps_within : answer.steps ≤ k + left
   pub final : OptimState
@@ -34,14 +32,14 @@ pub record OptimRunEnded (rows : ℕ) (table : List Float) (s₀ : OptimState) (
   pub until_within : until ≤ suc answer.steps
   pub halted_within : optim_number r.answer ≡ 6 → answer.steps < k + left
   pub halted_at : optim_number r.answer ≡ 6 → until ≡ answer.steps
-  pub halted_by : optim_number r.answer ≡ 6 → update_number (optim_step rows table final).0 ≡ 6
+  pub halted_by : optim_number r.answer ≡ 6 → number_of (optim_step rows table final).0 ≡ 6
   pub halted_where : optim_number r.answer ≡ 6 → (judge (offer_asked rows table final) ≡ feasible) × (no_stop_value (offer_asked rows table final) ≡ true)
 
 module _ (rows : ℕ) (table : List Float) (s₀ : OptimState) (k₀ : ℕ) where
   -- a step that is the last
-  last_step : (left k : ℕ) (s s' : OptimState) (u : Update) → BeforeStep rows table s₀ k₀ k s → BeforeStep rows table s₀ k₀ (suc k) s' → OptimStepped rows table s (u, s')
-      → update_number (optim_step rows table s).0 ≡ update_number u → OptimRunEnded rows table s₀ k₀ (suc left) k (end_of (optim_ended u s'.found k) s')
-  last_step left k s s' (Status status) g g' h met = record {
+  last_step : (left k : ℕ) (s s' : OptimState) (u : (Result CutStatus Refusal)) → BeforeStep rows table s₀ k₀ k s → BeforeStep rows table s₀ k₀ (suc k) s' → OptimStepped rows table s (u, s')
+      → number_of (optim_step rows table s).0 ≡ number_of u → OptimRunEnded rows table s₀ k₀ (suc left) k (end_of (optim_ended u s'.found k) s')
+  last_step left k s s' (Ok status) g g' h met = record {
     answer = record { found = s'.found; steps = k };
     outcome = inl (refl, refl);
     steps_from = omega arith;
@@ -57,7 +55,7 @@ module _ (rows : ℕ) (table : List Float) (s₀ : OptimState) (k₀ : ℕ) wher
     halted_by = λ e. absurd (omega (arith, e));
     halted_where = λ e. absurd (omega (arith, e));
   }
-  last_step left k s s' (NotUpdated why) g g' h met =
+  last_step left k s s' (Err why) g g' h met =
       let halt = h.halts why refl in
       record {
         answer = record { found = s'.found; steps = k };
@@ -65,7 +63,7 @@ module _ (rows : ℕ) (table : List Float) (s₀ : OptimState) (k₀ : ℕ) wher
         steps_from = omega arith;
         steps_within = omega arith;
         final = s;
-        leaves_it = ap (λ (z : OptimState). end_of (Halted (record { found = s'.found; steps = k })) z) halt.same;
+        leaves_it = ap (λ (z : OptimState). end_of (halted (record { found = s'.found; steps = k })) z) halt.same;
         found_is = ap (λ (z : OptimState). z.found) halt.same;
         until = k;
         going = g;

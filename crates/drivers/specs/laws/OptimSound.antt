@@ -1,8 +1,10 @@
 -- A step of `cutting_plane_optim` from a state that passes the tests of a run is refused by 6 or not at all, and the state that it leaves passes them again. Assumes nothing.
-use Rattle.std.specs.Prelude.{ℕ, ◌≡◌, refl, Bool, true, false, ◌&&◌, List, ◌⊎◌, eqb, length, ℤ, Float}
+use Rattle.numbers.specs.declared.cut.CutStatus.{CutStatus}
+use Rattle.oracles.specs.declared.lowpass_oracle.OptimVerdict.{OptimVerdict}
+use Rattle.std.specs.Prelude.{ℕ, ◌≡◌, refl, Bool, true, false, ◌&&◌, List, ◌⊎◌, eqb, length, ℤ, Float, Err, None, Ok, Result}
 use Rattle.std.proofs.Common.{sym, ap, ◌∙◌, true≢false, inl, inr, eqb-true}
 use Rattle.numbers.specs.Pick.{pick}
-use Rattle.numbers.specs.Refusal.{refusal_number, Sound}
+use Rattle.numbers.specs.Refusal.{refusal_number, Sound, number_of}
 use Rattle.numbers.specs.declared.refusal.Refusal.{Refusal}
 use Rattle.numbers.specs.declared.cut.CutChoice.{CutChoice}
 use Rattle.numbers.specs.laws.Pick.{and_parts}
@@ -12,17 +14,12 @@ use Rattle.oracles.specs.Verdict.{feasible, Question, Limits, Has, limits, asked
 use Rattle.oracles.specs.laws.Judge.{judge_answers}
 use Rattle.oracles.specs.laws.CursorRule.{optim_rule}
 use Rattle.oracles.specs.laws.OracleAfter.{is_refusal, optim_after, optim_kept, optim_again, optim_gradient_length}
-use Rattle.oracles.specs.Numbered.{update_number}
 use Rattle.oracles.specs.Ell.{ell_update_answer}
 use Rattle.oracles.specs.laws.EllCalls.{ell_long, ell_same, ell_again, ell_answers}
 use Rattle.oracles.specs.declared.ell_common.CutStrategy.{CutStrategy}
 use Rattle.oracles.specs.declared.ell_common.CutStrategy.TheVariants.{BiasCut, CentralCut}
-use Rattle.oracles.specs.declared.ell_common.Update.{Update}
-use Rattle.oracles.specs.declared.ell_common.Update.TheVariants.{Status, Refused as NotUpdated}
 use Rattle.oracles.specs.declared.lowpass_oracle.LowpassOracle.{LowpassOracle}
-use Rattle.oracles.specs.declared.lowpass_oracle.Verdict.TheVariants.{Feasible as IsFeasible, Refused as NotAssessed}
-use Rattle.oracles.specs.declared.lowpass_oracle.OptimVerdict.{OptimVerdict}
-use Rattle.oracles.specs.declared.lowpass_oracle.OptimVerdict.TheVariants.{Improved, Cut as CutOptim, Refused as NotOptim}
+use Rattle.oracles.specs.declared.lowpass_oracle.OptimVerdict.TheVariants.{Improved, Cut}
 use Rattle.drivers.specs.CuttingPlaneOptim.{OptimState, plain, optim_updated, optim_cut, optim_step, optim_ended}
 use Rattle.drivers.specs.CuttingPlane.{check_state, kept}
 use Rattle.drivers.specs.Numbered.{optim_number}
@@ -35,9 +32,9 @@ use Rattle.oracles.specs.laws.Untouched.{is_improved, untouched}
 abbrev pub offer_asked : ℕ → List Float → OptimState → Question
 offer_asked rows table s = asked s.oracle s.gamma s.ell.ndim rows table s.buffers.xc
 
-abbrev pub is_halted : Update → Bool
-is_halted (Status status) = false
-is_halted (NotUpdated why) = true
+abbrev pub is_halted : Result CutStatus Refusal → Bool
+is_halted (Ok status) = false
+is_halted (Err why) = true
 
 -- a step that is refused: by 6, on a centre that is feasible for the offered number while no stop value compares, and nothing has changed
 pub record Halts (rows : ℕ) (table : List Float) (s s' : OptimState) (why : Refusal) : Type 0 where
@@ -61,8 +58,8 @@ pub record Passes (s s' : OptimState) : Type 0 where
   pub best_stays : s'.best ≡ s.best
 
 -- a step from a state that is sound
-pub record OptimStepped (rows : ℕ) (table : List Float) (s : OptimState) (r : Update × OptimState) : Type 0 where
-  pub halts : (why : Refusal) → r.0 ≡ NotUpdated why → Halts rows table s r.1 why
+pub record OptimStepped (rows : ℕ) (table : List Float) (s : OptimState) (r : Result CutStatus Refusal × OptimState) : Type 0 where
+  pub halts : (why : Refusal) → r.0 ≡ Err why → Halts rows table s r.1 why
   pub halted_is : is_halted r.0 ≡ (is_feasible (judge (offer_asked rows table s)) && no_stop_value (offer_asked rows table s))
   pub keeps_or_passes : Keeps rows table s r.1 ⊎ Passes s r.1
   pub ndim_stays : r.1.ell.ndim ≡ s.ell.ndim
@@ -70,7 +67,7 @@ pub record OptimStepped (rows : ℕ) (table : List Float) (s : OptimState) (r : 
   pub sound : check_state rows table (plain r.1) ≡ Sound
 
 -- a judgement that counts a refusal as feasible only by 6
-six_feasible : (q : Question) (t : Bool) (why : Refusal) → judgement (pick t IsFeasible (NotAssessed why)) ≡ judge q → (t ≡ true) × (judge q ≡ feasible)
+six_feasible : (q : Question) (t : Bool) (why : Refusal) → judgement (pick t (Ok None) (Err why)) ≡ judge q → (t ≡ true) × (judge q ≡ feasible)
 unfolding pick
 six_feasible q true why e = (refl, sym e)
 six_feasible q false why e = absurd (judge_answers q (sym e))
@@ -102,7 +99,7 @@ module _ (rows : ℕ) (table : List Float) (s : OptimState) (is_sound : check_st
 
   -- a step that updates
   module _ (o : LowpassOracle) (gamma : Float) (g : List Float) (found : Bool) (best : List Float) (strategy : CutStrategy) (beta : CutChoice) where
-    abbrev after : Update × OptimState
+    abbrev after : Result CutStatus Refusal × OptimState
     after = optim_updated s o gamma g found best (ell_update_answer s.ell strategy g beta s.buffers)
 
     updates : is_accepted o n rows table s.buffers.xc g ≡ true → length g ≡ n → limits o ≡ limits (offered s.oracle s.gamma)
@@ -129,18 +126,18 @@ module _ (rows : ℕ) (table : List Float) (s : OptimState) (is_sound : check_st
         }
 
   -- each way after the assessment
-  cut_sound : (o : LowpassOracle) (gamma : Float) (v : OptimVerdict) (g : List Float) → is_accepted o n rows table s.buffers.xc g ≡ true → length g ≡ n
+  cut_sound : (o : LowpassOracle) (gamma : Float) (v : (Result OptimVerdict Refusal)) (g : List Float) → is_accepted o n rows table s.buffers.xc g ≡ true → length g ≡ n
       → OptimRule q (record { oracle = o; gamma = gamma; verdict = v }) → (is_refusal v ≡ true → o ≡ s.oracle) → (is_improved v ≡ false → gamma ≡ s.gamma)
       → (is_refusal v ≡ true → g ≡ s.grad) → (is_refusal v ≡ false → limits o ≡ limits (offered s.oracle s.gamma)) → OptimStepped rows table s (optim_cut s o gamma v g)
-  cut_sound o gamma (Improved beta) g again l R same_o same_gamma same_g k =
+  cut_sound o gamma (Ok (Improved beta)) g again l R same_o same_gamma same_g k =
       updates o gamma g true (kept true s.buffers.xc s.best) CentralCut beta again l (k refl) (sym R.six_is)
       (inl (record { centre_feasible = sym R.verdict_is; found_is = refl; best_is = refl; row = o.kmax; value_is = rw (R.offer refl (sym R.verdict_is)) (R.peak refl (sym R.verdict_is)) }))
-  cut_sound o gamma (CutOptim group beta) g again l R same_o same_gamma same_g k =
-      updates o gamma g s.found s.best BiasCut beta again l (k refl) (sym R.six_is) (inr (record { gamma_stays = same_gamma refl; found_stays = refl; best_stays = refl }))
-  cut_sound o gamma (NotOptim why) g again l R same_o same_gamma same_g k =
+  cut_sound o gamma (Ok (Cut broken)) g again l R same_o same_gamma same_g k =
+      updates o gamma g s.found s.best BiasCut broken.beta again l (k refl) (sym R.six_is) (inr (record { gamma_stays = same_gamma refl; found_stays = refl; best_stays = refl }))
+  cut_sound o gamma (Err why) g again l R same_o same_gamma same_g k =
       let t = six_feasible q (eqb (refusal_number why) 6) why R.verdict_is in
       let both = sym R.six_is ∙ t.0 in
-      let same : (optim_cut s o gamma (NotOptim why) g).1 ≡ s = rw (same_o refl, same_gamma refl, same_g refl) in
+      let same : (optim_cut s o gamma (Err why) g).1 ≡ s = rw (same_o refl, same_gamma refl, same_g refl) in
       record {
         halts = λ why' e. record {
           six = (let z : why' ≡ why = cc in rw z (eqb-true (refusal_number why) 6 t.0));
@@ -168,9 +165,9 @@ module _ (rows : ℕ) (table : List Float) (s : OptimState) (is_sound : check_st
       (optim_kept s.oracle s.gamma n rows table s.buffers.xc s.grad)
 
   -- so the number of the answer that ends a run with this step, 0 or 6, is that of the refusal which the step met
-  pub ended_number : (found : Bool) (k : ℕ) → optim_number (optim_ended (optim_step rows table s).0 found k) ≡ update_number (optim_step rows table s).0
+  pub ended_number : (found : Bool) (k : ℕ) → optim_number (optim_ended (optim_step rows table s).0 found k) ≡ number_of (optim_step rows table s).0
   ended_number found k = go (optim_step rows table s).0 (λ why e. (optim_step_sound.halts why e).six)
     where
-      go : (u : Update) → ((why : Refusal) → u ≡ NotUpdated why → refusal_number why ≡ 6) → optim_number (optim_ended u found k) ≡ update_number u
-      go (Status status) f = refl
-      go (NotUpdated why) f = sym (f why refl)
+      go : (u : (Result CutStatus Refusal)) → ((why : Refusal) → u ≡ Err why → refusal_number why ≡ 6) → optim_number (optim_ended u found k) ≡ number_of u
+      go (Ok status) f = refl
+      go (Err why) f = sym (f why refl)

@@ -1,5 +1,6 @@
 -- The calls that the program `filterrun` makes print what its definition says. Assumes nothing.
-use Rattle.std.specs.Prelude.{ℕ, suc, ◌+◌, ◌*◌, ◌-◌, ◌≤◌, ◌<◌, ◌≡◌, refl}
+use Rattle.drivers.specs.declared.job.Job.{Job}
+use Rattle.std.specs.Prelude.{ℕ, suc, ◌+◌, ◌*◌, ◌-◌, ◌≤◌, ◌<◌, ◌≡◌, refl, Err, Ok, Result}
 use Rattle.std.proofs.Common.{sym, ◌∙◌, subst, arith, le-leb}
 use Rattle.std.proofs.Math.Path.{ap}
 use mathlib.Core.List.{List}
@@ -14,7 +15,7 @@ use Rattle.drivers.specs.Record.{fronted}
 use Rattle.drivers.specs.Job.{FullJob, job_oracle, options_of, job_at, full_job_at, job_walk, full_job, job_fault}
 use Rattle.drivers.specs.laws.Job.{JobSound, sound_job}
 use Rattle.drivers.specs.laws.Input.{room_for_all, own_faults}
-use Rattle.drivers.specs.Trace.{refused_text, text_room, printed}
+use Rattle.drivers.specs.Trace.{refused_text, text_room, printed, Text}
 use Rattle.drivers.specs.Input.{input_tests, with_slices, take_job_tests, take_job_answer}
 use Rattle.drivers.specs.Run.{new_run_answer, opened_run, opened_taken, run_text, open_answer}
 use Rattle.numbers.specs.laws.Over.{front_over}
@@ -23,29 +24,22 @@ use Rattle.drivers.specs.laws.Calls.{calls_enough, run_all_text}
 use Rattle.drivers.specs.laws.JobRuns.{JobHeld, FullLong, full_long, room_held, tests_held, held_slices, job_run, job_run_sound, run_made, front_is}
 use Rattle.drivers.specs.Program.{first_state, job_text, program_text}
 use Rattle.drivers.specs.declared.trace.Source.TheVariants.{Only}
-use Rattle.drivers.specs.declared.input.TakenJob.{TakenJob}
 use Rattle.drivers.specs.declared.run.Run.{Run}
-use Rattle.drivers.specs.declared.run.NewRun.{NewRun}
-use Rattle.drivers.specs.declared.run.NewRun.TheVariants.{Made, Refused as NoRun}
-use Rattle.drivers.specs.declared.run.Opened.{Opened}
-use Rattle.drivers.specs.declared.run.Opened.TheVariants.{Started, Refused as NotStarted}
-use Rattle.drivers.specs.declared.trace.Text.{Text}
-use Rattle.drivers.specs.declared.trace.Text.TheVariants.{Bytes, Refused as NoLine}
 
 -- ---- what is printed by `open`, and then by calls of `Run::next`
 
 -- what is opened of what was taken
-abbrev opened : TakenJob × List Float × List Float × List Float × List ℕ → Opened × List Float × List Float × List Float × List ℕ
+abbrev opened : Result Job Text × List Float × List Float × List Float × List ℕ → Result Run Text × List Float × List Float × List Float × List ℕ
 opened t = with_slices t.1 t.2 t.3 (opened_taken t.4 t.0)
 
 -- what is printed after `open` has answered, by so many calls of `next` at most
-abbrev pub opened_text : ℕ → Opened → List Float → List Float → List Float → List ℕ → List ℕ
-opened_text calls (NotStarted text) table xc mq out = text_in text out
-opened_text calls (Started run) table xc mq out =
+abbrev pub opened_text : ℕ → Result Run Text → List Float → List Float → List Float → List ℕ → List ℕ
+opened_text calls (Err text) table xc mq out = text_in text out
+opened_text calls (Ok run) table xc mq out =
     let n = run.ell.ndim in
     printed_by calls run (take (run.rows * n) table) (record { mq = take (n * n) mq; xc = take n xc; grad_t = replicate n 0ᶠ }) (replicate n 0ᶠ) out
 
-abbrev pub calls_text : ℕ → Opened × List Float × List Float × List Float × List ℕ → List ℕ
+abbrev pub calls_text : ℕ → Result Run Text × List Float × List Float × List Float × List ℕ → List ℕ
 calls_text calls r = opened_text calls r.0 r.1 r.2 r.3 r.4
 
 -- a run's numbers stand at the fronts of the slices that they were read into
@@ -77,7 +71,7 @@ module _ (calls : ℕ) (enough : 65536 ≤ calls) (bytes : List ℕ) (out : List
   -- the run of a sound job
   sound_prints : (f : FullJob) (table xc mq : List Float) → FullLong f → f.job.options.max_iters < 65536
       → JobSound f.job → JobHeld f.job (fronted f.table table) (fronted f.point xc) (fronted f.matrix mq)
-      → opened_text calls (Started (job_run f.job)) (fronted f.table table) (fronted f.point xc) (fronted f.matrix mq) out ≡ job_text f
+      → opened_text calls (Ok (job_run f.job)) (fronted f.table table) (fronted f.point xc) (fronted f.matrix mq) out ≡ job_text f
   unfolding first_state job_text
   sound_prints f table xc mq l small h held =
       let j = f.job in
@@ -98,7 +92,7 @@ module _ (calls : ℕ) (enough : 65536 ≤ calls) (bytes : List ℕ) (out : List
       let f = full_job bytes in
       let own = own_faults bytes table xc mq t x m in
       let l = full_long bytes (job_walk bytes).1 in
-      by_tests (λ (r : TakenJob × List Float × List Float × List Float × List ℕ). calls_text calls (opened r) ≡ program_text bytes) (take_job_tests bytes table xc mq) _ _
+      by_tests (λ (r : Result Job Text × List Float × List Float × List Float × List ℕ). calls_text calls (opened r) ≡ program_text bytes) (take_job_tests bytes table xc mq) _ _
       (λ why place e. printed_front (refused_text Only why place) out room ∙ refuses _ _ (input_tests bytes ⨾ job_fault bytes) (sym e ∙ own) refl)
       (λ e.
       let s : job_fault bytes ≡ Sound = (both_sound (input_tests bytes) (job_fault bytes) (sym own ∙ e)).1 in
@@ -109,13 +103,13 @@ module _ (calls : ℕ) (enough : 65536 ≤ calls) (bytes : List ℕ) (out : List
 
 -- Its two ways. The answer of `open` is a line that refuses the job ..
 pub refused_prints : (bytes : List ℕ) (table xc mq table' xc' mq' : List Float) (out out' : List ℕ) (k : ℕ) → length table ≡ 32768 → length xc ≡ 32 → length mq ≡ 1024
-    → 128 ≤ length out → open_answer bytes table xc mq out ≡ (NotStarted (Bytes k), table', xc', mq', out') → take k out' ≡ program_text bytes
+    → 128 ≤ length out → open_answer bytes table xc mq out ≡ (Err (Ok k), table', xc', mq', out') → take k out' ≡ program_text bytes
 refused_prints bytes table xc mq table' xc' mq' out out' k t x m room e =
     sym (ap (calls_text 65536) e) ∙ program_prints 65536 (omega arith) bytes out room table xc mq t x m
 
 -- .. or a run, whose calls print it.
 pub run_prints_program : (bytes : List ℕ) (table xc mq table' xc' mq' : List Float) (out out' : List ℕ) (run : Run) → length table ≡ 32768 → length xc ≡ 32
-    → length mq ≡ 1024 → 128 ≤ length out → open_answer bytes table xc mq out ≡ (Started run, table', xc', mq', out')
+    → length mq ≡ 1024 → 128 ≤ length out → open_answer bytes table xc mq out ≡ (Ok run, table', xc', mq', out')
     → (calls : ℕ) → 65536 ≤ calls
     → let n = run.ell.ndim in
     let zeros = replicate n 0ᶠ in
@@ -125,7 +119,7 @@ run_prints_program bytes table xc mq table' xc' mq' out out' run t x m room e ca
 
 -- So do all of its calls, and no more can be made.
 pub run_all_prints : (bytes : List ℕ) (table xc mq table' xc' mq' : List Float) (out out' : List ℕ) (run : Run) → length table ≡ 32768 → length xc ≡ 32
-    → length mq ≡ 1024 → 128 ≤ length out → open_answer bytes table xc mq out ≡ (Started run, table', xc', mq', out')
+    → length mq ≡ 1024 → 128 ≤ length out → open_answer bytes table xc mq out ≡ (Ok run, table', xc', mq', out')
     → let n = run.ell.ndim in
     let zeros = replicate n 0ᶠ in
     run_all_text run (take (run.rows * n) table') (record { mq = take (n * n) mq'; xc = take n xc'; grad_t = zeros }) zeros out' ≡ program_text bytes
@@ -135,39 +129,39 @@ run_all_prints bytes table xc mq table' xc' mq' out out' run t x m room e =
     ∙ run_prints_program bytes table xc mq table' xc' mq' out out' run t x m room e calls (omega arith)
 
 -- Given room, `open` always goes one of these two ways: it never ends without a line.
-abbrev Speaks : Opened → Type 0
-Speaks (Started run) = Unit {0}
-Speaks (NotStarted (Bytes k)) = Unit {0}
-Speaks (NotStarted (NoLine why)) = ⊥
+abbrev Speaks : Result Run Text → Type 0
+Speaks (Ok run) = Unit {0}
+Speaks (Err (Ok k)) = Unit {0}
+Speaks (Err (Err why)) = ⊥
 
-printed_speaks : (text out : List ℕ) → 128 ≤ length out → Speaks (NotStarted (printed text out).0)
+printed_speaks : (text out : List ℕ) → 128 ≤ length out → Speaks (Err (printed text out).0)
 unfolding printed
-printed_speaks text out h = subst (λ (r : Text × List ℕ). Speaks (NotStarted r.0)) (accepts _ _ (text_room out) (held _ _ (le-leb 128 (length out) h)) refl) tt
+printed_speaks text out h = subst (λ (r : Text × List ℕ). Speaks (Err r.0)) (accepts _ _ (text_room out) (held _ _ (le-leb 128 (length out) h)) refl) tt
 
-run_speaks : (r : NewRun) (out : List ℕ) → 128 ≤ length out → Speaks (opened_run out r).0
-run_speaks (Made run) out h = tt
-run_speaks (NoRun why) out h = printed_speaks (refused_text Only why 0) out h
+run_speaks : (r : (Result Run Refusal)) (out : List ℕ) → 128 ≤ length out → Speaks (opened_run out r).0
+run_speaks (Ok run) out h = tt
+run_speaks (Err why) out h = printed_speaks (refused_text Only why 0) out h
 
-pub open_speaks : (bytes : List ℕ) (table xc mq : List Float) (out : List ℕ) → 128 ≤ length out → (why : Refusal) → (open_answer bytes table xc mq out).0 ≡ NotStarted (NoLine why) → ⊥
+pub open_speaks : (bytes : List ℕ) (table xc mq : List Float) (out : List ℕ) → 128 ≤ length out → (why : Refusal) → (open_answer bytes table xc mq out).0 ≡ Err (Err why) → ⊥
 unfolding take_job_answer open_answer
 open_speaks bytes table xc mq out h why e =
     subst Speaks e
-    (by_tests (λ (r : TakenJob × List Float × List Float × List Float × List ℕ). Speaks (opened r).0) (take_job_tests bytes table xc mq) _ _
+    (by_tests (λ (r : Result Job Text × List Float × List Float × List Float × List ℕ). Speaks (opened r).0) (take_job_tests bytes table xc mq) _ _
     (λ w place _. printed_speaks (refused_text Only w place) out h)
     (λ _. run_speaks (new_run_answer (full_job bytes).job) out h))
 
 -- A run that goes has its numbers at the fronts of the slices.
-abbrev Held : Opened × List Float × List Float × List Float × List ℕ → Type 0
-Held (Started run, table, xc, mq, out) = RunHeld run table xc mq
-Held (NotStarted text, table, xc, mq, out) = Unit {0}
+abbrev Held : Result Run Text × List Float × List Float × List Float × List ℕ → Type 0
+Held (Ok run, table, xc, mq, out) = RunHeld run table xc mq
+Held (Err text, table, xc, mq, out) = Unit {0}
 
 pub open_held : (bytes : List ℕ) (table xc mq : List Float) (out : List ℕ) (run : Run) (table' xc' mq' : List Float) (out' : List ℕ)
-    → open_answer bytes table xc mq out ≡ (Started run, table', xc', mq', out') → RunHeld run table' xc' mq'
+    → open_answer bytes table xc mq out ≡ (Ok run, table', xc', mq', out') → RunHeld run table' xc' mq'
 unfolding take_job_answer open_answer
 open_held bytes table xc mq out run table' xc' mq' out' e =
     let f = full_job bytes in
     subst Held e
-    (by_tests (λ (r : TakenJob × List Float × List Float × List Float × List ℕ). Held (opened r)) (take_job_tests bytes table xc mq) _ _ (λ why place _. tt)
+    (by_tests (λ (r : Result Job Text × List Float × List Float × List Float × List ℕ). Held (opened r)) (take_job_tests bytes table xc mq) _ _ (λ why place _. tt)
     (λ s.
     let h = tests_held bytes table xc mq (both_sound (input_tests bytes) _ s).1 in
     subst (λ z. Held (with_slices (fronted f.table table) (fronted f.point xc) (fronted f.matrix mq) (opened_run out z))) (sym (run_made f.job h.0))

@@ -6,12 +6,17 @@ use mathlib.Core.List.{List, [], ◌∷◌, ◌++◌}
 use Prim.Native.Nat.{ℕ, zero, suc, ◌≤◌, ◌<◌, ◌+◌, ◌-◌}
 use Rattle.numbers.specs.Pick.{pick}
 use Rattle.numbers.specs.laws.Pick.{is_hit, is_skip, pick_cong, by_test}
-use Rattle.drivers.specs.Record.{length_at, overruns, after, fields_from, fields_of, is_row, numbers_at, content_of}
+use Rattle.drivers.specs.Record.{length_at, overruns, after, fields_from, fields_of, is_row, row_count, numbers_at, content_of}
 
 -- ---- the fields from `at` on
 
 abbrev pub fields_after : List ℕ → ℕ → List ℕ
 fields_after bytes at = fields_from (length bytes) bytes at
+
+-- all of these are places within the bytes
+abbrev pub AllWithin : List ℕ → List ℕ → Type 0
+AllWithin bytes [] = Unit {0}
+AllWithin bytes (at ∷ fields) = (at < length bytes) × AllWithin bytes fields
 
 module _ (bytes : List ℕ) where
   -- the next field begins further on, and at most at the end
@@ -49,7 +54,35 @@ module _ (bytes : List ℕ) where
   unfolding fields_from
   fields_end at h = fuel_free (length bytes) 0 at (omega arith) (omega arith)
 
+  -- no more fields than bytes
+  few_from : (fuel at : ℕ) → length (fields_from fuel bytes at) ≤ length bytes - at
+  unfolding fields_from
+  few_from zero at = omega arith
+  few_from (suc fuel) at =
+      by_test (λ (l : List ℕ). length l ≤ length bytes - at) (ltb at (length bytes)) (at ∷ fields_from fuel bytes (after bytes at)) []
+      (λ e. let h = ltb-true at (length bytes) e in omega (arith, few_from fuel (after bytes at), after_past at h)) (λ _. omega arith)
+
+  -- each begins within them
+  within_from : (fuel at : ℕ) → AllWithin bytes (fields_from fuel bytes at)
+  unfolding fields_from
+  within_from zero at = tt
+  within_from (suc fuel) at =
+      by_test (AllWithin bytes) (ltb at (length bytes)) (at ∷ fields_from fuel bytes (after bytes at)) [] (λ e. (ltb-true at (length bytes) e, within_from fuel (after bytes at))) (λ _. tt)
+
+  pub fields_within : AllWithin bytes (fields_of bytes)
+  unfolding fields_of
+  fields_within = within_from (length bytes) 0
+
+  pub fields_few : (at : ℕ) → length (fields_after bytes at) ≤ length bytes
+  fields_few at = omega (arith, few_from (length bytes) at)
+
 -- ---- rows
+
+-- each field has at most one
+pub rows_few : (bytes fields : List ℕ) → row_count bytes fields ≤ length fields
+unfolding row_count
+rows_few bytes [] = omega arith
+rows_few bytes (at ∷ fields) = by_test (λ n. n + row_count bytes fields ≤ suc (length fields)) (is_row bytes at) 1 0 (λ _. omega (arith, rows_few bytes fields)) (λ _. omega (arith, rows_few bytes fields))
 
 -- the table when rows fill it up to k and the next field has been seen
 unfoldable pub row_filled : List ℕ → ℕ → ℕ → ℕ → List Float → ℕ × List Float

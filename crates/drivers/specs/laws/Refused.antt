@@ -1,6 +1,7 @@
 -- A refused run gives everything back as it came: the oracle, the ellipsoid with its matrix and centre, both scratch vectors, x_best, and the caller's number.
 -- A run that refusal 6 halts has begun, and is not refused; the number 6 tells such a run and no other. Assumes nothing.
-use Rattle.std.specs.Prelude.{ℕ, ◌≡◌, refl, Bool, true, false, ◌⊎◌}
+use Rattle.drivers.specs.declared.cutting_plane_optim.OptimStop.{OptimStop}
+use Rattle.std.specs.Prelude.{ℕ, ◌≡◌, refl, Bool, true, false, ◌⊎◌, Err, Ok, Result}
 use Rattle.std.proofs.Common.{sym, subst, ◌∙◌, true≢false, inl, inr}
 use Rattle.std.proofs.Math.Path.{ap}
 use mathlib.Core.List.{List}
@@ -10,31 +11,27 @@ use Rattle.numbers.specs.declared.refusal.Refusal.{Refusal}
 use Rattle.numbers.specs.laws.Refusal.{both_sound, of_test, of_chain, by_tests}
 use Rattle.oracles.specs.laws.CursorRule.{NotSix, not_six}
 use Rattle.drivers.specs.CuttingPlane.{State, check_of, check_state, run_tests}
-use Rattle.drivers.specs.CuttingPlaneOptim.{OptimState, OptimEnd, plain, end_of, optim_answer}
+use Rattle.drivers.specs.CuttingPlaneOptim.{OptimState, OptimEnd, plain, end_of, optim_answer, halted, optim_refused as not_run}
 use Rattle.drivers.specs.CuttingPlaneFeas.{feas_answer}
 use Rattle.drivers.specs.Numbered.{optim_number}
 use Rattle.drivers.specs.laws.RunEnds.{run_ends}
 use Rattle.drivers.specs.laws.OptimEnds.{optim_run_ends}
 use Rattle.drivers.specs.declared.answer.Answer.{Answer}
 use Rattle.drivers.specs.declared.cutting_plane.Options.{Options}
-use Rattle.drivers.specs.declared.cutting_plane_feas.FeasAnswer.{FeasAnswer}
-use Rattle.drivers.specs.declared.cutting_plane_feas.FeasAnswer.TheVariants.{Ended, Refused as NotRun}
-use Rattle.drivers.specs.declared.cutting_plane_optim.OptimAnswer.{OptimAnswer}
-use Rattle.drivers.specs.declared.cutting_plane_optim.OptimAnswer.TheVariants.{Ended as EndedOptim, Halted, Refused as NotRunOptim}
 
-abbrev is_refused : FeasAnswer → Bool
-is_refused (Ended a) = false
-is_refused (NotRun why) = true
+abbrev is_refused : Result Answer Refusal → Bool
+is_refused (Ok a) = false
+is_refused (Err why) = true
 
-abbrev is_refused_optim : OptimAnswer → Bool
-is_refused_optim (EndedOptim a) = false
-is_refused_optim (Halted a) = false
-is_refused_optim (NotRunOptim why) = true
+abbrev is_refused_optim : Result Answer OptimStop → Bool
+is_refused_optim (Ok a) = false
+is_refused_optim (halted a) = false
+is_refused_optim (not_run why) = true
 
-abbrev pub was_halted : OptimAnswer → Bool
-was_halted (EndedOptim a) = false
-was_halted (Halted a) = true
-was_halted (NotRunOptim why) = false
+abbrev pub was_halted : Result Answer OptimStop → Bool
+was_halted (Ok a) = false
+was_halted (halted a) = true
+was_halted (not_run why) = false
 
 -- the tests before a run refuse by 1 to 4, and 11
 run_not_six : (rows : ℕ) (table : List Float) (s : State) (best : List Float) → NotSix (run_tests rows table s best)
@@ -43,20 +40,20 @@ run_not_six rows table s best = of_chain NotSix _ _ (not_six s.oracle s.ell.ndim
 
 module _ (options : Options) (rows : ℕ) (table : List Float) where
   -- `cutting_plane_feas`
-  pub feas_refused : (s : State) (best : List Float) (why : Refusal) → (feas_answer options rows table s best).0 ≡ NotRun why → feas_answer options rows table s best ≡ (NotRun why, s, best)
+  pub feas_refused : (s : State) (best : List Float) (why : Refusal) → (feas_answer options rows table s best).0 ≡ Err why → feas_answer options rows table s best ≡ (Err why, s, best)
   unfolding feas_answer
   feas_refused s best why =
       by_tests P (run_tests rows table s best) _ _ (λ w place e. back w)
       (λ e h. absurd (true≢false (sym (ap is_refused h) ∙ ap is_refused (run_ends rows table options.tolerance options.max_iters 0 s (both_sound (check_state rows table s) _ e).0).answer_is)))
     where
-      P : FeasAnswer × State × List Float → Type 0
-      P r = r.0 ≡ NotRun why → r ≡ (NotRun why, s, best)
+      P : Result Answer Refusal × State × List Float → Type 0
+      P r = r.0 ≡ Err why → r ≡ (Err why, s, best)
 
-      back : (w : Refusal) → P (NotRun w, s, best)
-      back w h = ap (λ (a : FeasAnswer). (a, s, best)) h
+      back : (w : Refusal) → P (Err w, s, best)
+      back w h = ap (λ (a : (Result Answer Refusal)). (a, s, best)) h
 
   -- `cutting_plane_optim`
-  pub optim_refused : (s : OptimState) (why : Refusal) → (optim_answer options rows table s).answer ≡ NotRunOptim why → optim_answer options rows table s ≡ end_of (NotRunOptim why) s
+  pub optim_refused : (s : OptimState) (why : Refusal) → (optim_answer options rows table s).answer ≡ not_run why → optim_answer options rows table s ≡ end_of (not_run why) s
   unfolding optim_answer
   optim_refused s why =
       by_tests P (run_tests rows table (plain s) s.best) _ _ (λ w place e. back w)
@@ -65,12 +62,12 @@ module _ (options : Options) (rows : ℕ) (table : List Float) where
       absurd (true≢false (sym (ap is_refused_optim h) ∙ begun _ r.answer r.outcome)))
     where
       P : OptimEnd → Type 0
-      P r = r.answer ≡ NotRunOptim why → r ≡ end_of (NotRunOptim why) s
+      P r = r.answer ≡ not_run why → r ≡ end_of (not_run why) s
 
-      back : (w : Refusal) → P (end_of (NotRunOptim w) s)
-      back w h = ap (λ (a : OptimAnswer). end_of a s) h
+      back : (w : Refusal) → P (end_of (not_run w) s)
+      back w h = ap (λ (a : (Result Answer OptimStop)). end_of a s) h
 
-      begun : (a : OptimAnswer) (d : Answer) → ((a ≡ EndedOptim d) × (optim_number a ≡ 0)) ⊎ ((a ≡ Halted d) × (optim_number a ≡ 6)) → is_refused_optim a ≡ false
+      begun : (a : (Result Answer OptimStop)) (d : Answer) → ((a ≡ Ok d) × (optim_number a ≡ 0)) ⊎ ((a ≡ halted d) × (optim_number a ≡ 6)) → is_refused_optim a ≡ false
       begun a d (inl e) = ap is_refused_optim e.0
       begun a d (inr e) = ap is_refused_optim e.0
 
@@ -86,6 +83,6 @@ module _ (options : Options) (rows : ℕ) (table : List Float) where
       P : OptimEnd → Type 0
       P r = eqb (optim_number r.answer) 6 ≡ was_halted r.answer
 
-      begun : (a : OptimAnswer) (d : Answer) → ((a ≡ EndedOptim d) × (optim_number a ≡ 0)) ⊎ ((a ≡ Halted d) × (optim_number a ≡ 6)) → eqb (optim_number a) 6 ≡ was_halted a
+      begun : (a : (Result Answer OptimStop)) (d : Answer) → ((a ≡ Ok d) × (optim_number a ≡ 0)) ⊎ ((a ≡ halted d) × (optim_number a ≡ 6)) → eqb (optim_number a) 6 ≡ was_halted a
       begun a d (inl e) = rw e.0 refl
       begun a d (inr e) = rw e.0 refl

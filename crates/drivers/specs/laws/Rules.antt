@@ -1,15 +1,18 @@
 -- Laws of the table of tags. Assumes nothing.
-use Rattle.std.specs.Prelude.{◌≡◌, refl, Bool, true, false, ◌&&◌, List, [], ◌∷◌, ℕ, zero, suc, ◌≤◌, ◌<◌, ◌+◌, ◌/◌, ◌%◌, leb, ltb, eqb, drop, get_or}
+use Rattle.std.specs.Prelude.{◌≡◌, refl, Bool, true, false, ◌&&◌, List, [], ◌∷◌, ℕ, zero, suc, ◌≤◌, ◌<◌, ◌+◌, leb, ltb, eqb, drop, get_or, position, cond, not, nat_lt, Some, None}
+use Rattle.std.specs.List.{position_or_len}
+use Rattle.std.proofs.lemmas.List.Recursion.{is_position_or_len}
+use Rattle.std.proofs.lemmas.List.Sums.{prefix_len-le-length}
+use Rattle.std.specs.Option.{unwrap_or}
 use Rattle.std.proofs.Common.{sym, ap, ◌∙◌, true≢false, add-one, ltb-true, ltb-false, leb-true, eq-eqb, ne_eqb, drop-cons}
 use Rattle.std.proofs.Math.Bool.{and-eq-true_iff}
-use Rattle.std.proofs.Math.Nat.{zero-div}
 use native.Mathlib.Omega.{arith}
 use Rattle.std.proofs.Math.ListN.{get_or-eq_default}
 use Rattle.numbers.specs.Pick.{pick}
 use Rattle.numbers.specs.laws.Pick.{is_hit, is_skip}
 use Rattle.drivers.specs.declared.rules.Rule.{Rule}
 use Rattle.drivers.specs.declared.rules.Form.{Form}
-use Rattle.drivers.specs.Rules.{no_rule, tags, is_of, rules, rule_at, index_in, index_of}
+use Rattle.drivers.specs.Rules.{no_rule, tags, has_tag, is_of, rules, rule_at, index_in, index_of}
 
 -- a test that every rule of a list passes, and the one past its end
 holds_of_all : (Rule → Bool) → List Rule → Bool
@@ -23,17 +26,17 @@ each_holds f (r ∷ rs) d h e zero = ((and-eq-true_iff (f r) (holds_of_all f rs)
 each_holds f (r ∷ rs) d h e (suc i) = each_holds f rs d ((and-eq-true_iff (f r) (holds_of_all f rs)).0 h).1 e i
 
 is_small : Rule → Bool
-is_small r = leb r.2 24 && (leb r.3 8 && leb r.4 2)
+is_small r = leb r.base 24 && (leb r.factor 8 && leb r.power 2)
 
 -- a field's length is far below a word's limit
-pub rule_small : (i : ℕ) → ((rule_at i).2 ≤ 24) × ((rule_at i).3 ≤ 8) × ((rule_at i).4 ≤ 2)
+pub rule_small : (i : ℕ) → ((rule_at i).base ≤ 24) × ((rule_at i).factor ≤ 8) × ((rule_at i).power ≤ 2)
 unfolding rule_at rules holds_of_all is_small
 rule_small i =
     let r = rule_at i in
     let h : is_small (rule_at i) ≡ true = each_holds is_small rules no_rule refl refl i in
-    let a = (and-eq-true_iff (leb r.2 24) (leb r.3 8 && leb r.4 2)).0 h in
-    let b = (and-eq-true_iff (leb r.3 8) (leb r.4 2)).0 a.1 in
-    (leb-true r.2 24 a.0, leb-true r.3 8 b.0, leb-true r.4 2 b.1)
+    let a = (and-eq-true_iff (leb r.base 24) (leb r.factor 8 && leb r.power 2)).0 h in
+    let b = (and-eq-true_iff (leb r.factor 8) (leb r.power 2)).0 a.1 in
+    (leb-true r.base 24 a.0, leb-true r.factor 8 b.0, leb-true r.power 2 b.1)
 
 -- an element that is read within the table, whatever is read past it
 pub rule_within : (i : ℕ) (d : Rule) → i < 12 → get_or rules i d ≡ rule_at i
@@ -49,19 +52,19 @@ module _ (tag : ℕ) where
   unfolding index_of
   index_start = omega arith
 
-  rule_next : (i : ℕ) → i < 12 → index_in (drop i rules) tag ≡ pick (eqb (rule_at i).0 tag) 0 (suc (index_in (drop (i + 1) rules) tag))
+  rule_next : (i : ℕ) → i < 12 → index_in (drop i rules) tag ≡ pick (eqb (rule_at i).tag tag) 0 (suc (index_in (drop (i + 1) rules) tag))
   unfolding rule_at index_in
   rule_next i h = rw (drop-cons rules i no_rule h, add-one)
 
   module _ (i : ℕ) (r : Rule) (is : r ≡ rule_at i) (h : i < 12) where
-    pub index_found : r.0 ≡ tag → index_of tag ≡ i + index_in (drop i rules) tag → i ≡ index_of tag
+    pub index_found : r.tag ≡ tag → index_of tag ≡ i + index_in (drop i rules) tag → i ≡ index_of tag
     index_found e k =
-        let t : eqb (rule_at i).0 tag ≡ true = rw (← is) (eq-eqb r.0 tag e) in
+        let t : eqb (rule_at i).tag tag ≡ true = rw (← is) (eq-eqb r.tag tag e) in
         omega (arith, k, rule_next i h ∙ is_hit _ _ _ t)
 
-    pub index_turn : (r.0 ≡ tag → ⊥) → index_of tag ≡ i + index_in (drop i rules) tag → index_of tag ≡ i + 1 + index_in (drop (i + 1) rules) tag
+    pub index_turn : (r.tag ≡ tag → ⊥) → index_of tag ≡ i + index_in (drop i rules) tag → index_of tag ≡ i + 1 + index_in (drop (i + 1) rules) tag
     index_turn e k =
-        let t : eqb (rule_at i).0 tag ≡ false = rw (← is) (ne_eqb r.0 tag e) in
+        let t : eqb (rule_at i).tag tag ≡ false = rw (← is) (ne_eqb r.tag tag e) in
         omega (arith, k, rule_next i h ∙ is_skip _ _ _ t)
 
   pub index_end : (i : ℕ) → i ≡ 12 → index_of tag ≡ i + index_in (drop i rules) tag → i ≡ index_of tag
@@ -79,5 +82,32 @@ is_of_listed form i h = go (ltb i tags) refl
     go : (t : Bool) → ltb i tags ≡ t → i < tags
     go true e = ltb-true i tags e
     go false e =
-        let p : (rule_at i).1 ≡ 0 = ap (λ (r : Rule). r.1) (get_or-eq_default rules no_rule (ltb-false i tags e)) in
-        absurd (true≢false (sym h ∙ ap (λ (k : ℕ). eqb (k / form.bit % 2) 1) p ∙ ap (λ (k : ℕ). eqb (k % 2) 1) (zero-div form.bit)))
+        absurd (true≢false (sym h ∙ ap (has_tag form) (get_or-eq_default rules no_rule (ltb-false i tags e))))
+
+-- the library's search for a tag
+pick_cond : (t : Bool) (n : ℕ) → pick t 0 (suc n) ≡ cond t 0 (1 + n)
+unfolding pick
+pick_cond true n = refl
+pick_cond false n = omega arith
+
+index_none : (tag : ℕ) → index_in [] tag ≡ 0
+unfolding index_in
+index_none tag = refl
+
+index_next : (tag : ℕ) (r : Rule) (rs : List Rule) → index_in (r ∷ rs) tag ≡ cond (eqb r.tag tag) 0 (1 + index_in rs tag)
+unfolding index_in
+index_next tag r rs = pick_cond (eqb r.tag tag) (index_in rs tag)
+
+or_last : (n m : ℕ) → n ≤ m → unwrap_or (cond (nat_lt n m) (Some n) None) m ≡ n
+or_last n m h = go (nat_lt n m) refl
+  where
+    go : (t : Bool) → nat_lt n m ≡ t → unwrap_or (cond (nat_lt n m) (Some n) None) m ≡ n
+    go true e = rw e refl
+    go false e = rw e (omega (arith, ltb-false n m e))
+
+pub index_is : (tag : ℕ) → unwrap_or (position (λ (r : Rule). eqb r.tag tag) rules) 12 ≡ index_of tag
+unfolding index_of rules
+index_is tag =
+    let p : Rule → Bool = λ r. eqb r.tag tag in
+    or_last (position_or_len p rules) 12 (prefix_len-le-length (λ r. not (p r)) rules)
+    ∙ sym (is_position_or_len (λ rs. index_in rs tag) p (index_none tag) (index_next tag) rules)

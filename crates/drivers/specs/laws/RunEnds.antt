@@ -1,18 +1,15 @@
 -- A run that passes its tests ends with an answer: a point that it finds is feasible, and where it finds none the point that it began with is not. Assumes nothing.
+use Rattle.numbers.specs.declared.refusal.Refusal.{Refusal}
 use Rattle.numbers.specs.Refusal.{Sound}
 use Prim.Native.Nat.{ℕ, zero, suc, ◌+◌, ◌≤◌, ◌<◌}
-use Rattle.std.specs.Prelude.{◌≡◌, refl, Bool, true, false, List, Float}
+use Rattle.std.specs.Prelude.{◌≡◌, refl, Bool, true, false, List, Float, Err, None, Ok, Result, Some}
 use Rattle.std.proofs.Math.Path.{sym}
 use Rattle.std.proofs.Common.{ap, ◌∙◌, true≢false, arith}
 use Rattle.oracles.specs.Verdict.{Limits, limits, asked, judge, is_feasible}
 use Rattle.drivers.specs.CuttingPlane.{State, check_state}
-use Rattle.drivers.specs.CuttingPlaneFeas.{feas_step, goes_on, feas_ended, feas_run}
+use Rattle.drivers.specs.CuttingPlaneFeas.{feas_step, goes_on, feas_ended, feas_run, StepAnswer}
 use Rattle.drivers.specs.laws.StepSound.{centre_asked, says_feasible, Stepped, step_sound}
 use Rattle.drivers.specs.declared.answer.Answer.{Answer}
-use Rattle.drivers.specs.declared.cutting_plane_feas.StepAnswer.{StepAnswer}
-use Rattle.drivers.specs.declared.cutting_plane_feas.StepAnswer.TheVariants.{Feasible, Cut, Refused}
-use Rattle.drivers.specs.declared.cutting_plane_feas.FeasAnswer.{FeasAnswer}
-use Rattle.drivers.specs.declared.cutting_plane_feas.FeasAnswer.TheVariants.{Ended}
 use Rattle.numbers.specs.laws.Pick.{by_test}
 
 -- whether the centre of a state is feasible
@@ -21,9 +18,9 @@ centre_feasible rows table s = is_feasible (judge (centre_asked rows table s))
 
 -- The steps k, k + 1, .. of which so many are left have ended with an answer, r. Its steps are not before k, and within what was left.
 -- A point is found at one of the steps, and the centre that is left is feasible. Where none is found and a step was left, the centre of s is not.
-pub record RunEnded (rows : ℕ) (table : List Float) (left k : ℕ) (s : State) (r : FeasAnswer × State) : Type 0 where
+pub record RunEnded (rows : ℕ) (table : List Float) (left k : ℕ) (s : State) (r : Result Answer Refusal × State) : Type 0 where
   pub answer : Answer
-  pub answer_is : r.0 ≡ Ended answer
+  pub answer_is : r.0 ≡ Ok answer
   pub steps_from : k ≤ answer.steps
   pub steps_within : answer.steps ≤ k + left
   pub found_within : answer.found ≡ true → answer.steps < k + left
@@ -43,7 +40,7 @@ module _ (rows : ℕ) (table : List Float) where
 
   -- a step that is the last
   last_step : (left k : ℕ) (s : State) (answer : StepAnswer) (s' : State) → Stepped rows table s (answer, s') → RunEnded rows table (suc left) k s (feas_ended answer k, s')
-  last_step left k s Feasible s' h = record {
+  last_step left k s (Ok None) s' h = record {
     answer = record { found = true; steps = k };
     answer_is = refl;
     steps_from = omega arith;
@@ -59,7 +56,7 @@ module _ (rows : ℕ) (table : List Float) where
     limits_stay = h.limits_stay;
     sound = h.sound;
   }
-  last_step left k s (Cut group beta status) s' h = record {
+  last_step left k s (Ok (Some made)) s' h = record {
     answer = record { found = false; steps = k };
     answer_is = refl;
     steps_from = omega arith;
@@ -71,13 +68,13 @@ module _ (rows : ℕ) (table : List Float) where
     limits_stay = h.limits_stay;
     sound = h.sound;
   }
-  last_step left k s (Refused why) s' h = absurd (true≢false h.not_refused)
+  last_step left k s (Err why) s' h = absurd (true≢false h.not_refused)
 
   -- a step after which the run goes on, and the run from there
   goes_infeasible : (answer : StepAnswer) (tsq tolerance : Float) → goes_on answer tsq tolerance ≡ true → says_feasible answer ≡ false
-  goes_infeasible Feasible tsq tolerance e = sym e
-  goes_infeasible (Cut group beta status) tsq tolerance e = refl
-  goes_infeasible (Refused why) tsq tolerance e = refl
+  goes_infeasible (Ok None) tsq tolerance e = sym e
+  goes_infeasible (Ok (Some made)) tsq tolerance e = refl
+  goes_infeasible (Err why) tsq tolerance e = refl
 
   pub run_ends : (tolerance : Float) (left k : ℕ) (s : State) → check_state rows table s ≡ Sound → RunEnded rows table left k s (feas_run rows table tolerance left k s)
   unfolding feas_run

@@ -1,15 +1,14 @@
 -- A step from a state that passes the tests of a run is not refused, and the state that it leaves passes them again. Assumes nothing.
 use Rattle.numbers.specs.Refusal.{Sound}
-use Rattle.std.specs.Prelude.{ℕ, ◌*◌, ◌≡◌, refl, Bool, false, List, eqb, length, Float}
+use Rattle.std.specs.Prelude.{ℕ, ◌*◌, ◌≡◌, refl, Bool, false, List, eqb, length, Float, Err, None, Some, Ok}
 use Rattle.std.proofs.Common.{sym, ap, ◌∙◌, true≢false}
 use Rattle.std.proofs.Math.Bool.{true}
 use borrow.Author.Tests.{eq-eqb, eqb-true}
 use Rattle.numbers.specs.Arr.{is_dimension}
-use Rattle.numbers.specs.declared.cut.CutChoice.{CutChoice}
 use Rattle.numbers.specs.laws.Pick.{and_parts}
-use Rattle.oracles.specs.LowpassOracle.{bands_fit, cursors_fit, assess_feas_answer}
+use Rattle.oracles.specs.LowpassOracle.{bands_fit, cursors_fit, assess_feas_answer, Verdict}
 use Rattle.oracles.specs.laws.Assess.{oracle_fits, fits_oracle, accepted_of, accepted_by}
-use Rattle.oracles.specs.Verdict.{Question, limits, asked, judge, judgement, is_feasible, is_accepted}
+use Rattle.oracles.specs.Verdict.{Question, limits, asked, judge, judgement, group_judgement, is_feasible, is_accepted}
 use Rattle.oracles.specs.laws.Judge.{judge_answers}
 use Rattle.oracles.specs.laws.CursorRule.{feas_rule}
 use Rattle.oracles.specs.laws.OracleAfter.{assess_kept, assess_again, gradient_length}
@@ -18,13 +17,10 @@ use Rattle.oracles.specs.laws.EllCalls.{EllLong, ell_long, ell_same, ell_again, 
 use Rattle.oracles.specs.declared.ell_common.CutStrategy.TheVariants.{BiasCut}
 use Rattle.oracles.specs.declared.lowpass_oracle.LowpassOracle.{LowpassOracle}
 use Rattle.oracles.specs.declared.lowpass_oracle.Group.{Group}
+use Rattle.oracles.specs.declared.lowpass_oracle.Cut.{Cut}
 use Rattle.oracles.specs.declared.lowpass_oracle.Group.TheVariants.{Pass, Stop, Middle, Sign}
-use Rattle.oracles.specs.declared.lowpass_oracle.Verdict.{Verdict}
-use Rattle.oracles.specs.declared.lowpass_oracle.Verdict.TheVariants.{Feasible as IsFeasible, Cut as IsCut, Refused as NotAssessed}
 use Rattle.drivers.specs.CuttingPlane.{State, run_fits, check_of, check_state}
-use Rattle.drivers.specs.CuttingPlaneFeas.{cut_answer, feas_cut, feas_step}
-use Rattle.drivers.specs.declared.cutting_plane_feas.StepAnswer.{StepAnswer}
-use Rattle.drivers.specs.declared.cutting_plane_feas.StepAnswer.TheVariants.{Feasible, Cut, Refused}
+use Rattle.drivers.specs.CuttingPlaneFeas.{cut_answer, feas_cut, feas_step, StepAnswer}
 
 -- ---- the tests of a state
 
@@ -100,14 +96,14 @@ abbrev pub centre_asked : ℕ → List Float → State → Question
 centre_asked rows table s = asked s.oracle s.oracle.sp_sq s.ell.ndim rows table s.buffers.xc
 
 abbrev pub says_feasible : StepAnswer → Bool
-says_feasible Feasible = true
-says_feasible (Cut group beta status) = false
-says_feasible (Refused why) = false
+says_feasible (Ok None) = true
+says_feasible (Ok (Some made)) = false
+says_feasible (Err why) = false
 
 abbrev pub says_refused : StepAnswer → Bool
-says_refused Feasible = false
-says_refused (Cut group beta status) = false
-says_refused (Refused why) = true
+says_refused (Ok None) = false
+says_refused (Ok (Some made)) = false
+says_refused (Err why) = true
 
 -- a step from a state that is sound: it is not refused, it says whether the centre is feasible, it leaves a feasible centre unchanged, and the state that it leaves is right again
 pub record Stepped (rows : ℕ) (table : List Float) (s : State) (r : StepAnswer × State) : Type 0 where
@@ -118,11 +114,14 @@ pub record Stepped (rows : ℕ) (table : List Float) (s : State) (r : StepAnswer
   pub limits_stay : limits r.1.oracle ≡ limits s.oracle
   pub sound : check_state rows table r.1 ≡ Sound
 
-cut_infeasible : (group : Group) (beta : CutChoice) → is_feasible (judgement (IsCut group beta)) ≡ false
-cut_infeasible (Pass row over) beta = refl
-cut_infeasible (Stop row over) beta = refl
-cut_infeasible (Middle row) beta = refl
-cut_infeasible Sign beta = refl
+cut_infeasible : (broken : Cut) → is_feasible (judgement (Ok (Some broken))) ≡ false
+cut_infeasible broken = go broken.group
+  where
+    go : (g : Group) → is_feasible (group_judgement g) ≡ false
+    go (Pass row over) = refl
+    go (Stop row over) = refl
+    go (Middle row) = refl
+    go Sign = refl
 
 pub step_sound : (rows : ℕ) (table : List Float) (s : State) → check_state rows table s ≡ Sound → Stepped rows table s (feas_step rows table s)
 unfolding feas_step
@@ -145,7 +144,7 @@ step_sound rows table s sound =
 
     go : (o : LowpassOracle) (v : Verdict) (g : List Float) → ((x : List Float) → length x ≡ n → is_accepted o n rows table x g ≡ true) → length g ≡ n
         → judgement v ≡ judge (centre_asked rows table s) → limits o ≡ limits s.oracle → Stepped rows table s (feas_cut s o v g)
-    go o IsFeasible g again l e k =
+    go o (Ok None) g again l e k =
         let a = accepted_of o n rows table s.buffers.xc g (again s.buffers.xc h.long.xc_long) in
         record {
           not_refused = refl;
@@ -153,27 +152,27 @@ step_sound rows table s sound =
           centre_stays = λ _. refl;
           ndim_stays = refl;
           limits_stay = k;
-          sound = fits_sound rows table (feas_cut s o IsFeasible g).1 n (record { ndim_is = refl; dimension = h.dimension; table_long = h.table_long; long = h.long; grad_long = l; bands = a.bands; cursors = a.cursors });
+          sound = fits_sound rows table (feas_cut s o (Ok None) g).1 n (record { ndim_is = refl; dimension = h.dimension; table_long = h.table_long; long = h.long; grad_long = l; bands = a.bands; cursors = a.cursors });
         }
-    go o (IsCut group beta) g again l e k =
+    go o (Ok (Some broken)) g again l e k =
         let fits = ell_accepts rows table s n h g l in
         let a = accepted_of o n rows table s.buffers.xc g (again s.buffers.xc h.long.xc_long) in
-        let u = ell_update_answer s.ell BiasCut g beta s.buffers in
-        let answer = ap (λ z. cut_answer group beta z) (ell_answers s.ell BiasCut g beta s.buffers h.dimension fits).answer_is in
+        let u = ell_update_answer s.ell BiasCut g broken.beta s.buffers in
+        let answer = ap (λ z. cut_answer broken z) (ell_answers s.ell BiasCut g broken.beta s.buffers h.dimension fits).answer_is in
         record {
           not_refused = ap says_refused answer;
-          verdict_is = ap says_feasible answer ∙ sym (cut_infeasible group beta) ∙ ap is_feasible e;
+          verdict_is = ap says_feasible answer ∙ sym (cut_infeasible broken) ∙ ap is_feasible e;
           centre_stays = λ t. absurd (true≢false (sym t ∙ ap says_feasible answer));
-          ndim_stays = (ell_same s.ell BiasCut g beta s.buffers).0;
+          ndim_stays = (ell_same s.ell BiasCut g broken.beta s.buffers).0;
           limits_stay = k;
-          sound = fits_sound rows table (feas_cut s o (IsCut group beta) g).1 n (record {
-            ndim_is = (ell_same s.ell BiasCut g beta s.buffers).0;
+          sound = fits_sound rows table (feas_cut s o (Ok (Some broken)) g).1 n (record {
+            ndim_is = (ell_same s.ell BiasCut g broken.beta s.buffers).0;
             dimension = h.dimension;
             table_long = h.table_long;
-            long = ell_long n g u.1 (ell_again s.ell BiasCut g beta s.buffers fits g l);
+            long = ell_long n g u.1 (ell_again s.ell BiasCut g broken.beta s.buffers fits g l);
             grad_long = l;
             bands = a.bands;
             cursors = a.cursors;
           });
         }
-    go o (NotAssessed why) g again l e k = absurd (judge_answers (centre_asked rows table s) (sym e))
+    go o (Err why) g again l e k = absurd (judge_answers (centre_asked rows table s) (sym e))

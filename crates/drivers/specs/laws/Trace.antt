@@ -1,6 +1,6 @@
 -- Laws of Trace: the text of a step fits 128 bytes; what the calls of a run print, one after the other, is the run's text. Assumes nothing.
 use Prim.Native.Nat.{ℕ, zero, suc, ◌+◌, ◌-◌, ◌≤◌, ◌<◌}
-use Rattle.std.specs.Prelude.{◌≡◌, Bool, ltb, length, Float}
+use Rattle.std.specs.Prelude.{◌≡◌, Bool, ltb, length, Float, Err, None, Ok, Result, Some}
 use Rattle.std.proofs.Math.Path.{refl, sym, ap, subst}
 use Rattle.std.proofs.Common.{◌∙◌, true≢false, ltb-true, ltb-false, le-leb}
 use Rattle.std.proofs.Math.Bool.{true, false}
@@ -26,23 +26,17 @@ use Rattle.oracles.specs.declared.lowpass_oracle.Group.{Group}
 use Rattle.oracles.specs.declared.lowpass_oracle.Group.TheVariants.{Pass, Stop, Middle, Sign}
 use Rattle.drivers.specs.Text.{joined, hex}
 use Rattle.drivers.specs.laws.Text.{length_decimal, length_hex, most_more, most_on, most_none, put_front, joined_append, joined_none, put_all}
-use Rattle.drivers.specs.Trace.{group_word, row_text, side_word, beta_pieces, status_word, answer_pieces, outcome_word, last_pieces, ended_pieces, source_word, refused_text, text_room, printed, step_text}
+use Rattle.drivers.specs.Trace.{group_word, row_text, side_word, beta_pieces, status_word, answer_pieces, outcome_word, last_pieces, ended_pieces, source_word, refused_text, text_room, printed, step_text, Text}
 use Rattle.drivers.specs.declared.trace.Source.{Source}
 use Rattle.drivers.specs.declared.trace.Source.TheVariants.{Only, Job, Answer as OfAnswer}
 use Rattle.drivers.specs.Run.{run_state, run_at, step_printed, limit_printed, next_tests, next_answer, run_text}
 use Rattle.drivers.specs.CuttingPlane.{State, check_state}
-use Rattle.drivers.specs.CuttingPlaneFeas.{feas_step, goes_on, feas_ended, feas_run}
+use Rattle.drivers.specs.CuttingPlaneFeas.{feas_step, goes_on, feas_ended, feas_run, StepAnswer}
 use Rattle.drivers.specs.laws.StepSound.{step_sound}
 use Rattle.drivers.specs.declared.answer.Answer.{Answer}
-use Rattle.drivers.specs.declared.cutting_plane_feas.StepAnswer.{StepAnswer}
-use Rattle.drivers.specs.declared.cutting_plane_feas.StepAnswer.TheVariants.{Feasible, Cut, Refused as NotStepped}
-use Rattle.drivers.specs.declared.cutting_plane_feas.FeasAnswer.{FeasAnswer}
-use Rattle.drivers.specs.declared.cutting_plane_feas.FeasAnswer.TheVariants.{Ended, Refused as NotRun}
 use Rattle.numbers.specs.laws.Refusal.{held, at_next, accepts, failed, refuses}
 use Rattle.drivers.specs.declared.run.Run.{Run}
 use Rattle.drivers.specs.declared.run.Printed.{Printed}
-use Rattle.drivers.specs.declared.trace.Text.TheVariants.{Bytes, Refused}
-use Rattle.drivers.specs.declared.trace.Text.{Text}
 
 -- ---- what calls of `Run::next` print
 
@@ -58,8 +52,8 @@ text_left run table b grad = run_text run.rows table run.options.tolerance (run.
 
 -- the text that a call has put at the front of `out`
 abbrev pub text_in : Text → List ℕ → List ℕ
-text_in (Bytes n) out = take n out
-text_in (Refused why) out = []
+text_in (Ok n) out = take n out
+text_in (Err why) out = []
 
 -- what so many calls of `next` print, one after the other, while there is more
 unfoldable pub printed_by : ℕ → Run → List Float → EllBuffers → List Float → List ℕ → List ℕ
@@ -100,14 +94,14 @@ status_most NoSoln = omega arith
 status_most NoEffect = omega arith
 
 answer_most : (k : ℕ) (answer : StepAnswer) → length (joined (answer_pieces k answer)) ≤ 98
-answer_most k Feasible = omega (arith, most_none)
-answer_most k (Cut group beta status) =
+answer_most k (Ok None) = omega (arith, most_none)
+answer_most k (Ok (Some made)) =
     most_more 20 78 _ _ (length_decimal k)
-    (most_more 8 70 _ _ (group_most group)
-    (most_more 20 50 _ _ (row_most group)
-    (most_more 7 43 _ _ (side_most (group_side group))
-    (most_on 33 10 _ _ (betas_most beta) (most_more 10 0 _ _ (status_most status) most_none)))))
-answer_most k (NotStepped why) = omega (arith, most_none)
+    (most_more 8 70 _ _ (group_most made.cut.group)
+    (most_more 20 50 _ _ (row_most made.cut.group)
+    (most_more 7 43 _ _ (side_most (group_side made.cut.group))
+    (most_on 33 10 _ _ (betas_most made.cut.beta) (most_more 10 0 _ _ (status_most made.status) most_none)))))
+answer_most k (Err why) = omega (arith, most_none)
 
 outcome_most : (found : Bool) → length (outcome_word found) ≤ 6
 outcome_most true = omega arith
@@ -116,9 +110,9 @@ outcome_most false = omega arith
 pub last_most : (a : Answer) → length (joined (last_pieces a)) ≤ 27
 last_most a = most_more 6 21 _ _ (outcome_most a.found) (most_more 20 1 _ _ (length_decimal a.steps) (most_more 1 0 _ _ (omega arith) most_none))
 
-ended_most : (a : FeasAnswer) → length (joined (ended_pieces a)) ≤ 27
-ended_most (Ended a) = last_most a
-ended_most (NotRun why) = omega (arith, most_none)
+ended_most : (a : (Result Answer Refusal)) → length (joined (ended_pieces a)) ≤ 27
+ended_most (Ok a) = last_most a
+ended_most (Err why) = omega (arith, most_none)
 
 source_most : (source : Source) → length (source_word source) ≤ 8
 source_most Only = omega arith
@@ -139,16 +133,16 @@ step_most k more answer =
 
 -- ---- where they are written
 
-pub not_printed_in : (text out : List ℕ) → length out < 128 → (Refused Room, out) ≡ printed text out
+pub not_printed_in : (text out : List ℕ) → length out < 128 → (Err Room, out) ≡ printed text out
 unfolding printed
 not_printed_in text out h = refuses _ _ (text_room out) (failed (lt-leb 128 (length out) h)) refl
 
 pub printed_in : (out : List ℕ) (texts : List (List ℕ)) (r : ℕ × List ℕ) → 128 ≤ length out → length (joined texts) ≤ 128 → r ≡ put_all out 0 texts
-    → (Bytes r.0, r.1) ≡ printed (joined texts) out
+    → (Ok r.0, r.1) ≡ printed (joined texts) out
 unfolding printed
 printed_in out texts r h l e =
     let f : length (joined texts) ≤ length out = omega arith in
-    accepts _ _ (text_room out) (held _ _ (le-leb 128 (length out) h)) (ap (λ (q : ℕ × List ℕ). (Bytes q.0, q.1)) (put_front out texts r f e))
+    accepts _ _ (text_room out) (held _ _ (le-leb 128 (length out) h)) (ap (λ (q : ℕ × List ℕ). (Ok q.0, q.1)) (put_front out texts r f e))
 
 -- a step's pieces, and those of the answer where it is the last
 pub step_pieces : (out : List ℕ) (k : ℕ) (more : Bool) (answer : StepAnswer) (rest : List (List ℕ)) (r : ℕ × List ℕ) → 128 ≤ length out
@@ -162,7 +156,7 @@ step_pieces out k more answer rest r h e f =
 -- ---- the run
 
 -- a step, and what the rest of the run prints
-one_step : (k : ℕ) (more : Bool) (answer : StepAnswer) (text lines : List ℕ) (end : FeasAnswer) → text ≡ lines ++ joined (ended_pieces end)
+one_step : (k : ℕ) (more : Bool) (answer : StepAnswer) (text lines : List ℕ) (end : (Result Answer Refusal)) → text ≡ lines ++ joined (ended_pieces end)
     → step_text k more answer ++ pick more text [] ≡ (joined (answer_pieces k answer) ++ pick more lines []) ++ joined (ended_pieces (pick more end (feas_ended answer k)))
 unfolding step_text pick
 one_step k true answer text lines end e =
@@ -182,8 +176,8 @@ module _ (rows : ℕ) (table : List Float) (tolerance : Float) where
       let r = feas_step rows table s in
       let more = goes_on r.0 r.1.ell.tsq tolerance in
       one_step k more r.0 _ _ _ (run_prints left (suc k) r.1)
-      ∙ ap (λ (a : FeasAnswer). (joined (answer_pieces k r.0) ++ pick more (cut_lines rows table tolerance left (suc k) r.1) []) ++ joined (ended_pieces a))
-      (sym (pick_map (λ (p : FeasAnswer × State). p.0) more (feas_run rows table tolerance left (suc k) r.1) (feas_ended r.0 k, r.1)))
+      ∙ ap (λ (a : (Result Answer Refusal)). (joined (answer_pieces k r.0) ++ pick more (cut_lines rows table tolerance left (suc k) r.1) []) ++ joined (ended_pieces a))
+      (sym (pick_map (λ (p : Result Answer Refusal × State). p.0) more (feas_run rows table tolerance left (suc k) r.1) (feas_ended r.0 k, r.1)))
 
 -- ---- its calls
 

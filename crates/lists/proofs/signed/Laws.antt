@@ -1,97 +1,61 @@
 -- What the proofs of `signed` cite. Assumes nothing.
-use Rattle.std.proofs.Common.{◌≡◌, ℕ, zero, suc, ◌+◌, ◌-◌, ◌^◌, ◌<◌, ◌≤◌, true, false, T, List, ℤ, pos, negsuc, ◌-ℤ◌, neg_ℤ, nat_abs, sym, refl, ap, ◌∙◌, subst, true≢false, add-one, arith, to_z-of_z, w32, w64, Fits, SFits, to_z, of_z, ltb-true, le-ltb, lt-ltb}
-use lib.IntN.{pred_ℤ, +ℤ_comm, -ℤ_one}
-use lib.Signed.{lt_z, non_neg}
-use mir.Facts.{to_z_pos, Fits-nat_abs}
+use Rattle.std.proofs.Common.{◌≡◌, ℕ, suc, ◌+◌, ◌-◌, ◌^◌, ◌<◌, ◌≤◌, Bool, true, false, List, ℤ, pos, negsuc, Result, Ok, Err, refl, ap, ◌∙◌, add-one, arith, w32, w64, SFits, to_z, of_z, ltb-true, ltb-false, ltb}
+use Rattle.std.specs.Result.{OkIff, result_unwrap_or}
+use mir.Facts.{to_z_pos, to_z-neg}
 use Rattle.lists.specs.Words.{word_of}
 use Rattle.lists.specs.Signed.{is_signed, signed_value, all_signed, signed_word}
-use Rattle.numbers.specs.laws.Pick.{hit, skip}
+use Rattle.numbers.specs.laws.Pick.{hit, skip, both_ways}
 
--- what the machine reads back
-abbrev pub read : ℤ → ℤ
-read z = to_z w32 (of_z w32 z)
+-- ---- a word's number: it is the word's own at 64 bits, where that fits 32
 
--- ---- a word's number: −1 − k fits where k does
+module _ {E : Type 0} (r : Result ℤ E) (w : ℕ) where
+  -- a word whose number at 64 bits is z, and fits; or does not
+  fitting : (z : ℤ) → SFits w32 z → to_z w64 w ≡ z → OkIff r (SFits w32 (to_z w64 w)) (to_z w64 w) → result_unwrap_or r (pos 0) ≡ z
+  fitting z f e = go r
+    where
+      go : (r : Result ℤ E) → OkIff r (SFits w32 (to_z w64 w)) (to_z w64 w) → result_unwrap_or r (pos 0) ≡ z
+      go (Ok x) o = o.1 ∙ e
+      go (Err x) o = absurd (o (rw e f))
 
-below : (k : ℕ) → negsuc 0 -ℤ pos k ≡ negsuc k
-below k = +ℤ_comm (negsuc 0) (neg_ℤ (pos k)) ∙ -ℤ_one (neg_ℤ (pos k)) ∙ go k
-  where
-    go : (k : ℕ) → pred_ℤ (neg_ℤ (pos k)) ≡ negsuc k
-    go zero = refl
-    go (suc k) = refl
+  unfit : (z : ℤ) → (SFits w32 z → ⊥) → to_z w64 w ≡ z → OkIff r (SFits w32 (to_z w64 w)) (to_z w64 w) → result_unwrap_or r (pos 0) ≡ pos 0
+  unfit z n e = go r
+    where
+      go : (r : Result ℤ E) → OkIff r (SFits w32 (to_z w64 w)) (to_z w64 w) → result_unwrap_or r (pos 0) ≡ pos 0
+      go (Ok x) o = absurd (n (rw e at o.0))
+      go (Err x) o = refl
 
-pub below_fits : (k : ℕ) → k < 2 ^ 31 → SFits w32 (negsuc 0 -ℤ to_z w32 k)
-below_fits k h = rw (to_z_pos w32 h) (subst (SFits w32) (sym (below k)) (record { sfits = h }))
+  module _ (h : w < 2 ^ 64) (o : OkIff r (SFits w32 (to_z w64 w)) (to_z w64 w)) where
+    high : 0x8000_0000_0000_0000 ≤ w → to_z w64 w ≡ negsuc (0xffff_ffff_ffff_ffff - w)
+    high l =
+        let k = 0xffff_ffff_ffff_ffff - w in
+        let e : 2 ^ 64 - suc k ≡ w = omega arith in
+        rw e at (to_z-neg w64 k (omega arith))
 
-pub signed_low : (w : ℕ) → w < 0x8000_0000 → to_z w32 w ≡ signed_value w
-unfolding signed_value
-signed_low w h = hit _ _ _ _ (lt-ltb w 0x8000_0000 h) (to_z_pos w32 h)
+    middle : 0x8000_0000 ≤ w → w < 0xffff_ffff_8000_0000 → (t : Bool) → ltb w 0x8000_0000_0000_0000 ≡ t → result_unwrap_or r (pos 0) ≡ pos 0
+    middle l m true e = unfit (pos w) (λ f. omega (arith, f.sfits)) (to_z_pos w64 (ltb-true _ _ e)) o
+    middle l m false e = unfit (negsuc (0xffff_ffff_ffff_ffff - w)) (λ f. omega (arith, f.sfits)) (high (ltb-false _ _ e)) o
 
-pub signed_none : (w : ℕ) → 0x8000_0000 ≤ w → w < 0xffff_ffff_8000_0000 → pos 0 ≡ signed_value w
-unfolding signed_value
-signed_none w h l = skip _ _ _ _ (le-ltb w 0x8000_0000 h) (hit _ _ _ _ (lt-ltb w 0xffff_ffff_8000_0000 l) refl)
+    pub value_of_word : result_unwrap_or r (pos 0) ≡ signed_value w
+    unfolding signed_value
+    value_of_word =
+        both_ways (ltb w 0x8000_0000)
+        (λ e. let l : w < 0x8000_0000 = ltb-true _ _ e in fitting (pos w) (record { sfits = l }) (to_z_pos w64 (omega arith)) o)
+        (λ e. let l : 0x8000_0000 ≤ w = ltb-false _ _ e in
+        both_ways (ltb w 0xffff_ffff_8000_0000)
+        (λ f. middle l (ltb-true _ _ f) (ltb w 0x8000_0000_0000_0000) refl)
+        (λ f. let m : 0xffff_ffff_8000_0000 ≤ w = ltb-false _ _ f in
+        fitting (negsuc (0xffff_ffff_ffff_ffff - w)) (record { sfits = omega arith }) (high (omega arith)) o))
 
-pub signed_high : (w : ℕ) → 0xffff_ffff_8000_0000 ≤ w → 0xffff_ffff_ffff_ffff - w < 2 ^ 31
-    → read (negsuc 0 -ℤ to_z w32 (0xffff_ffff_ffff_ffff - w)) ≡ signed_value w
-unfolding signed_value
-signed_high w h f =
-    let k = 0xffff_ffff_ffff_ffff - w in
-    skip _ _ _ _ (le-ltb w 0x8000_0000 (omega arith)) (skip _ _ _ _ (le-ltb w 0xffff_ffff_8000_0000 h)
-    (to_z-of_z (below_fits k f) ∙ ap (λ (z : ℤ). negsuc 0 -ℤ z) (to_z_pos w32 f) ∙ below k))
+-- ---- a number's word: two's complement at 64 bits
 
--- ---- a number's word: −1 − i is not negative where i is, and fits
-
-above : (k : ℕ) → negsuc 0 -ℤ negsuc k ≡ pos k
-above k = +ℤ_comm (negsuc 0) (pos (suc k)) ∙ -ℤ_one (pos (suc k))
-
-not_below : (z : ℤ) → lt_z z (pos 0) ≡ false → T (non_neg z)
-not_below (pos n) h = tt
-not_below (negsuc n) h = absurd (true≢false h)
-
-cast : (z : ℤ) → T (non_neg z) → SFits w32 z → T (non_neg (read z)) × Fits w64 (nat_abs (read z))
-cast z t f = rw (to_z-of_z f) (t, Fits-nat_abs tt f)
-
-above_fits : (z : ℤ) → lt_z z (pos 0) ≡ true → SFits w32 z → SFits w32 (negsuc 0 -ℤ z)
-above_fits (pos n) h f = absurd (omega (arith, ltb-true n 0 h))
-above_fits (negsuc k) h f = subst (SFits w32) (sym (above k)) (record { sfits = f.sfits })
-
-above_positive : (z : ℤ) → lt_z z (pos 0) ≡ true → T (non_neg (negsuc 0 -ℤ z))
-above_positive (pos n) h = absurd (omega (arith, ltb-true n 0 h))
-above_positive (negsuc k) h = subst (λ (z : ℤ). T (non_neg z)) (sym (above k)) tt
-
-above_word : (z : ℤ) → lt_z z (pos 0) ≡ true → 0xffff_ffff_ffff_ffff - nat_abs (negsuc 0 -ℤ z) ≡ signed_word z
+pub word_of_value : (z : ℤ) → SFits w32 z → of_z w64 z ≡ signed_word z
 unfolding signed_word
-above_word (pos n) h = absurd (omega (arith, ltb-true n 0 h))
-above_word (negsuc k) h = ap (λ (z : ℤ). 0xffff_ffff_ffff_ffff - nat_abs z) (above k)
+word_of_value (pos n) f = refl
+word_of_value (negsuc k) f = let h = f.sfits in omega arith
 
-plain_word : (z : ℤ) → lt_z z (pos 0) ≡ false → nat_abs z ≡ signed_word z
-unfolding signed_word
-plain_word (pos n) h = refl
-plain_word (negsuc n) h = absurd (true≢false h)
-
-module _ (z : ℤ) (f : SFits w32 z) where
-  module _ (h : lt_z (read z) (pos 0) ≡ true) where
-    is_below : lt_z z (pos 0) ≡ true
-    is_below = rw (to_z-of_z f) at h
-
-    pub flip_fits : SFits w32 (negsuc 0 -ℤ read z)
-    flip_fits = rw (to_z-of_z f) (above_fits z is_below f)
-
-    pub flip_cast : T (non_neg (read (negsuc 0 -ℤ read z))) × Fits w64 (nat_abs (read (negsuc 0 -ℤ read z)))
-    flip_cast = cast (negsuc 0 -ℤ read z) (rw (to_z-of_z f) (above_positive z is_below)) flip_fits
-
-    pub flip_word : 0xffff_ffff_ffff_ffff - nat_abs (read (negsuc 0 -ℤ read z)) ≡ signed_word z
-    flip_word = rw (to_z-of_z flip_fits, to_z-of_z f) (above_word z is_below)
-
-  module _ (h : lt_z (read z) (pos 0) ≡ false) where
-    is_not : lt_z z (pos 0) ≡ false
-    is_not = rw (to_z-of_z f) at h
-
-    pub plain_cast : T (non_neg (read z)) × Fits w64 (nat_abs (read z))
-    plain_cast = cast z (not_below z is_not) f
-
-    pub read_word : nat_abs (read z) ≡ signed_word z
-    read_word = rw (to_z-of_z f) (plain_word z is_not)
+pub wider : (z : ℤ) → SFits w32 z → SFits w64 z
+wider (pos n) f = let h = f.sfits in record { sfits = omega arith }
+wider (negsuc n) f = let h = f.sfits in record { sfits = omega arith }
 
 -- ---- words that are signed
 

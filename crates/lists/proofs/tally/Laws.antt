@@ -1,60 +1,47 @@
 -- What the proofs of `tally` cite. Assumes nothing.
-use Rattle.std.proofs.Common.{◌≡◌, ℕ, ◌<◌, ◌≤◌, min, List, sym, refl, ap, ◌∙◌, le-ltb, lt-ltb, eq-eqb, ne_eqb, le-leb}
+use Rattle.std.proofs.Common.{◌≡◌, ℕ, ◌<◌, ◌≤◌, min, List, slice_index_or, slice_set, Option, Some, None, Result, Ok, Err, sym, refl, ap, ◌∙◌, eq-eqb, ne_eqb, le-leb}
 use borrow.Author.Tests.{lt-leb}
 use Rattle.lists.specs.Words.{first_diff}
-use Rattle.lists.specs.Tally.{words_verdict, verdict_of, bumped, counted, tallied, damaged_of, taken_of}
-use Rattle.lists.specs.Case.{Whole}
-use Rattle.lists.specs.declared.case.Next.{Next}
-use Rattle.lists.specs.declared.case.Next.TheVariants.{CutShort, TooLong}
-use Rattle.lists.specs.declared.tally.Replayed.{Replayed}
-use Rattle.lists.specs.declared.tally.Replayed.TheVariants.{Words, Refused, Unfit, Unknown}
+use Rattle.lists.specs.Tally.{words_verdict, wordless_verdict, verdict_of, at_difference, no_counts, unknown_more, both_counted, counted, tallied}
+use Rattle.lists.specs.declared.tally.Unreplayed.{Unreplayed}
 use Rattle.lists.specs.declared.tally.Verdict.{Verdict}
-use Rattle.lists.specs.declared.tally.Verdict.TheVariants.{Agrees, Differs, Unknown as NotKnown}
+use Rattle.lists.specs.declared.tally.Verdict.TheVariants.{Agrees, Differs}
+use Rattle.lists.specs.declared.tally.Counts.{Counts}
+use Rattle.lists.specs.declared.tally.Tally.{Tally}
 use Rattle.numbers.specs.laws.Pick.{hit, skip}
 
 -- an operation past the table, and one in it
-pub tally_over : (t r : List ℕ) (op : ℕ) (v : Verdict) → 256 ≤ op → r ≡ bumped t 514 → r ≡ tallied t op v
+pub tally_over : (t r : Tally) (op : ℕ) (v : Verdict) → 256 ≤ op → r ≡ unknown_more t → r ≡ tallied t op v
 unfolding tallied
 tally_over t r op v h e = hit _ _ _ _ (le-leb 256 op h) e
 
-pub tally_under : (t r : List ℕ) (op : ℕ) (v v' : Verdict) → op < 256 → v ≡ v' → r ≡ counted t op v' → r ≡ tallied t op v
+pub tally_under : (t r : Tally) (op : ℕ) (v v' : Verdict) → op < 256 → v ≡ v' → r ≡ counted t op v' → r ≡ tallied t op v
 unfolding tallied
 tally_under t r op v v' h p e = skip _ _ _ _ (lt-leb 256 op h) (e ∙ ap (counted t op) (sym p))
 
--- words that came: a different one, a missing one, none
-module _ (outs : ℕ) (expected got : List ℕ) (replayed : Replayed) (n both k : ℕ) (p : replayed ≡ Words n) (m : both ≡ min n outs) (f : k ≡ first_diff expected got 0 both) where
-  at_first : k ≡ first_diff expected got 0 (min n outs)
-  at_first = f ∙ ap (first_diff expected got 0) m
+-- both counts of a case
+pub both : (t : Tally) (op : ℕ) (f : Counts → Counts) (a b : Counts) → a ≡ f (slice_index_or t.ops op no_counts) → b ≡ f t.all
+    → record { ops = slice_set t.ops op a; all = b; unknown = t.unknown } ≡ both_counted t op f
+both t op f a b p q = λ i. record { ops = slice_set t.ops op (p i); all = q i; unknown = t.unknown }
 
-  pub word_differs : k < both → Differs k ≡ verdict_of outs expected replayed got
+-- words that came: a different one, none and as many, none and fewer or more
+module _ (outs : ℕ) (expected got : List ℕ) (replayed : Result ℕ Unreplayed) (n both : ℕ) (d : Option ℕ) (p : replayed ≡ Ok n) (m : both ≡ min n outs) (f : d ≡ first_diff expected got 0 both) where
+  by_difference : (e : Option ℕ) (r : Verdict) → d ≡ e → r ≡ at_difference outs n e → r ≡ verdict_of outs expected replayed got
   unfolding verdict_of words_verdict
-  word_differs h = rw (p, ← at_first, ← m) (hit _ _ _ _ (lt-ltb k both h) refl)
+  by_difference e r q h =
+      let g : first_diff expected got 0 (min n outs) ≡ e = ap (first_diff expected got 0) (sym m) ∙ sym f ∙ q in
+      rw (p, g) h
 
-  pub count_differs : both ≤ k → (n ≡ outs → ⊥) → Differs k ≡ verdict_of outs expected replayed got
-  unfolding verdict_of words_verdict
-  count_differs h d = rw (p, ← at_first, ← m) (skip _ _ _ _ (le-ltb k both h) (skip _ _ _ _ (ne_eqb n outs d) refl))
+  pub word_differs : (k : ℕ) → d ≡ Some k → Differs k ≡ verdict_of outs expected replayed got
+  word_differs k q = by_difference (Some k) (Differs k) q refl
 
-  pub all_agree : both ≤ k → n ≡ outs → Agrees ≡ verdict_of outs expected replayed got
-  unfolding verdict_of words_verdict
-  all_agree h d = rw (p, ← at_first, ← m) (skip _ _ _ _ (le-ltb k both h) (hit _ _ _ _ (eq-eqb n outs d) refl))
+  pub all_agree : d ≡ None → n ≡ outs → Agrees ≡ verdict_of outs expected replayed got
+  all_agree q h = by_difference None Agrees q (hit _ _ _ _ (eq-eqb n outs h) refl)
+
+  pub count_differs : d ≡ None → (n ≡ outs → ⊥) → Differs both ≡ verdict_of outs expected replayed got
+  count_differs q h = by_difference None (Differs both) q (skip _ _ _ _ (ne_eqb n outs h) (ap Differs m))
 
 -- what came was no words
-pub refused_differs : (outs : ℕ) (expected got : List ℕ) (replayed : Replayed) (r : ℕ) → replayed ≡ Refused r → Differs 0 ≡ verdict_of outs expected replayed got
+pub no_words : (outs : ℕ) (expected got : List ℕ) (replayed : Result ℕ Unreplayed) (why : Unreplayed) (r : Verdict) → replayed ≡ Err why → r ≡ wordless_verdict why → r ≡ verdict_of outs expected replayed got
 unfolding verdict_of
-refused_differs outs expected got replayed r p = rw p
-
-pub unfit_differs : (outs : ℕ) (expected got : List ℕ) (replayed : Replayed) → replayed ≡ Unfit → Differs 0 ≡ verdict_of outs expected replayed got
-unfolding verdict_of
-unfit_differs outs expected got replayed p = rw p
-
-pub unknown_known : (outs : ℕ) (expected got : List ℕ) (replayed : Replayed) → replayed ≡ Unknown → NotKnown ≡ verdict_of outs expected replayed got
-unfolding verdict_of
-unknown_known outs expected got replayed p = rw p
-
--- a list that is damaged there
-module _ (next : Next) (t t' : List ℕ) (e : t' ≡ damaged_of t) where
-  pub cut_short : next ≡ CutShort → (t' ≡ taken_of next t) × Whole next
-  cut_short p = rw p (e, tt)
-
-  pub too_long : next ≡ TooLong → (t' ≡ taken_of next t) × Whole next
-  too_long p = rw p (e, tt)
+no_words outs expected got replayed why r p e = rw p e

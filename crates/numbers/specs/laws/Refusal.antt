@@ -104,3 +104,20 @@ asked_sound t why a b = held _ _ (asked_ok t why a b)
 pub exits {ℓ} : {X : Type 0} {Y : Type ℓ} (made : Result X Refusal → Y) (done : Y) (f : Tests) {r : Result X Refusal} {e : Refusal}
     → IsErrAnd r (λ y. y ≡ e) → At e 0 ≡ f → made r ≡ unless f (λ why place. made (Err why)) done
 exits made done f {r} q a = let p = err_from_is_err_and r q in refuses (λ why place. made (Err why)) done f a (ap made (p.1 ∙ ap Err p.2))
+
+-- where a test goes back by its `?`: what it answers is what was found
+pub exit_same : {X E : Type 0} {r f : Result X E} {e : E} → IsErrAnd r (λ y. y ≡ e) → f ≡ Err e → r ≡ f
+exit_same {r = r} q a = let p = err_from_is_err_and r q in p.1 ∙ ap Err p.2 ∙ sym a
+
+-- a chain's answer with no place: which refusal, or that there is none
+pub unless_err : (f : Tests) {r : Result ⊤ Refusal} {why : Refusal} → r ≡ unless f (λ w place. Err w) (Ok tt) → r ≡ Err why → (place : ℕ) × (f ≡ At why place)
+unless_err Sound a b = let z : Ok tt ≡ Err _ = sym a ∙ b in absurd (cc)
+unless_err (Err fault) a b = (fault.place, let z : Err fault.why ≡ Err _ = sym a ∙ b in let w : fault.why ≡ _ = cc in ap (λ (v : Refusal). At v fault.place) w)
+
+pub unless_ok : (f : Tests) {r : Result ⊤ Refusal} {u : ⊤} → r ≡ unless f (λ w place. Err w) (Ok tt) → r ≡ Ok u → f ≡ Sound
+unless_ok Sound a b = refl
+unless_ok (Err fault) a b = let z : Err fault.why ≡ Ok _ = sym a ∙ b in absurd (cc)
+
+-- where a call goes back by a `?`: the refusal that it answers
+pub gone : {X E : Type 0} {r : Result X E} {e e' : E} → IsErrAnd r (λ y. y ≡ e) → e ≡ e' → r ≡ Err e'
+gone {r = r} q a = let p = err_from_is_err_and r q in p.1 ∙ ap Err (p.2 ∙ a)

@@ -1,5 +1,6 @@
 -- The turns of the loops of ell, and the ways through its update. Assumes nothing.
 use mathlib.Core.Path.{◌≡◌, refl, sym, ap, subst, ◌∙◌}
+use Rattle.std.specs.Prelude.{Ok}
 use mathlib.Core.Bool.{Bool, true, false, not}
 use mathlib.Core.List.{List}
 use Prim.Native.Nat.{ℕ, ◌≤◌, ◌<◌, ◌+◌, ◌-◌, ◌*◌}
@@ -25,7 +26,6 @@ use Rattle.oracles.specs.EllCommon.{calc_of, is_tiny, is_success, centre_of, cha
 use Rattle.oracles.specs.declared.ell_common.CutStrategy.{CutStrategy}
 use Rattle.oracles.specs.declared.ell.Ell.{Ell}
 use Rattle.oracles.specs.declared.ell.EllChange.{EllChange}
-use Rattle.oracles.specs.declared.ell_common.Update.TheVariants.{Status}
 use Rattle.oracles.specs.Ell.{EllBuffers, ell_buffers, rank_one, ell_work, change_of}
 use Rattle.oracles.proofs.ell_common.Laws.{no_effect, fails, succeeds}
 use Rattle.oracles.specs.laws.Ell.{row_lowered, all_lowered, mirrored_to, row_mirrored, mirrored}
@@ -134,16 +134,16 @@ module _ (e : Ell) (s : CutStrategy) (grad : List Float) (beta : CutChoice) (b :
   omega_is : omega ≡ dot_of grad (mv_of e.ndim b.mq grad)
   omega_is = o ∙ ap (dot_of grad) g
 
-  pub ell_no_effect : tiny ≡ true → ((c : EllBuffers) → change_of r c ≡ change (Status NoEffect) e.kappa e.tsq c)
+  pub ell_no_effect : tiny ≡ true → ((c : EllBuffers) → change_of r c ≡ change (Ok NoEffect) e.kappa e.tsq c)
       → change_of r (ell_buffers b.mq b.xc gt) ≡ update_of (ell_work e s grad beta b)
   ell_no_effect h q = no_effect (ell_work e s grad beta b) _ omega tiny omega_is t h (q _ ∙ rw g)
 
   module _ (a : CutAnswer) (ok : Bool) (k : a ≡ calc_of s e.helper beta (e.kappa ⊗ omega)) (u : ok ≡ is_success a.status) (h : tiny ≡ false) where
-    pub ell_fails : not ok ≡ true → ((c : EllBuffers) → change_of r c ≡ change (Status a.status) e.kappa (e.kappa ⊗ omega) c)
+    pub ell_fails : not ok ≡ true → ((c : EllBuffers) → change_of r c ≡ change (Ok a.status) e.kappa (e.kappa ⊗ omega) c)
         → change_of r (ell_buffers b.mq b.xc gt) ≡ update_of (ell_work e s grad beta b)
     ell_fails f q = fails (ell_work e s grad beta b) _ omega tiny omega_is t a ok k u h f (q _ ∙ rw g)
 
     pub ell_succeeds : (mq xc : List Float) → not ok ≡ false → mq ≡ rank_one e.ndim (a.params.sigma ⊘ omega) gt b.mq
-        → xc ≡ centre_of b.xc (a.params.rho ⊘ omega) gt → ((c : EllBuffers) → change_of r c ≡ change (Status a.status) (e.kappa ⊗ a.params.delta) (e.kappa ⊗ omega) c)
+        → xc ≡ centre_of b.xc (a.params.rho ⊘ omega) gt → ((c : EllBuffers) → change_of r c ≡ change (Ok a.status) (e.kappa ⊗ a.params.delta) (e.kappa ⊗ omega) c)
         → change_of r (ell_buffers mq xc gt) ≡ update_of (ell_work e s grad beta b)
     ell_succeeds mq xc f x y q = succeeds (ell_work e s grad beta b) _ omega tiny omega_is t a ok k u h f (q _ ∙ rw (x, y, ← omega_is, ← g))

@@ -2,24 +2,26 @@
 use Rattle.std.specs.Prelude.{Err, Ok, Result, ⊤}
 use Rattle.numbers.specs.Refusal.{Sound, Tests}
 use mathlib.Core.Path.{◌≡◌, refl, sym, ap, ◌∙◌}
-use mathlib.Core.Bool.{Bool, true, false, not, ◌&&◌}
+use mathlib.Core.Bool.{Bool, true, false, not}
 use mathlib.Core.List.{List}
 use Prim.Native.Nat.{ℕ, ◌≤◌, ◌*◌}
 use native.Mathlib.Omega.{arith}
-use borrow.Author.Tests.{leb-true, eqb-true, eq-eqb}
-use lib.Dec.{leb, eqb}
+use borrow.Author.Tests.{leb-true, eq-eqb}
+use lib.Dec.{leb}
 use lib.ListN.{length}
 use lib.Ieee.{Float}
-use Rattle.numbers.specs.Arr.{is_dimension, mv_of, fills, dot_mv_into_tests, dot_mv_into_answer, copy_from_tests, copy_from_answer}
+use Rattle.numbers.specs.Arr.{is_dimension, mv_of, fills, dot_mv_into_tests, dot_mv_into_answer}
 use Rattle.numbers.specs.F64.{◌⊗◌}
 use Rattle.numbers.specs.EllCalc.{made, new_answer, new_tests}
 use Rattle.numbers.specs.laws.Pick.{hit, skip, and_parts}
 use Rattle.numbers.specs.laws.Refusal.{held, at_next, accepts, unless_map}
 use Rattle.numbers.specs.declared.refusal.Refusal.{Refusal}
 use Rattle.numbers.specs.declared.cut.CutAnswer.{CutAnswer}
-use Rattle.numbers.specs.declared.cut.CutStatus.TheVariants.{NoEffect}
+use Rattle.numbers.specs.declared.cut.CutStatus.{CutStatus}
+use Rattle.numbers.specs.declared.cut.CutStatus.TheVariants.{Success, NoSoln, NoEffect}
+use Rattle.numbers.specs.contracts.cut.CutStatus as Y
+use denote.Enum.Bare.{sameb}
 use Rattle.numbers.specs.declared.ell_calc.EllCalc.{EllCalc}
-use Rattle.oracles.specs.declared.ell_common.Update.TheVariants.{Status}
 use Rattle.oracles.specs.EllCommon.{is_tiny, is_success, new_of, Work, Change, change, answer_of, update_of}
 
 -- what the calls of numbers that fill a list leave in it, where they refuse nothing
@@ -32,23 +34,6 @@ multiplied n mat x out p e d h k l = filled (dot_mv_into_tests n mat x out) (mv_
 
 pub dimension_least : (n : ℕ) → is_dimension n ≡ true → 1 ≤ n
 dimension_least n h = omega (arith, leb-true 2 n (and_parts (leb 2 n) (leb n 32) h).0)
-
--- two tests as one
-pub no_left : (s t : Bool) → s ≡ false → (s && t) ≡ false
-no_left s t h = rw h
-
-pub no_right : (s t : Bool) → s ≡ true → t ≡ false → (s && t) ≡ false
-no_right s t h k = rw (h, k)
-
-pub both : (s t : Bool) → s ≡ true → t ≡ true → (s && t) ≡ true
-both s t h k = rw (h, k)
-
--- the lengths, from the test that they fit
-pub lengths : (n grad mq xc : ℕ) → (eqb grad n && eqb mq (n * n) && eqb xc n) ≡ true → (grad ≡ n) × (mq ≡ n * n) × (xc ≡ n)
-lengths n grad mq xc h =
-    let p = and_parts (eqb grad n && eqb mq (n * n)) (eqb xc n) h in
-    let q = and_parts (eqb grad n) (eqb mq (n * n)) p.0 in
-    (eqb-true grad n q.0, eqb-true mq (n * n) q.1, eqb-true xc n p.1)
 
 -- ---- what `new_with_matrix` makes of the calculators' answer
 
@@ -66,22 +51,32 @@ module _ {B : Type 0} (w : Work B) (c : Change B) (omega : Float) (tiny : Bool) 
   tiny_is : is_tiny w.omega ≡ tiny
   tiny_is = sym (t ∙ ap is_tiny o)
 
-  pub no_effect : tiny ≡ true → c ≡ change (Status NoEffect) w.kappa w.tsq w.prepared → c ≡ update_of w
+  pub no_effect : tiny ≡ true → c ≡ change (Ok NoEffect) w.kappa w.tsq w.prepared → c ≡ update_of w
   unfolding update_of
   no_effect h q = hit _ _ _ _ (tiny_is ∙ h) q
 
   -- a success with this answer of the calculator, and this omega
   abbrev pub succeeding : CutAnswer → Float → Change B
-  succeeding a x = let s = w.success (w.kappa ⊗ a.params.delta) a.params in change (Status a.status) s.0 (w.kappa ⊗ x) s.1
+  succeeding a x = let s = w.success (w.kappa ⊗ a.params.delta) a.params in change (Ok a.status) s.0 (w.kappa ⊗ x) s.1
 
   module _ (a : CutAnswer) (ok : Bool) (k : a ≡ w.calculator (w.kappa ⊗ omega)) (u : ok ≡ is_success a.status) (h : tiny ≡ false) where
     answer_is : answer_of w ≡ a
     answer_is = sym (k ∙ ap (λ (x : Float). w.calculator (w.kappa ⊗ x)) o)
 
-    pub fails : not ok ≡ true → c ≡ change (Status a.status) w.kappa (w.kappa ⊗ omega) w.prepared → c ≡ update_of w
+    pub fails : not ok ≡ true → c ≡ change (Ok a.status) w.kappa (w.kappa ⊗ omega) w.prepared → c ≡ update_of w
     unfolding update_of
     fails f q = skip _ _ _ _ (tiny_is ∙ h) (hit _ _ _ _ (rw (answer_is, ← u) f) (rw (answer_is, ← o) q))
 
     pub succeeds : not ok ≡ false → c ≡ succeeding a omega → c ≡ update_of w
     unfolding update_of
     succeeds f q = skip _ _ _ _ (tiny_is ∙ h) (skip _ _ _ _ (rw (answer_is, ← u) f) (q ∙ ap (λ (x : CutAnswer). succeeding x omega) (sym answer_is) ∙ ap (succeeding (answer_of w)) o))
+
+-- ---- a status that is compared with Success
+
+same_success : (s : CutStatus) → sameb Y.the_type s Success ≡ is_success s
+same_success Success = refl
+same_success NoSoln = refl
+same_success NoEffect = refl
+
+pub unlike : (s : CutStatus) {t : Bool} → t ≡ not (sameb Y.the_type s Success) → {v : Bool} → t ≡ v → not (is_success s) ≡ v
+unlike s e h = ap not (sym (same_success s)) ∙ sym e ∙ h

@@ -3,7 +3,7 @@ use mathlib.Core.Path.{◌≡◌, refl, sym, ap, ◌∙◌}
 use mathlib.Core.List.{List, ◌∷◌, ◌++◌}
 use mathlib.Core.Logic.{⊎_elim}
 use Prim.Native.Nat.{ℕ, zero, suc, ◌≤◌, ◌<◌, ◌+◌, ◌-◌, ◌*◌}
-use native.Mathlib.Nat.{zero-add, sub-zero, eq-or-lt_of_le}
+use native.Mathlib.Nat.{zero-add, eq-or-lt_of_le}
 use native.Mathlib.Numerals.{add-one}
 use native.Mathlib.Omega.{arith}
 use borrow.Author.Tests.{ltb-true, ltb-false, eqb-true, eqb-false, eq-eqb, ne_eqb, lt-ltb, le-ltb}
@@ -146,11 +146,6 @@ back_rows_turn n mq z q i p e h l g =
     let m : n - suc (n - (p + 1)) ≡ p = omega arith in
     row_solved z q (backward n mq z (n - (p + 1))) p (g ∙ rw e) (omega arith) n mq (n - (p + 1)) ∙ rw (k, m)
 
-pub back_rows_done : (n : ℕ) (mq z q : List Float) (i : ℕ) → i ≤ 0 → q ≡ take i z ++ backward n mq z (n - i) → q ≡ backward n mq z n
-back_rows_done n mq z q i h g =
-    let e : i ≡ 0 = omega arith in
-    g ∙ rw (e, sub-zero)
-
 -- ---- the rank-one update: the rows below j are done, and their columns taken from v
 
 abbrev pub factored_to : ℕ → List Float → List Float → List Float → Float → ℕ → ℕ → ℕ → Float
@@ -193,12 +188,6 @@ module _ (n : ℕ) (mq₀ z v₀ : List Float) (t0 : Float) (j : ℕ) (mq v : Li
 
     row_long : length (take (j * n + n - (j * n + j)) (drop (j * n + j) mq)) ≡ n - j
     row_long = part_long n _ _ j mq h j (j * n + j) (j * n + n - (j * n + j)) l (omega arith) refl ∙ omega arith
-
-    -- the row from its diagonal on, and the part of v' beside it
-    pub parts_fit : (0 < length (take (j * n + n - (j * n + j)) (drop (j * n + j) mq)))
-        × (length (take (j * n + n - (j * n + j)) (drop (j * n + j) mq)) ≡ length (take (n - j) (drop j v')))
-    parts_fit =
-        (omega (arith, row_long), row_long ∙ sym (length-take-le (n - j) (drop j v') (rw (length-drop j v') (omega (arith, columns_turn.long)))))
 
     beside : (c : ℕ) → 0 < c → c < n - j → nth (take (n - j) (drop j v')) c ≡ less_columns n mq₀ v₀ (j + c) (suc j)
     beside c p m =

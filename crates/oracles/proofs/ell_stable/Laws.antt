@@ -1,12 +1,11 @@
 -- What `prepare` and `succeed` leave, and the ways through an update of ell_stable. Assumes nothing.
 use mathlib.Core.Path.{◌≡◌, ap, ◌∙◌}
-use mathlib.Core.Bool.{Bool, true, false, not, ◌&&◌}
+use Rattle.std.specs.Prelude.{Ok}
+use mathlib.Core.Bool.{Bool, true, false, not}
 use mathlib.Core.List.{List}
-use Prim.Native.Nat.{ℕ, ◌*◌}
+use Prim.Native.Nat.{ℕ}
 use native.Mathlib.Nat.{le_refl}
-use lib.Dec.{eqb}
 use lib.Ieee.{Float}
-use lib.ListN.{length}
 use Rattle.numbers.specs.F64.{◌⊕◌, ◌⊖◌, ◌⊗◌, ◌⊘◌, 0ᶠ, 1ᶠ}
 use Rattle.numbers.specs.Arr.{tab}
 use Rattle.numbers.specs.declared.cut.CutAnswer.{CutAnswer}
@@ -18,12 +17,9 @@ use Rattle.oracles.specs.declared.ell_common.CutStrategy.{CutStrategy}
 use Rattle.oracles.specs.declared.ell_stable.EllStable.{EllStable}
 use Rattle.oracles.specs.declared.ell_stable.EllStableUpdate.{EllStableUpdate}
 use Rattle.oracles.specs.EllStable.{StableBuffers, inv_ml_g_of, inv_md_inv_ml_g_of, gg_t_of, omega_of, lowered, backward, t_start, rank_one_factors, succeeded}
-use Rattle.oracles.proofs.ell_common.Laws.{lengths}
 use Rattle.oracles.specs.laws.EllStable.{less_columns, factors_after, scaled, products, summed, columns_lowered, factors_lowered, backward_lowered}
-use Rattle.oracles.specs.declared.ell_common.Update.TheVariants.{Status}
 use Rattle.oracles.specs.EllCommon.{Change, change, update_of}
 use Rattle.oracles.specs.EllStable.{stable_buffers, stable_after, stable_work}
-use Rattle.oracles.specs.laws.EllStableCalls.{StableLong, stable_long}
 use Rattle.oracles.proofs.ell_common.Laws.{no_effect, fails, succeeds}
 
 -- ---- what `prepare` and `succeed` leave, from what their calls left
@@ -53,19 +49,19 @@ module _ (e : EllStable) (s : CutStrategy) (grad : List Float) (beta : CutChoice
   left : (c : Change StableBuffers) → r ≡ (stable_after e c).0 → c ≡ update_of (stable_work e s grad beta b) → (r, c.buffers) ≡ stable_after e (update_of (stable_work e s grad beta b))
   left c q h = ap (λ (x : EllStableUpdate). (x, c.buffers)) q ∙ ap (stable_after e) h
 
-  pub stable_no_effect : tiny ≡ true → r ≡ (stable_after e (change (Status NoEffect) e.kappa e.tsq b)).0
+  pub stable_no_effect : tiny ≡ true → r ≡ (stable_after e (change (Ok NoEffect) e.kappa e.tsq b)).0
       → (r, stable_buffers mq b.xc w z gg b.g_t) ≡ stable_after e (update_of (stable_work e s grad beta b))
   stable_no_effect h q = left _ q (no_effect (stable_work e s grad beta b) _ omega tiny o.0 t h (rw (o.1, o.2, o.3, o.4)))
 
   module _ (a : CutAnswer) (ok : Bool) (k : a ≡ calc_of s e.helper beta (e.kappa ⊗ omega)) (u : ok ≡ is_success a.status) (h : tiny ≡ false) where
-    pub stable_fails : not ok ≡ true → r ≡ (stable_after e (change (Status a.status) e.kappa (e.kappa ⊗ omega) b)).0
+    pub stable_fails : not ok ≡ true → r ≡ (stable_after e (change (Ok a.status) e.kappa (e.kappa ⊗ omega) b)).0
         → (r, stable_buffers mq b.xc w z gg b.g_t) ≡ stable_after e (update_of (stable_work e s grad beta b))
     stable_fails f q = left _ q (fails (stable_work e s grad beta b) _ omega tiny o.0 t a ok k u h f (rw (o.1, o.2, o.3, o.4)))
 
     pub stable_succeeds : (mq' xc' v' : List Float) → not ok ≡ false
         → (xc' ≡ centre_of b.xc (a.params.rho ⊘ omega) (backward e.ndim mq z e.ndim))
         × (mq' ≡ factors_after e.ndim mq z grad (t_start omega a.params.sigma)) × (v' ≡ tab (λ l. less_columns e.ndim mq grad l l) e.ndim)
-        → r ≡ (stable_after e (change (Status a.status) (e.kappa ⊗ a.params.delta) (e.kappa ⊗ omega) b)).0
+        → r ≡ (stable_after e (change (Ok a.status) (e.kappa ⊗ a.params.delta) (e.kappa ⊗ omega) b)).0
         → (r, stable_buffers mq' xc' w z gg v') ≡ stable_after e (update_of (stable_work e s grad beta b))
     unfolding succeeded
     stable_succeeds mq' xc' v' f x q =
@@ -76,16 +72,3 @@ module _ (e : EllStable) (s : CutStrategy) (grad : List Float) (beta : CutChoice
         let mq_is : mq' ≡ rank_one_factors n b.mq grad (t_start omega a.params.sigma) = x.1 ∙ rw (o.1, o.3) (factors_lowered n b.mq grad (t_start omega a.params.sigma)) in
         let v_is : v' ≡ tab (inv_ml_g_of n b.mq grad) n = x.2 ∙ rw o.1 (columns_lowered n b.mq grad) in
         left _ q (succeeds (stable_work e s grad beta b) _ omega tiny o.0 t a ok k u h f (rw (xc_is, mq_is, v_is, o.2, o.3, o.4, ← o.0)))
-
--- ---- the lengths: `a` is what `lengths_fit` tests, and the others what `scratch_fits` does
-
-pub unfit : (a b c d e : Bool) → a ≡ false → (a && b && c && d && e) ≡ false
-unfit a b c d e h = rw h
-
-pub fit_by : (a b c d e t : Bool) → a ≡ true → (b && c && d && e) ≡ t → (a && b && c && d && e) ≡ t
-fit_by a b c d e t h k = rw h k
-
--- what `update` requires
-pub lengths_known : (n : ℕ) (grad : List Float) (s : StableBuffers) → (eqb (length grad) n && eqb (length s.mq) (n * n) && eqb (length s.xc) n) ≡ true
-    → (eqb (length s.inv_ml_g) n && eqb (length s.inv_md_inv_ml_g) n && eqb (length s.gg_t) n && eqb (length s.g_t) n) ≡ true → (length grad ≡ n) × StableLong n s
-lengths_known n grad s k m = let f = fit_by _ _ _ _ _ true k m in ((lengths n _ _ _ k).0, stable_long n grad s f)

@@ -1,40 +1,26 @@
 -- Laws of the loops that factor, for the proofs of ldlt_mgr alone. Assumes nothing.
 use mathlib.Core.Path.{◌≡◌, refl, sym, ap, ◌∙◌}
-use mathlib.Core.Bool.{Bool, true, false, not}
+use Rattle.std.specs.Prelude.{Ok, Some, None, Result, Option}
+use Rattle.numbers.specs.declared.refusal.Refusal.{Refusal}
+use mathlib.Core.Bool.{Bool, true, false}
 use mathlib.Core.Logic.{⊎_elim}
 use mathlib.Core.List.{List}
 use Prim.Native.Nat.{ℕ, suc, ◌≤◌, ◌<◌, ◌+◌, ◌-◌, ◌*◌, suc-le-suc}
-use native.Mathlib.Nat.{mul-le-mul, sub-zero, le_of_suc-le-suc, eq-or-lt_of_le}
+use native.Mathlib.Nat.{sub-zero, le_of_suc-le-suc, eq-or-lt_of_le}
 use native.Mathlib.Numerals.{add-one}
 use native.Mathlib.Omega.{arith}
-use borrow.Author.Tests.{leb-true, eq-eqb, ne_eqb}
-use lib.Dec.{leb, eqb}
+use borrow.Author.Tests.{eq-eqb, ne_eqb}
+use lib.Dec.{eqb}
 use lib.ListN.{length, set, length-set}
 use lib.Ieee.{Float}
 use Rattle.numbers.specs.F64.{◌⊕◌, ◌⊖◌, ◌⊗◌, ◌⊘◌, 0ᶠ}
 use Rattle.numbers.specs.Pick.{pick}
-use Rattle.numbers.specs.laws.Pick.{hit, skip, and_parts, says_yes}
+use Rattle.numbers.specs.laws.Pick.{hit, skip}
 use Rattle.oracles.specs.Matrix.{at, total}
-use Rattle.oracles.specs.LdltMgr.{is_order, taken, reduced, stored, stops, stop_from, stop_of, filled, position_of, factor_rows, factor_of}
-use Rattle.oracles.specs.declared.ldlt_mgr.Factored.{Factored}
-use Rattle.oracles.specs.declared.ldlt_mgr.Factored.TheVariants.{Definite, Stopped}
+use Rattle.oracles.specs.LdltMgr.{taken, reduced, stored, stops, stop_from, stop_of, filled, position_of, factor_rows, factor_of, factored}
 use Rattle.oracles.specs.laws.Matrix.{place_in, at_set_same, at_set_other, total_cong}
-use Rattle.oracles.specs.laws.Ldlt.{LmiReads, FactoredTo, stored_low, stored_high, taken_total, length_filled, filled_in, filled_ext, filled_zero, filled_suc, stop_here, stop_later}
-
--- ---- the tests of a call: `r` is what is_order answered
-
-pub order_most : (m : ℕ) (r : Bool) → r ≡ is_order m → not r ≡ false → m ≤ 32
-order_most m r e t = leb-true m 32 (and_parts (leb 1 m) (leb m 32) (says_yes r (is_order m) e t)).1
-
--- ---- the entry
-
--- entry (i, j) of mat_f[k] is one of mat_f's, whose places fit a usize
-module _ (m : ℕ) (mat_b mat_f xc : List Float) (h : LmiReads m mat_b mat_f xc) (k i j : ℕ) (l : k < length xc) (a : i < m) (b : j < m) where
-  pub place_f : k * (m * m) + (i * m + j) < length mat_f
-  place_f = rw h.long_f (place_in (length xc) (m * m) k (i * m + j) l (place_in m m i j a b))
-
-  pub small_f : k * (m * m) + (i * m + j) < 32768
-  small_f = omega (arith, place_f, h.long_f, mul-le-mul h.few (mul-le-mul h.order h.order))
+use Rattle.oracles.specs.laws.Ldlt.{FactoredTo, stored_low, stored_high, taken_total, length_filled, filled_in, filled_ext, filled_zero, filled_suc, stop_here, stop_later}
+use Rattle.oracles.specs.declared.ldlt_mgr.Pos.{Pos}
 
 -- ---- a row
 
@@ -226,10 +212,29 @@ module _ (A : ℕ → ℕ → Float) (m : ℕ) (storage₀ : List Float) where
 
 -- the answer by the stop
 module _ (A : ℕ → ℕ → Float) (m : ℕ) (storage : List Float) (e : ℕ) (out : List Float) (h : (e, out) ≡ factor_rows A m storage) where
-  pub definite : e ≡ 0 → (Definite, out) ≡ factor_of A m storage
-  unfolding factor_of
-  definite z = rw (← h) (ap (λ (x : Factored). (x, out)) (hit _ _ _ _ (eq-eqb e 0 z) refl))
+  pub definite : e ≡ 0 → (None, out) ≡ factored A m storage
+  definite z = rw (← h) (ap (λ (x : Option Pos). (x, out)) (hit _ _ _ _ (eq-eqb e 0 z) refl))
 
-  pub stopped_at : (e ≡ 0 → ⊥) → (Stopped (position_of e), out) ≡ factor_of A m storage
-  unfolding factor_of
-  stopped_at z = rw (← h) (ap (λ (x : Factored). (x, out)) (skip _ _ _ _ (ne_eqb e 0 z) refl))
+  pub stopped_at : (e ≡ 0 → ⊥) → (Some (position_of e), out) ≡ factored A m storage
+  stopped_at z = rw (← h) (ap (λ (x : Option Pos). (x, out)) (skip _ _ _ _ (ne_eqb e 0 z) refl))
+
+pub said_of : (A : ℕ → ℕ → Float) (m : ℕ) (storage : List Float) (w : Option Pos × List Float) → w ≡ factored A m storage → ◌≡◌ {A = Result (Option Pos) Refusal × List Float} (Ok w.0, w.1) (factor_of A m storage)
+unfolding factor_of
+said_of A m storage w e = ap (λ (x : Option Pos × List Float). (Ok x.0, x.1)) e
+
+-- the stop e, from what is answered by it
+pub none_is : (e : ℕ) → ◌≡◌ {A = Option Pos} None (pick (eqb e 0) None (Some (position_of e))) → eqb e 0 ≡ true
+unfolding pick
+none_is e h = go (eqb e 0) h
+  where
+    go : (t : Bool) → ◌≡◌ {A = Option Pos} None (pick t None (Some (position_of e))) → t ≡ true
+    go true q = refl
+    go false q = absurd (let z : ◌≡◌ {A = ℕ} 0 1 = cc in omega arith)
+
+pub some_is : (e : ℕ) (pos : Pos) → ◌≡◌ {A = Option Pos} (Some pos) (pick (eqb e 0) None (Some (position_of e))) → (eqb e 0 ≡ false) × (pos ≡ position_of e)
+unfolding pick
+some_is e pos h = go (eqb e 0) h
+  where
+    go : (t : Bool) → ◌≡◌ {A = Option Pos} (Some pos) (pick t None (Some (position_of e))) → (t ≡ false) × (pos ≡ position_of e)
+    go true q = absurd (let z : ◌≡◌ {A = ℕ} 0 1 = cc in omega arith)
+    go false q = (refl, cc)

@@ -1,5 +1,6 @@
 -- The turn of the scan's loop: where the cursor goes, and what the rows that are looked at leave to be found. Assumes nothing.
 use mathlib.Core.Path.{◌≡◌, refl, sym, ap, ◌∙◌, subst}
+use Rattle.std.specs.Prelude.{Some, None, Option, is_some}
 use mathlib.Core.Bool.{true, false}
 use mathlib.Core.List.{List}
 use Prim.Native.Nat.{ℕ, zero, suc, ◌≤◌, ◌<◌, ◌+◌, ◌*◌, ◌-◌}
@@ -15,11 +16,8 @@ use Rattle.oracles.specs.laws.RoundRobin.{canon, legal_canon, adv_next, Legal}
 use Rattle.oracles.specs.laws.ScanRows.{NextRow, next_row, band_count, Ready}
 use Rattle.oracles.specs.Scan.{−∞, none, scan_from, scan_of}
 use Rattle.oracles.specs.Table.{value_of}
-use Rattle.oracles.specs.laws.ScanRun.{limit_of, is_broken, judged_of, scan_run, RowsLeft}
+use Rattle.oracles.specs.laws.ScanRun.{limit_of, judged_of, scan_run, RowsLeft}
 use Rattle.oracles.specs.declared.round_robin.RoundRobin.{RoundRobin}
-use Rattle.oracles.specs.declared.scan.Upper.{Upper}
-use Rattle.oracles.specs.declared.scan.Upper.TheVariants.{Limit}
-use Rattle.oracles.specs.declared.scan.Violation.TheVariants.{Nothing}
 use Rattle.oracles.specs.declared.scan.Scan.{Scan}
 use Rattle.oracles.proofs.scan.Run.{after, after_broken, after_whole, run_one, run_last, by_limit, by_run}
 
@@ -29,7 +27,7 @@ rows_left n table from past next left a b s r h =
     record { legal = record { from = from; past = past; next = next; lo_is = refl; hi_is = refl; cur_is = refl; above = a; below = b; small = s }; room = r; high = h }
 
 -- a scan goes by where its cursor goes
-same_way : (n : ℕ) (table x : List Float) (lower : Float) (upper : Upper) (left : ℕ) (c e : RoundRobin) (f : Float) (k : ℤ) → 0 < left → advanced c ≡ advanced e
+same_way : (n : ℕ) (table x : List Float) (lower : Float) (upper : Option Float) (left : ℕ) (c e : RoundRobin) (f : Float) (k : ℤ) → 0 < left → advanced c ≡ advanced e
     → scan_from n table x lower upper left c f k ≡ scan_from n table x lower upper left e f k
 unfolding scan_from
 same_way n table x lower upper zero c e f k h q = absurd (omega arith)
@@ -38,8 +36,8 @@ same_way n table x lower upper (suc left) c e f k h q = rw q refl
 -- ---- a turn
 
 module _ {n : ℕ} {table : List Float} (x : List Float) (lower limit : Float) {c : RoundRobin} {left : ℕ} (f : Float) (k : ℤ) {whole : Scan} (G : RowsLeft n table c left)
-    (inv : scan_from n table x lower (Limit limit) left c f k ≡ whole) where
-  pub clear : left ≤ 0 → record { viol = Nothing; fmax = f; kmax = k; last = c.cur } ≡ whole
+    (inv : scan_from n table x lower (Some limit) left c f k ≡ whole) where
+  pub clear : left ≤ 0 → record { viol = None; fmax = f; kmax = k; last = c.cur } ≡ whole
   unfolding scan_from
   clear h = let e : left ≡ 0 = omega arith in rw e at inv
 
@@ -84,10 +82,10 @@ module _ {n : ℕ} {table : List Float} (x : List Float) (lower limit : Float) {
       row_small = omega (arith, high, G.legal.small)
 
       -- the scan from the cursor just before that row
-      at_row : scan_from n table x lower (Limit limit) left (canon lo hi row) f k ≡ whole
+      at_row : scan_from n table x lower (Some limit) left (canon lo hi row) f k ≡ whole
       at_row =
           let q : advanced (canon lo hi row) ≡ advanced c = adv_next lo hi row (λ z. omega (arith, high)) ∙ ap (λ (z : ℕ). canon lo hi (suc z)) row_is ∙ sym goes_to ∙ ed in
-          same_way n table x lower (Limit limit) left (canon lo hi row) c f k some q ∙ inv
+          same_way n table x lower (Some limit) left (canon lo hi row) c f k some q ∙ inv
 
       module _ {past : ℕ} (ep : d.hi ≡ pos past) where
         past_is : past ≡ hi
@@ -110,17 +108,17 @@ module _ {n : ℕ} {table : List Float} (x : List Float) (lower limit : Float) {
               omega (arith, e, h, G.high)
 
           module _ {s : Scan} (es : s ≡ scan_run n table x lower limit many row f k) where
-            opened : after s (scan_from n table x lower (Limit limit) (left - many) (canon lo hi (row + many)) s.fmax s.kmax) ≡ whole
+            opened : after s (scan_from n table x lower (Some limit) (left - many) (canon lo hi (row + many)) s.fmax s.kmax) ≡ whole
             opened =
                 let l : many + (left - many) ≡ left = omega arith in
                 rw es (sym (by_run n table x lower limit lo hi many (left - many) row f k fits) ∙ rw l at_row)
 
-            pub ends : is_broken s.viol ≡ true → s ≡ whole
+            pub ends : is_some s.viol ≡ true → s ≡ whole
             ends b = after_broken s _ b ∙ opened
 
-            module _ (b : is_broken s.viol ≡ false) where
+            module _ (b : is_some s.viol ≡ false) where
               last_is : s.last ≡ pred_ℤ (pos (row + many))
-              last_is = ap (λ (z : Scan). z.last) es ∙ run_last n table x lower limit many row f k (ap (λ (z : Scan). is_broken z.viol) (sym es) ∙ b)
+              last_is = ap (λ (z : Scan). z.last) es ∙ run_last n table x lower limit many row f k (ap (λ (z : Scan). is_some z.viol) (sym es) ∙ b)
 
               -- the cursor after the last of the rows
               on : with_cur d s.last ≡ canon lo hi (row + many)
@@ -135,11 +133,11 @@ module _ {n : ℕ} {table : List Float} (x : List Float) (lower limit : Float) {
                   subst (λ (z : RoundRobin). RowsLeft n table z (left - many)) (sym (q ∙ on))
                   (rows_left n table lo hi (row + many) (left - many) (omega (arith, low)) fits G.legal.small (omega (arith, G.room)) G.high)
 
-              pub goes_on : {e : RoundRobin} → e ≡ with_cur d s.last → scan_from n table x lower (Limit limit) (left - many) e s.fmax s.kmax ≡ whole
-              goes_on {e} q = ap (λ (z : RoundRobin). scan_from n table x lower (Limit limit) (left - many) z s.fmax s.kmax) (q ∙ on) ∙ after_whole s _ b ∙ opened
+              pub goes_on : {e : RoundRobin} → e ≡ with_cur d s.last → scan_from n table x lower (Some limit) (left - many) e s.fmax s.kmax ≡ whole
+              goes_on {e} q = ap (λ (z : RoundRobin). scan_from n table x lower (Some limit) (left - many) z s.fmax s.kmax) (q ∙ on) ∙ after_whole s _ b ∙ opened
 
               -- both, as the loop has them
-              pub turned : {e : RoundRobin} → e ≡ with_cur d s.last → RowsLeft n table e (left - many) × (scan_from n table x lower (Limit limit) (left - many) e s.fmax s.kmax ≡ whole)
+              pub turned : {e : RoundRobin} → e ≡ with_cur d s.last → RowsLeft n table e (left - many) × (scan_from n table x lower (Some limit) (left - many) e s.fmax s.kmax ≡ whole)
               turned q = (still q, goes_on q)
 
 -- ---- the start
@@ -151,9 +149,6 @@ module _ {n : ℕ} {table x : List Float} {c : RoundRobin} (R : Ready n table x 
   hi_is : R.legal.past ≡ hi
   hi_is = ap nat_abs (sym R.legal.hi_is ∙ eh)
 
-  pub ordered : lo ≤ hi
-  ordered = omega (arith, from_is, hi_is, R.legal.above, R.legal.below)
-
   counted : nat_abs (c.hi -ℤ c.lo) ≡ hi - lo
   counted = band_count c R.legal ∙ (λ i. hi_is i - from_is i)
 
@@ -161,12 +156,12 @@ module _ {n : ℕ} {table x : List Float} {c : RoundRobin} (R : Ready n table x 
   starts = record { legal = R.legal; room = omega (arith, from_is, hi_is); high = R.high }
 
   -- of a band with no rows
-  pub empty : (lower : Float) (upper : Upper) → hi - lo ≡ 0 → record { viol = Nothing; fmax = −∞; kmax = none; last = c.cur } ≡ scan_of n table x c lower upper
+  pub empty : (lower : Float) (upper : Option Float) → hi - lo ≡ 0 → record { viol = None; fmax = −∞; kmax = none; last = c.cur } ≡ scan_of n table x c lower upper
   unfolding scan_of scan_from
   empty lower upper h = rw (counted, h) refl
 
-  module _ (lower : Float) (upper : Upper) {limit : Float} (em : limit ≡ limit_of upper) where
-    pub start_is : scan_from n table x lower (Limit limit) (hi - lo) c −∞ none ≡ scan_of n table x c lower upper
+  module _ (lower : Float) (upper : Option Float) {limit : Float} (em : limit ≡ limit_of upper) where
+    pub start_is : scan_from n table x lower (Some limit) (hi - lo) c −∞ none ≡ scan_of n table x c lower upper
     unfolding scan_of
     start_is = rw (em, counted) (by_limit n table x lower upper (hi - lo) c −∞ none)
 
@@ -189,8 +184,8 @@ module _ {n : ℕ} {table x : List Float} {c : RoundRobin} (R : Ready n table x 
         one : s ≡ scan_run n table x lower limit 1 row −∞ none
         one = run_one n table x lower limit row −∞ none es
 
-        pub first_ends : is_broken s.viol ≡ true → s ≡ scan_of n table x c lower upper
+        pub first_ends : is_some s.viol ≡ true → s ≡ scan_of n table x c lower upper
         first_ends = ends x lower limit −∞ none starts start_is rows ed er past_there rows ahead one
 
-        pub first_goes_on : is_broken s.viol ≡ false → scan_from n table x lower (Limit limit) (hi - lo - 1) d s.fmax s.kmax ≡ scan_of n table x c lower upper
+        pub first_goes_on : is_some s.viol ≡ false → scan_from n table x lower (Some limit) (hi - lo - 1) d s.fmax s.kmax ≡ scan_of n table x c lower upper
         first_goes_on b = goes_on x lower limit −∞ none starts start_is rows ed er past_there rows ahead one b (one_row x lower limit −∞ none starts start_is rows ed er past_there rows ahead one b refl)

@@ -1,6 +1,6 @@
 -- Laws of an assessment: what its tests say, and the ways it can go. Assumes nothing.
 use Rattle.numbers.specs.Refusal.{Sound, Tests}
-use Rattle.std.specs.Prelude.{◌≡◌, refl, Bool, true, false, not, ◌&&◌, List, ℕ, ◌*◌, ◌≤◌, leb, eqb, length, get_or, set, replicate, ℤ, pos, negsuc, nat_abs, Float, is_err}
+use Rattle.std.specs.Prelude.{◌≡◌, refl, Bool, true, false, not, ◌&&◌, List, ℕ, ◌*◌, ◌≤◌, leb, eqb, length, get_or, set, replicate, ℤ, pos, negsuc, nat_abs, Float, is_err, Ok, Some, None, Option}
 use Rattle.std.proofs.Common.{sym, ap, true≢false, mul-le-mul_right, le_refl, arith, leb-true, le-leb, eqb-true}
 use Rattle.std.specs.Int.Signed.{le_z}
 use Rattle.std.specs.Float.{nan}
@@ -13,19 +13,16 @@ use Rattle.numbers.specs.laws.Pick.{and_parts, by_test}
 use Rattle.numbers.specs.laws.Arr.{dimension_least, dimension_most}
 use Rattle.oracles.specs.RoundRobin.{is_at, with_cur}
 use Rattle.oracles.specs.laws.RoundRobin.{eq_z_true, legal_of, Legal}
-use Rattle.oracles.specs.Scan.{−∞, none, scan_of, violated, band_beta, band_gradient}
+use Rattle.oracles.specs.Scan.{−∞, none, scan_of, violated, band_beta, band_gradient, broken_at}
 use Rattle.oracles.specs.Table.{is_rows, table_fits}
 use Rattle.oracles.specs.laws.ScanRows.{Ready, all_hold}
-use Rattle.oracles.specs.LowpassOracle.{−1ᶠ, has_band, bands_fit, cursors_fit, after_pass, after_stop, after_middle, assess_sign, assess_middle, assess_stop, assess_of, oracle_tests, assess_tests, assess_feas_answer}
+use Rattle.oracles.specs.LowpassOracle.{−1ᶠ, has_band, bands_fit, cursors_fit, after_pass, after_stop, after_middle, assess_sign, assess_middle, assess_stop, assess_of, oracle_tests, assess_tests, assess_feas_answer, cut}
 use Rattle.oracles.specs.Verdict.{is_accepted}
 use Rattle.oracles.specs.declared.round_robin.RoundRobin.{RoundRobin}
-use Rattle.oracles.specs.declared.scan.Upper.TheVariants.{Absent, Limit}
 use Rattle.oracles.specs.declared.scan.Violation.{Violation}
-use Rattle.oracles.specs.declared.scan.Violation.TheVariants.{Nothing, Broken}
 use Rattle.oracles.specs.declared.scan.Scan.{Scan}
 use Rattle.oracles.specs.declared.lowpass_oracle.LowpassOracle.{LowpassOracle}
 use Rattle.oracles.specs.declared.lowpass_oracle.Group.TheVariants.{Pass, Stop, Middle, Sign}
-use Rattle.oracles.specs.declared.lowpass_oracle.Verdict.TheVariants.{Feasible, Cut}
 use Rattle.oracles.specs.declared.lowpass_oracle.Assessed.{Assessed}
 
 -- ---- what the tests of refusals 3 and 4 say
@@ -161,21 +158,21 @@ assessable_of o n rows table x grad a =
 -- ---- the ways of an assessment
 
 -- what holds of both answers holds of the one that is taken
-by_violation : {X : Type 0} (P : X → Type 0) (w : Violation) (kept : X) (broken : ℕ → Float → Bool → X)
-    → (w ≡ Nothing → P kept) → ((row : ℕ) (v : Float) (over : Bool) → w ≡ Broken row v over → P (broken row v over)) → P (violated w kept broken)
-by_violation P Nothing kept broken f g = f refl
-by_violation P (Broken row v over) kept broken f g = g row v over refl
+by_violation : {X : Type 0} (P : X → Type 0) (w : Option Violation) (kept : X) (broken : ℕ → Float → Bool → X)
+    → (w ≡ None → P kept) → ((row : ℕ) (v : Float) (over : Bool) → w ≡ broken_at row v over → P (broken row v over)) → P (violated w kept broken)
+by_violation P None kept broken f g = f refl
+by_violation P (Some v) kept broken f g = g v.row v.value v.is_over refl
 
 module _ (o : LowpassOracle) (n : ℕ) (table x : List Float) where
   -- the three scans
   abbrev pub pass_scan : Scan
-  pass_scan = scan_of n table x o.rr1 o.lp_sq (Limit o.up_sq)
+  pass_scan = scan_of n table x o.rr1 o.lp_sq (Some o.up_sq)
 
   abbrev pub stop_scan : Scan
-  stop_scan = scan_of n table x o.rr3 0ᶠ (Limit o.sp_sq)
+  stop_scan = scan_of n table x o.rr3 0ᶠ (Some o.sp_sq)
 
   abbrev pub middle_scan : Scan
-  middle_scan = scan_of n table x o.rr2 0ᶠ Absent
+  middle_scan = scan_of n table x o.rr2 0ᶠ None
 
   -- the oracle after each scan
   abbrev pub pass_left : LowpassOracle
@@ -189,16 +186,16 @@ module _ (o : LowpassOracle) (n : ℕ) (table x : List Float) where
 
   -- what holds of each holds of the assessment
   pub assess_cases : (grad : List Float) (P : Assessed × List Float → Type 0)
-      → ((row : ℕ) (v : Float) (over : Bool) → pass_scan.viol ≡ Broken row v over
-      → P (record { oracle = pass_left; verdict = Cut (Pass row over) (band_beta v over o.lp_sq (Limit o.up_sq)) }, band_gradient n table row over))
-      → (pass_scan.viol ≡ Nothing → (row : ℕ) (v : Float) (over : Bool) → stop_scan.viol ≡ Broken row v over
-      → P (record { oracle = stop_left −∞ none; verdict = Cut (Stop row over) (band_beta v over 0ᶠ (Limit o.sp_sq)) }, band_gradient n table row over))
-      → (pass_scan.viol ≡ Nothing → stop_scan.viol ≡ Nothing → (row : ℕ) (v : Float) (over : Bool) → middle_scan.viol ≡ Broken row v over
-      → P (record { oracle = middle_left true; verdict = Cut (Middle row) (band_beta v over 0ᶠ Absent) }, band_gradient n table row over))
-      → (pass_scan.viol ≡ Nothing → stop_scan.viol ≡ Nothing → middle_scan.viol ≡ Nothing → lt (get_or x 0 nan) 0ᶠ ≡ true
-      → P (record { oracle = middle_left false; verdict = Cut Sign (Single (neg (get_or x 0 nan))) }, set (replicate (length grad) 0ᶠ) 0 −1ᶠ))
-      → (pass_scan.viol ≡ Nothing → stop_scan.viol ≡ Nothing → middle_scan.viol ≡ Nothing → lt (get_or x 0 nan) 0ᶠ ≡ false
-      → P (record { oracle = middle_left false; verdict = Feasible }, grad))
+      → ((row : ℕ) (v : Float) (over : Bool) → pass_scan.viol ≡ broken_at row v over
+      → P (record { oracle = pass_left; verdict = cut (Pass row over) (band_beta v over o.lp_sq (Some o.up_sq)) }, band_gradient n table row over))
+      → (pass_scan.viol ≡ None → (row : ℕ) (v : Float) (over : Bool) → stop_scan.viol ≡ broken_at row v over
+      → P (record { oracle = stop_left −∞ none; verdict = cut (Stop row over) (band_beta v over 0ᶠ (Some o.sp_sq)) }, band_gradient n table row over))
+      → (pass_scan.viol ≡ None → stop_scan.viol ≡ None → (row : ℕ) (v : Float) (over : Bool) → middle_scan.viol ≡ broken_at row v over
+      → P (record { oracle = middle_left true; verdict = cut (Middle row) (band_beta v over 0ᶠ None) }, band_gradient n table row over))
+      → (pass_scan.viol ≡ None → stop_scan.viol ≡ None → middle_scan.viol ≡ None → lt (get_or x 0 nan) 0ᶠ ≡ true
+      → P (record { oracle = middle_left false; verdict = cut Sign (Single (neg (get_or x 0 nan))) }, set (replicate (length grad) 0ᶠ) 0 −1ᶠ))
+      → (pass_scan.viol ≡ None → stop_scan.viol ≡ None → middle_scan.viol ≡ None → lt (get_or x 0 nan) 0ᶠ ≡ false
+      → P (record { oracle = middle_left false; verdict = Ok None }, grad))
       → P (assess_of o n table x grad)
   unfolding assess_of assess_stop assess_middle assess_sign
   assess_cases grad P f₁ f₂ f₃ f₄ f₅ =

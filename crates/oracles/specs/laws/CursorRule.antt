@@ -1,5 +1,5 @@
 -- Demand 3: the verdict on a point and its largest stop value follow from the point alone; a cut's row is one of the broken group's and breaks it, wherever the cursors stand. Assumes nothing.
-use Rattle.std.specs.Prelude.{◌≡◌, Bool, true, false, not, ◌&&◌, List, ℕ, ◌≤◌, ◌<◌, ◌+◌, ◌-◌, eqb, get_or, length, ℤ, pos, nat_abs, Float, is_err}
+use Rattle.std.specs.Prelude.{◌≡◌, Bool, true, false, not, ◌&&◌, List, ℕ, ◌≤◌, ◌<◌, ◌+◌, ◌-◌, eqb, get_or, length, ℤ, pos, nat_abs, Float, is_err, Ok, Err, Some, None, Result, Option}
 use Rattle.std.proofs.Math.Path.{refl}
 use Rattle.std.proofs.Common.{sym, ap, subst, ◌∙◌, true≢false, inl, inr, arith, le-leb, lt-ltb, le-ltb}
 use Rattle.std.proofs.Math.Nat.{sub-zero}
@@ -15,49 +15,44 @@ use Rattle.numbers.specs.laws.Pick.{none_some, some_holds}
 use Rattle.numbers.specs.laws.Refusal.{of_test, of_chain, by_tests}
 use Rattle.oracles.specs.laws.RoundRobin.{eq_z_yes}
 use Rattle.oracles.specs.laws.FloatOrder.{only_nan}
-use Rattle.oracles.specs.Scan.{−∞, none, scan_of, band_beta}
+use Rattle.oracles.specs.Scan.{−∞, none, scan_of, band_beta, broken_at}
 use Rattle.oracles.specs.Table.{value_of, table_fits}
 use Rattle.oracles.specs.laws.Scan.{row_breaks, Found, Passed, found_in, top_in, passed_in, nothing_none, broken_some}
-use Rattle.oracles.specs.LowpassOracle.{offered, assess_of, improved_of, optim_of, oracle_tests, assess_tests, assess_feas_answer, assess_optim_answer}
+use Rattle.oracles.specs.LowpassOracle.{offered, assess_of, improved_of, optim_of, oracle_tests, assess_tests, assess_feas_answer, assess_optim_answer, Verdict, cut}
 use Rattle.oracles.specs.laws.Assess.{Spans, Fit, fit_of, pass_scan, stop_scan, middle_scan, pass_left, stop_left, middle_left, assess_cases, accepted_of, accepted_is}
-use Rattle.oracles.specs.Verdict.{refused, Question, stop_start, value_in, sign_breaks, pass_broken, stop_broken, middle_broken, judge, no_stop_value, asked, is_accepted, judgement, side_breaks, cut_breaks, cut_stands, Has, Peak, FeasRule, as_feas, is_six, is_feasible, OptimRule}
+use Rattle.oracles.specs.Verdict.{refused, Question, stop_start, value_in, sign_breaks, pass_broken, stop_broken, middle_broken, judge, no_stop_value, asked, is_accepted, judgement, side_breaks, cut_breaks, cut_stands, Has, Peak, FeasRule, as_feas, is_six, is_feasible, OptimRule, group_judgement}
 use Rattle.oracles.specs.laws.Judge.{judge_pass, judge_stop, judge_middle, judge_sign, judge_none, judge_answers}
 use Rattle.oracles.specs.declared.round_robin.RoundRobin.{RoundRobin}
-use Rattle.oracles.specs.declared.scan.Upper.{Upper}
-use Rattle.oracles.specs.declared.scan.Upper.TheVariants.{Absent, Limit}
-use Rattle.oracles.specs.declared.scan.Violation.TheVariants.{Nothing, Broken}
 use Rattle.oracles.specs.declared.lowpass_oracle.LowpassOracle.{LowpassOracle}
 use Rattle.oracles.specs.declared.lowpass_oracle.Group.{Group}
 use Rattle.oracles.specs.declared.lowpass_oracle.Group.TheVariants.{Pass, Stop, Middle, Sign}
-use Rattle.oracles.specs.declared.lowpass_oracle.Verdict.{Verdict}
-use Rattle.oracles.specs.declared.lowpass_oracle.Verdict.TheVariants.{Feasible, Cut, Refused}
 use Rattle.oracles.specs.declared.lowpass_oracle.OptimVerdict.{OptimVerdict}
-use Rattle.oracles.specs.declared.lowpass_oracle.OptimVerdict.TheVariants.{Improved, Cut as CutOptim, Refused as RefusedOptim}
+use Rattle.oracles.specs.declared.lowpass_oracle.OptimVerdict.TheVariants.{Improved, Cut as CutOptim}
 use Rattle.oracles.specs.declared.lowpass_oracle.Assessed.{Assessed}
 
 -- ---- the rule of an assessment
 
 -- the laws of a scan, over a band that is named
-module _ (n : ℕ) (table x : List Float) (c : RoundRobin) (lower : Float) (upper : Upper) (from past : ℕ) (S : Spans c from past) where
-  band_clear : (scan_of n table x c lower upper).viol ≡ Nothing → some (row_breaks n table x lower upper) from (past - from) ≡ false
+module _ (n : ℕ) (table x : List Float) (c : RoundRobin) (lower : Float) (upper : Option Float) (from past : ℕ) (S : Spans c from past) where
+  band_clear : (scan_of n table x c lower upper).viol ≡ None → some (row_breaks n table x lower upper) from (past - from) ≡ false
   band_clear e = rw (S.from_is, S.past_is) at (nothing_none n table x c lower upper S.legal e)
 
-  band_broken : (row : ℕ) (v : Float) (over : Bool) → (scan_of n table x c lower upper).viol ≡ Broken row v over → some (row_breaks n table x lower upper) from (past - from) ≡ true
+  band_broken : (row : ℕ) (v : Float) (over : Bool) → (scan_of n table x c lower upper).viol ≡ broken_at row v over → some (row_breaks n table x lower upper) from (past - from) ≡ true
   band_broken row v over e = rw (S.from_is, S.past_is) at (broken_some n table x c lower upper S.legal row v over e)
 
-  pub band_found : (row : ℕ) (v : Float) (over : Bool) → (scan_of n table x c lower upper).viol ≡ Broken row v over
+  pub band_found : (row : ℕ) (v : Float) (over : Bool) → (scan_of n table x c lower upper).viol ≡ broken_at row v over
       → Found n table x from past lower upper row v over (scan_of n table x c lower upper).last
   band_found row v over e = rw (S.from_is, S.past_is) at (found_in n table x c lower upper S.legal row v over e)
 
 -- the side that a violation breaks
 found_side : (n : ℕ) (table x : List Float) (from past : ℕ) (lower upper : Float) (row : ℕ) (v : Float) (over : Bool) (last : ℤ)
-    → Found n table x from past lower (Limit upper) row v over last → side_breaks over upper lower (value_of n table x row) ≡ true
+    → Found n table x from past lower (Some upper) row v over last → side_breaks over upper lower (value_of n table x row) ≡ true
 unfolding pick
 found_side n table x from past lower upper row v true last f = rw (← f.value_is) (f.above refl)
 found_side n table x from past lower upper row v false last f = rw (← f.value_is) (f.below refl).1
 
 found_under : (n : ℕ) (table x : List Float) (from past : ℕ) (lower : Float) (row : ℕ) (v : Float) (over : Bool) (last : ℤ)
-    → Found n table x from past lower Absent row v over last → lt (value_of n table x row) lower ≡ true
+    → Found n table x from past lower None row v over last → lt (value_of n table x row) lower ≡ true
 found_under n table x from past lower row v true last f = absurd (true≢false (sym (f.above refl)))
 found_under n table x from past lower row v false last f = rw (← f.value_is) (f.below refl).1
 
@@ -67,10 +62,10 @@ cut_rule : (q : Question) (r : Assessed) → is_feasible (judgement r.verdict) �
 cut_rule q r h j c a = record { verdict_is = sym j; cut_is = c; cut_at = a; peak = λ e. absurd (true≢false (sym (ap is_feasible e) ∙ ap is_feasible j ∙ h)) }
 
 -- the largest value of a stop scan that finds nothing
-peak_of : (q : Question) (c : RoundRobin) → Spans c (stop_start q) q.rows → (scan_of q.n q.table q.x c 0ᶠ (Limit q.limits.sp_sq)).viol ≡ Nothing
-    → Peak q (scan_of q.n q.table q.x c 0ᶠ (Limit q.limits.sp_sq)).fmax (scan_of q.n q.table q.x c 0ᶠ (Limit q.limits.sp_sq)).kmax
+peak_of : (q : Question) (c : RoundRobin) → Spans c (stop_start q) q.rows → (scan_of q.n q.table q.x c 0ᶠ (Some q.limits.sp_sq)).viol ≡ None
+    → Peak q (scan_of q.n q.table q.x c 0ᶠ (Some q.limits.sp_sq)).fmax (scan_of q.n q.table q.x c 0ᶠ (Some q.limits.sp_sq)).kmax
 unfolding no_stop_value
-peak_of q c S e = elim (top_in q.n q.table q.x c 0ᶠ (Limit q.limits.sp_sq) S.legal) [
+peak_of q c S e = elim (top_in q.n q.table q.x c 0ᶠ (Some q.limits.sp_sq) S.legal) [
   | inl t ↦ inr (record { nothing = rw (none_some (λ i. not (is_nan (value_in q i))) (stop_start q) (q.rows - stop_start q) (all_nan t.0)); fmax_is = t.0; kmax_is = t.1 })
   | inr b ↦ inl (record {
     row = b.row;
@@ -83,10 +78,10 @@ peak_of q c S e = elim (top_in q.n q.table q.x c 0ᶠ (Limit q.limits.sp_sq) S.l
   })
 ]
   where
-    row_passed : (i : ℕ) → stop_start q ≤ i → i < q.rows → Passed q.n q.table q.x 0ᶠ (Limit q.limits.sp_sq) (scan_of q.n q.table q.x c 0ᶠ (Limit q.limits.sp_sq)).fmax i
-    row_passed i l h = passed_in q.n q.table q.x c 0ᶠ (Limit q.limits.sp_sq) S.legal e i (rw S.from_is l) (rw S.past_is h)
+    row_passed : (i : ℕ) → stop_start q ≤ i → i < q.rows → Passed q.n q.table q.x 0ᶠ (Some q.limits.sp_sq) (scan_of q.n q.table q.x c 0ᶠ (Some q.limits.sp_sq)).fmax i
+    row_passed i l h = passed_in q.n q.table q.x c 0ᶠ (Some q.limits.sp_sq) S.legal e i (rw S.from_is l) (rw S.past_is h)
 
-    all_nan : (scan_of q.n q.table q.x c 0ᶠ (Limit q.limits.sp_sq)).fmax ≡ −∞ → (i : ℕ) → stop_start q ≤ i → i < stop_start q + (q.rows - stop_start q) → not (is_nan (value_in q i)) ≡ false
+    all_nan : (scan_of q.n q.table q.x c 0ᶠ (Some q.limits.sp_sq)).fmax ≡ −∞ → (i : ℕ) → stop_start q ≤ i → i < stop_start q + (q.rows - stop_start q) → not (is_nan (value_in q i)) ≡ false
     all_nan f i l h =
         let p = row_passed i l (omega arith) in
         rw (only_nan (value_in q i) (rw f at p.not_above) p.not_under)
@@ -97,49 +92,49 @@ module _ (o : LowpassOracle) (n rows : ℕ) (table x : List Float) (F : Fit o ro
   point = asked o o.sp_sq n rows table x
 
   -- a scan that finds nothing: no row of its group breaks it
-  pass_clear : (pass_scan o n table x).viol ≡ Nothing → pass_broken point ≡ false
-  pass_clear e = rw (sub-zero (nat_abs o.nwpass)) at (band_clear n table x o.rr1 o.lp_sq (Limit o.up_sq) 0 (nat_abs o.nwpass) F.pass_rows e)
+  pass_clear : (pass_scan o n table x).viol ≡ None → pass_broken point ≡ false
+  pass_clear e = rw (sub-zero (nat_abs o.nwpass)) at (band_clear n table x o.rr1 o.lp_sq (Some o.up_sq) 0 (nat_abs o.nwpass) F.pass_rows e)
 
-  stop_clear : (stop_scan o n table x).viol ≡ Nothing → stop_broken point ≡ false
-  stop_clear e = band_clear n table x o.rr3 0ᶠ (Limit o.sp_sq) (nat_abs o.nwstop) rows F.stop_rows e
+  stop_clear : (stop_scan o n table x).viol ≡ None → stop_broken point ≡ false
+  stop_clear e = band_clear n table x o.rr3 0ᶠ (Some o.sp_sq) (nat_abs o.nwstop) rows F.stop_rows e
 
-  middle_clear : (middle_scan o n table x).viol ≡ Nothing → middle_broken point ≡ false
-  middle_clear e = band_clear n table x o.rr2 0ᶠ Absent (nat_abs o.nwpass) (nat_abs o.nwstop) F.middle_rows e
+  middle_clear : (middle_scan o n table x).viol ≡ None → middle_broken point ≡ false
+  middle_clear e = band_clear n table x o.rr2 0ᶠ None (nat_abs o.nwpass) (nat_abs o.nwstop) F.middle_rows e
 
   -- the rule, way by way
   assess_rule : (grad : List Float) → FeasRule point (assess_of o n table x grad).0
   unfolding pick
   assess_rule grad = assess_cases o n table x grad (λ r. FeasRule point r.0) on_pass on_stop on_middle on_sign on_feasible
     where
-      on_pass : (row : ℕ) (v : Float) (over : Bool) → (pass_scan o n table x).viol ≡ Broken row v over
-          → FeasRule point (record { oracle = pass_left o n table x; verdict = Cut (Pass row over) (band_beta v over o.lp_sq (Limit o.up_sq)) })
+      on_pass : (row : ℕ) (v : Float) (over : Bool) → (pass_scan o n table x).viol ≡ broken_at row v over
+          → FeasRule point (record { oracle = pass_left o n table x; verdict = cut (Pass row over) (band_beta v over o.lp_sq (Some o.up_sq)) })
       on_pass row v over e =
-          let f = band_found n table x o.rr1 o.lp_sq (Limit o.up_sq) 0 (nat_abs o.nwpass) F.pass_rows row v over e in
-          let b = band_broken n table x o.rr1 o.lp_sq (Limit o.up_sq) 0 (nat_abs o.nwpass) F.pass_rows row v over e in
+          let f = band_found n table x o.rr1 o.lp_sq (Some o.up_sq) 0 (nat_abs o.nwpass) F.pass_rows row v over e in
+          let b = band_broken n table x o.rr1 o.lp_sq (Some o.up_sq) 0 (nat_abs o.nwpass) F.pass_rows row v over e in
           cut_rule point _ refl (judge_pass point (rw (sub-zero (nat_abs o.nwpass)) at b))
           (rw (lt-ltb row (nat_abs o.nwpass) f.high) (found_side n table x _ _ _ _ row v over _ f)) (eq_z_yes _ (pos row) f.last_is)
 
-      on_stop : (pass_scan o n table x).viol ≡ Nothing → (row : ℕ) (v : Float) (over : Bool) → (stop_scan o n table x).viol ≡ Broken row v over
-          → FeasRule point (record { oracle = stop_left o n table x −∞ none; verdict = Cut (Stop row over) (band_beta v over 0ᶠ (Limit o.sp_sq)) })
+      on_stop : (pass_scan o n table x).viol ≡ None → (row : ℕ) (v : Float) (over : Bool) → (stop_scan o n table x).viol ≡ broken_at row v over
+          → FeasRule point (record { oracle = stop_left o n table x −∞ none; verdict = cut (Stop row over) (band_beta v over 0ᶠ (Some o.sp_sq)) })
       on_stop e₁ row v over e =
-          let f = band_found n table x o.rr3 0ᶠ (Limit o.sp_sq) (nat_abs o.nwstop) rows F.stop_rows row v over e in
-          cut_rule point _ refl (judge_stop point (pass_clear e₁) (band_broken n table x o.rr3 0ᶠ (Limit o.sp_sq) (nat_abs o.nwstop) rows F.stop_rows row v over e))
+          let f = band_found n table x o.rr3 0ᶠ (Some o.sp_sq) (nat_abs o.nwstop) rows F.stop_rows row v over e in
+          cut_rule point _ refl (judge_stop point (pass_clear e₁) (band_broken n table x o.rr3 0ᶠ (Some o.sp_sq) (nat_abs o.nwstop) rows F.stop_rows row v over e))
           (rw (le-leb (nat_abs o.nwstop) row f.low, lt-ltb row rows f.high) (found_side n table x _ _ _ _ row v over _ f)) (eq_z_yes _ (pos row) f.last_is)
 
-      on_middle : (pass_scan o n table x).viol ≡ Nothing → (stop_scan o n table x).viol ≡ Nothing → (row : ℕ) (v : Float) (over : Bool) → (middle_scan o n table x).viol ≡ Broken row v over
-          → FeasRule point (record { oracle = middle_left o n table x true; verdict = Cut (Middle row) (band_beta v over 0ᶠ Absent) })
+      on_middle : (pass_scan o n table x).viol ≡ None → (stop_scan o n table x).viol ≡ None → (row : ℕ) (v : Float) (over : Bool) → (middle_scan o n table x).viol ≡ broken_at row v over
+          → FeasRule point (record { oracle = middle_left o n table x true; verdict = cut (Middle row) (band_beta v over 0ᶠ None) })
       on_middle e₁ e₂ row v over e =
-          let f = band_found n table x o.rr2 0ᶠ Absent (nat_abs o.nwpass) (nat_abs o.nwstop) F.middle_rows row v over e in
+          let f = band_found n table x o.rr2 0ᶠ None (nat_abs o.nwpass) (nat_abs o.nwstop) F.middle_rows row v over e in
           cut_rule point _ refl
-          (judge_middle point (pass_clear e₁) (stop_clear e₂) (band_broken n table x o.rr2 0ᶠ Absent (nat_abs o.nwpass) (nat_abs o.nwstop) F.middle_rows row v over e))
+          (judge_middle point (pass_clear e₁) (stop_clear e₂) (band_broken n table x o.rr2 0ᶠ None (nat_abs o.nwpass) (nat_abs o.nwstop) F.middle_rows row v over e))
           (rw (le-leb (nat_abs o.nwpass) row f.low, lt-ltb row (nat_abs o.nwstop) f.high) (found_under n table x _ _ _ row v over _ f)) (eq_z_yes _ (pos row) f.last_is)
 
-      on_sign : (pass_scan o n table x).viol ≡ Nothing → (stop_scan o n table x).viol ≡ Nothing → (middle_scan o n table x).viol ≡ Nothing → sign_breaks point ≡ true
-          → FeasRule point (record { oracle = middle_left o n table x false; verdict = Cut Sign (Single (neg (get_or x 0 nan))) })
+      on_sign : (pass_scan o n table x).viol ≡ None → (stop_scan o n table x).viol ≡ None → (middle_scan o n table x).viol ≡ None → sign_breaks point ≡ true
+          → FeasRule point (record { oracle = middle_left o n table x false; verdict = cut Sign (Single (neg (get_or x 0 nan))) })
       on_sign e₁ e₂ e₃ e = cut_rule point _ refl (judge_sign point (pass_clear e₁) (stop_clear e₂) (middle_clear e₃) e) e refl
 
-      on_feasible : (pass_scan o n table x).viol ≡ Nothing → (stop_scan o n table x).viol ≡ Nothing → (middle_scan o n table x).viol ≡ Nothing → sign_breaks point ≡ false
-          → FeasRule point (record { oracle = middle_left o n table x false; verdict = Feasible })
+      on_feasible : (pass_scan o n table x).viol ≡ None → (stop_scan o n table x).viol ≡ None → (middle_scan o n table x).viol ≡ None → sign_breaks point ≡ false
+          → FeasRule point (record { oracle = middle_left o n table x false; verdict = Ok None })
       on_feasible e₁ e₂ e₃ e =
           record {
             verdict_is = sym (judge_none point (pass_clear e₁) (stop_clear e₂) (middle_clear e₃) e);
@@ -167,7 +162,7 @@ has_value q fmax kmax h =
 optim_of_rule : (q : Question) (o : LowpassOracle) (gamma : Float) (n : ℕ) (table : List Float) (o' : LowpassOracle) (v : Verdict) (grad : List Float)
     → FeasRule q (record { oracle = o'; verdict = v }) → OptimRule q (optim_of o gamma n table o' v grad).0
 unfolding improved_of pick
-optim_of_rule q o gamma n table o' Feasible grad r = elim (r.peak (sym r.verdict_is)) [
+optim_of_rule q o gamma n table o' (Ok None) grad r = elim (r.peak (sym r.verdict_is)) [
   | inl h ↦
       let t : lt_z o'.kmax (pos 0) ≡ false = rw h.row_is (le-ltb h.row 0 (omega arith)) in
       rw t (record { verdict_is = r.verdict_is; cut_is = refl; cut_at = refl; six_is = rw (← r.verdict_is) (sym (has_value q o'.fmax o'.kmax h)); peak = λ e j. h; offer = λ e j. refl })
@@ -175,22 +170,22 @@ optim_of_rule q o gamma n table o' Feasible grad r = elim (r.peak (sym r.verdict
       let t : lt_z o'.kmax (pos 0) ≡ true = rw h.kmax_is in
       rw t (record { verdict_is = r.verdict_is; cut_is = refl; cut_at = refl; six_is = rw (← r.verdict_is) (sym h.nothing); peak = λ e j. absurd (true≢false e); offer = λ e j. absurd (true≢false e) })
 ]
-optim_of_rule q o gamma n table o' (Cut group beta) grad r =
+optim_of_rule q o gamma n table o' (Ok (Some c)) grad r =
     record {
       verdict_is = r.verdict_is;
       cut_is = r.cut_is;
       cut_at = r.cut_at;
-      six_is = rw (← r.verdict_is) (sym (ap (λ t. t && no_stop_value q) (cut_judgement group)));
-      peak = λ e j. absurd (true≢false (sym (ap is_feasible (r.verdict_is ∙ j)) ∙ cut_judgement group));
-      offer = λ e j. absurd (true≢false (sym (ap is_feasible (r.verdict_is ∙ j)) ∙ cut_judgement group));
+      six_is = rw (← r.verdict_is) (sym (ap (λ t. t && no_stop_value q) (cut_judgement c.group)));
+      peak = λ e j. absurd (true≢false (sym (ap is_feasible (r.verdict_is ∙ j)) ∙ cut_judgement c.group));
+      offer = λ e j. absurd (true≢false (sym (ap is_feasible (r.verdict_is ∙ j)) ∙ cut_judgement c.group));
     }
   where
-    cut_judgement : (g : Group) → is_feasible (judgement (Cut g beta)) ≡ false
+    cut_judgement : (g : Group) → is_feasible (group_judgement g) ≡ false
     cut_judgement (Pass row over) = refl
     cut_judgement (Stop row over) = refl
     cut_judgement (Middle row) = refl
     cut_judgement Sign = refl
-optim_of_rule q o gamma n table o' (Refused why) grad r = absurd (judge_answers q (sym r.verdict_is))
+optim_of_rule q o gamma n table o' (Err why) grad r = absurd (judge_answers q (sym r.verdict_is))
 
 -- an accepted `assess_optim` gives what OptimRule says, for the number offered
 pub optim_rule : (o : LowpassOracle) (gamma : Float) (n rows : ℕ) (table x grad : List Float) → is_accepted o n rows table x grad ≡ true
@@ -236,14 +231,14 @@ pub six_exactly : (o : LowpassOracle) (gamma : Float) (n rows : ℕ) (table x gr
 unfolding pick
 six_exactly o gamma n rows table x grad = go (is_accepted o n rows table x grad) refl
   where
-    tested_six : (t : Bool) (why : Refusal) → judgement (pick t Feasible (Refused why)) ≡ refused → t ≡ false
+    tested_six : (t : Bool) (why : Refusal) → judgement (pick t (Ok None) (Err why)) ≡ refused → t ≡ false
     tested_six true why e = absurd (let z : ◌≡◌ {A = ℕ} 0 1 = cc in omega arith)
     tested_six false why e = refl
 
-    no_six : (v : OptimVerdict) → judgement (as_feas v) ≡ refused → is_six v ≡ false
-    no_six (Improved beta) e = refl
-    no_six (CutOptim group beta) e = refl
-    no_six (RefusedOptim why) e = tested_six (eqb (refusal_number why) 6) why e
+    no_six : (v : Result OptimVerdict Refusal) → judgement (as_feas v) ≡ refused → is_six v ≡ false
+    no_six (Ok (Improved beta)) e = refl
+    no_six (Ok (CutOptim c)) e = refl
+    no_six (Err why) e = tested_six (eqb (refusal_number why) 6) why e
 
     go : (t : Bool) → is_accepted o n rows table x grad ≡ t
         → is_six (assess_optim_answer o gamma n rows table x grad).0.verdict

@@ -1,5 +1,5 @@
 -- Laws of the calls of Ell, for a caller that goes on from what they answer. Assumes nothing.
-use Rattle.std.specs.Prelude.{◌≡◌, true, List, ℕ, ◌≤◌, ◌<◌, ◌*◌, eqb, length, Float}
+use Rattle.std.specs.Prelude.{◌≡◌, true, List, ℕ, ◌≤◌, ◌<◌, ◌*◌, eqb, length, Float, Ok, Err}
 use Rattle.std.proofs.Math.Path.{refl, subst}
 use Rattle.std.proofs.Common.{sym, ◌∙◌, arith, eqb-true, eq-eqb}
 use Rattle.numbers.specs.F64.{◌⊖◌, ◌⊗◌, ◌⊘◌}
@@ -18,9 +18,7 @@ use Rattle.oracles.specs.laws.EllCommon.{length_centre, centre_at, new_made, new
 use Rattle.oracles.specs.Ell.{EllBuffers, fresh_ell, new_ell_answer, ell_after, ell_work, ell_update_of, ell_fits, ell_tests, ell_update_answer}
 use Rattle.oracles.specs.laws.Ell.{length_rank_one, rank_one_at, rank_one_symmetric}
 use Rattle.oracles.specs.declared.ell_common.CutStrategy.{CutStrategy}
-use Rattle.oracles.specs.declared.ell_common.Update.TheVariants.{Status}
 use Rattle.oracles.specs.declared.ell.Ell.{Ell}
-use Rattle.oracles.specs.declared.ell.NewEll.TheVariants.{Made, Refused as NotMade}
 use Rattle.oracles.specs.declared.ell.EllUpdate.{EllUpdate}
 
 -- ---- a new one
@@ -31,17 +29,17 @@ pub record NewEllIs (n : ℕ) (kappa : Float) (e : Ell) : Type 0 where
   pub is : e ≡ fresh_ell n kappa
   pub parallel : e.helper.use_parallel_cut ≡ true
 
-pub ell_new : (n : ℕ) (kappa : Float) (e : Ell) → new_ell_answer n kappa ≡ Made e → NewEllIs n kappa e
+pub ell_new : (n : ℕ) (kappa : Float) (e : Ell) → new_ell_answer n kappa ≡ Ok e → NewEllIs n kappa e
 unfolding new_ell_answer made
 ell_new n kappa e h =
-    let p = new_is NotMade (Made (fresh_ell n kappa)) n (Made e) (λ why k. let z : ◌≡◌ {A = ℕ} 0 1 = cc in omega arith) h in
+    let p = new_is Err (Ok (fresh_ell n kappa)) n (Ok e) (λ why k. let z : ◌≡◌ {A = ℕ} 0 1 = cc in omega arith) h in
     let q : e ≡ fresh_ell n kappa = cc in
     record { dimension = p.0; is = q; parallel = rw q }
 
 -- every n in its range has one
-pub ell_makes : (n : ℕ) (kappa : Float) → is_dimension n ≡ true → new_ell_answer n kappa ≡ Made (fresh_ell n kappa)
+pub ell_makes : (n : ℕ) (kappa : Float) → is_dimension n ≡ true → new_ell_answer n kappa ≡ Ok (fresh_ell n kappa)
 unfolding new_ell_answer
-ell_makes n kappa = new_made NotMade (Made (fresh_ell n kappa)) n
+ell_makes n kappa = new_made Err (Ok (fresh_ell n kappa)) n
 
 -- ---- the lengths that n says
 
@@ -76,7 +74,7 @@ ell_omega e grad b = dot_of grad (ell_gt e grad b)
 -- no refusal: the definition's status, and tsq as it was where omega is tiny
 pub record EllAnswered (e : Ell) (s : CutStrategy) (grad : List Float) (beta : CutChoice) (b : EllBuffers) (r : EllUpdate × EllBuffers) : Type 0 where
   pub is : r ≡ ell_update_of e s grad beta b
-  pub answer_is : r.0.answer ≡ Status (status_of (ell_work e s grad beta b))
+  pub answer_is : r.0.answer ≡ Ok (status_of (ell_work e s grad beta b))
   pub tsq_is : r.0.ell.tsq ≡ pick (is_tiny (ell_omega e grad b)) e.tsq (e.kappa ⊗ ell_omega e grad b)
   pub grad_t_is : r.1.grad_t ≡ ell_gt e grad b
 
@@ -126,17 +124,17 @@ module _ (e : Ell) (s : CutStrategy) (grad : List Float) (beta : CutChoice) (b :
       (record { is = refl; answer_is = (update_says w).0; tsq_is = (update_says w).1; grad_t_is = update_leaves w (λ c. c.grad_t ≡ ell_gt e grad b) refl refl }))
 
   -- any answer but Success, a refusal too, keeps matrix, centre and kappa
-  pub ell_failed : ((ell_update_answer e s grad beta b).0.answer ≡ Status Success → ⊥) → EllKept e b (ell_update_answer e s grad beta b)
+  pub ell_failed : ((ell_update_answer e s grad beta b).0.answer ≡ Ok Success → ⊥) → EllKept e b (ell_update_answer e s grad beta b)
   ell_failed =
-      by_call (λ r. (r.0.answer ≡ Status Success → ⊥) → EllKept e b r)
+      by_call (λ r. (r.0.answer ≡ Ok Success → ⊥) → EllKept e b r)
       (λ h. let k = call_failed (ell_work e s grad beta b) (ell_tests e.ndim grad b) (λ c. (c.mq ≡ b.mq) × (c.xc ≡ b.xc)) (refl, refl) (refl, refl) h in
       record { kappa_is = k.0; mq_is = k.1.0; xc_is = k.1.1 })
 
   -- Success gives the entries in closed form, and a symmetric matrix
-  pub ell_succeeded : (ell_update_answer e s grad beta b).0.answer ≡ Status Success
+  pub ell_succeeded : (ell_update_answer e s grad beta b).0.answer ≡ Ok Success
       → EllSucceeded e grad b (answer_of (ell_work e s grad beta b)) (ell_update_answer e s grad beta b).0.ell.kappa (ell_update_answer e s grad beta b).1
   ell_succeeded =
-      by_call (λ r. r.0.answer ≡ Status Success → EllSucceeded e grad b (answer_of (ell_work e s grad beta b)) r.0.ell.kappa r.1)
+      by_call (λ r. r.0.answer ≡ Ok Success → EllSucceeded e grad b (answer_of (ell_work e s grad beta b)) r.0.ell.kappa r.1)
       (λ h. subst (λ (p : Float × EllBuffers). EllSucceeded e grad b (answer_of (ell_work e s grad beta b)) p.0 p.1)
       (sym (call_succeeded (ell_work e s grad beta b) (ell_tests e.ndim grad b) h))
       (record { kappa_is = refl; mq_at = rank_one_at e.ndim _ _ b.mq; symmetric = rank_one_symmetric e.ndim _ _ b.mq; xc_at = centre_at b.xc _ _ }))

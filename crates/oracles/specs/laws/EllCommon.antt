@@ -1,6 +1,6 @@
 -- Laws that the calls of both ellipsoids share. Assumes nothing.
 use Rattle.numbers.specs.Refusal.{Sound, Tests}
-use Rattle.std.specs.Prelude.{◌≡◌, refl, true, false, not, List, ℕ, ◌<◌, length, Float}
+use Rattle.std.specs.Prelude.{◌≡◌, refl, true, false, not, List, ℕ, ◌<◌, length, Float, Ok, Err}
 use Rattle.std.proofs.Common.{sym, ap, ◌∙◌, true≢false, arith}
 use Rattle.std.proofs.lemmas.Bool.{not-true, not-false}
 use Rattle.numbers.specs.F64.{◌⊖◌, ◌⊗◌}
@@ -13,7 +13,6 @@ use Rattle.numbers.specs.laws.Refusal.{held, accepts, by_tests, ask_sound, unles
 use Rattle.numbers.specs.declared.refusal.Refusal.{Refusal}
 use Rattle.numbers.specs.declared.cut.CutStatus.{CutStatus}
 use Rattle.numbers.specs.declared.cut.CutStatus.TheVariants.{Success, NoSoln, NoEffect}
-use Rattle.oracles.specs.declared.ell_common.Update.TheVariants.{Status, Refused}
 use Rattle.oracles.specs.Matrix.{nth}
 use Rattle.oracles.specs.EllCommon.{is_tiny, is_success, centre_of, new_of, Work, Change, change, tsq_of, answer_of, success_of, status_of, update_of, update_answer}
 
@@ -58,31 +57,31 @@ call_is after tests w = sym (unless_map after tests _ _)
 module _ {B : Type 0} (w : Work B) where
   -- what holds of each way through an update holds of it
   by_ways : (P : Change B → Type 0)
-      → (is_tiny w.omega ≡ true → P (change (Status NoEffect) w.kappa w.tsq w.prepared))
-      → (is_tiny w.omega ≡ false → is_success (answer_of w).status ≡ false → P (change (Status (answer_of w).status) w.kappa (tsq_of w) w.prepared))
-      → (is_tiny w.omega ≡ false → is_success (answer_of w).status ≡ true → P (change (Status (answer_of w).status) (success_of w).0 (tsq_of w) (success_of w).1))
+      → (is_tiny w.omega ≡ true → P (change (Ok NoEffect) w.kappa w.tsq w.prepared))
+      → (is_tiny w.omega ≡ false → is_success (answer_of w).status ≡ false → P (change (Ok (answer_of w).status) w.kappa (tsq_of w) w.prepared))
+      → (is_tiny w.omega ≡ false → is_success (answer_of w).status ≡ true → P (change (Ok (answer_of w).status) (success_of w).0 (tsq_of w) (success_of w).1))
       → P (update_of w)
   unfolding update_of
   by_ways P f g k =
       by_test P (is_tiny w.omega) _ _ f (λ t. by_test P (not (is_success (answer_of w).status)) _ _ (λ u. g t (not-true _ u)) (λ u. k t (not-false _ u)))
 
   -- its status and its tsq
-  pub update_says : ((update_of w).answer ≡ Status (status_of w)) × ((update_of w).tsq ≡ pick (is_tiny w.omega) w.tsq (tsq_of w))
+  pub update_says : ((update_of w).answer ≡ Ok (status_of w)) × ((update_of w).tsq ≡ pick (is_tiny w.omega) w.tsq (tsq_of w))
   unfolding status_of
   update_says = by_ways P
-      (λ t. (ap Status (hit _ _ _ _ t refl), hit _ _ _ _ t refl))
-      (λ t u. (ap Status (skip _ _ _ _ t refl), skip _ _ _ _ t refl))
-      (λ t u. (ap Status (skip _ _ _ _ t refl), skip _ _ _ _ t refl))
+      (λ t. (ap Ok (hit _ _ _ _ t refl), hit _ _ _ _ t refl))
+      (λ t u. (ap Ok (skip _ _ _ _ t refl), skip _ _ _ _ t refl))
+      (λ t u. (ap Ok (skip _ _ _ _ t refl), skip _ _ _ _ t refl))
     where
       P : Change B → Type 0
-      P c = (c.answer ≡ Status (status_of w)) × (c.tsq ≡ pick (is_tiny w.omega) w.tsq (tsq_of w))
+      P c = (c.answer ≡ Ok (status_of w)) × (c.tsq ≡ pick (is_tiny w.omega) w.tsq (tsq_of w))
 
   -- what holds of the slices, however it ends, holds of those that it leaves
   pub update_leaves : (P : B → Type 0) → P w.prepared → P (success_of w).1 → P (update_of w).buffers
   update_leaves P p s = by_ways (λ c. P c.buffers) (λ t. p) (λ t u. p) (λ t u. s)
 
   module _ (tests : Tests) where
-    by_answers : (P : Change B → Type 0) → ((why : Refusal) → P (change (Refused why) w.kappa w.tsq w.before)) → P (update_of w) → P (call_of tests w)
+    by_answers : (P : Change B → Type 0) → ((why : Refusal) → P (change (Err why) w.kappa w.tsq w.before)) → P (update_of w) → P (call_of tests w)
     by_answers P f g = by_tests P tests _ _ (λ why place h. f why) (λ h. g)
 
     pub call_accepted : Sound ≡ tests → call_of tests w ≡ update_of w
@@ -92,15 +91,15 @@ module _ {B : Type 0} (w : Work B) where
     call_leaves P b p s = by_answers (λ c. P c.buffers) (λ why. b) (update_leaves P p s)
 
     -- any answer but Success, a refusal too, keeps kappa, and what holds of the slices in both
-    pub call_failed : (P : B → Type 0) → P w.before → P w.prepared → ((call_of tests w).answer ≡ Status Success → ⊥)
+    pub call_failed : (P : B → Type 0) → P w.before → P w.prepared → ((call_of tests w).answer ≡ Ok Success → ⊥)
         → ((call_of tests w).kappa ≡ w.kappa) × P (call_of tests w).buffers
-    call_failed P b p = by_answers Q (λ why h. (refl, b)) (by_ways Q (λ t h. (refl, p)) (λ t u h. (refl, p)) (λ t u h. absurd (h (ap Status (success_is _ u)))))
+    call_failed P b p = by_answers Q (λ why h. (refl, b)) (by_ways Q (λ t h. (refl, p)) (λ t u h. (refl, p)) (λ t u h. absurd (h (ap Ok (success_is _ u)))))
       where
         Q : Change B → Type 0
-        Q c = (c.answer ≡ Status Success → ⊥) → (c.kappa ≡ w.kappa) × P c.buffers
+        Q c = (c.answer ≡ Ok Success → ⊥) → (c.kappa ≡ w.kappa) × P c.buffers
 
     -- Success leaves what a success leaves
-    pub call_succeeded : (call_of tests w).answer ≡ Status Success → ((call_of tests w).kappa, (call_of tests w).buffers) ≡ success_of w
+    pub call_succeeded : (call_of tests w).answer ≡ Ok Success → ((call_of tests w).kappa, (call_of tests w).buffers) ≡ success_of w
     call_succeeded = by_answers Q (λ why h. absurd (let z : ◌≡◌ {A = ℕ} 0 1 = cc in omega arith))
         (by_ways Q
         (λ t h. absurd (let z : ◌≡◌ {A = ℕ} 0 1 = cc in omega arith))
@@ -108,4 +107,4 @@ module _ {B : Type 0} (w : Work B) where
         (λ t u h. refl))
       where
         Q : Change B → Type 0
-        Q c = c.answer ≡ Status Success → (c.kappa, c.buffers) ≡ success_of w
+        Q c = c.answer ≡ Ok Success → (c.kappa, c.buffers) ≡ success_of w

@@ -1,5 +1,5 @@
 -- Laws of the calls of EllStable, for a caller that goes on from what they answer. Assumes nothing.
-use Rattle.std.specs.Prelude.{◌≡◌, refl, true, List, ℕ, suc, ◌≤◌, ◌<◌, ◌*◌, eqb, length}
+use Rattle.std.specs.Prelude.{◌≡◌, refl, true, List, ℕ, suc, ◌≤◌, ◌<◌, ◌*◌, eqb, length, Ok, Err}
 use Rattle.std.proofs.Common.{sym, ◌∙◌, arith, eqb-true, eq-eqb}
 use Rattle.std.proofs.Math.Path.{subst}
 use Rattle.std.specs.Float.Ieee.{Float}
@@ -19,9 +19,7 @@ use Rattle.oracles.specs.laws.EllCommon.{length_centre, centre_at, new_made, new
 use Rattle.oracles.specs.EllStable.{StableBuffers, fresh_stable, new_ell_stable_answer, forward, inv_ml_g_of, inv_md_inv_ml_g_of, omega_of, backward, t_start, t_of, succeeded, stable_after, stable_work, stable_update_of, stable_fits, stable_tests, stable_update_answer}
 use Rattle.oracles.specs.laws.EllStable.{length_lowered, lowered_high, length_factors, factors_low, factors_diagonal, factors_high}
 use Rattle.oracles.specs.declared.ell_common.CutStrategy.{CutStrategy}
-use Rattle.oracles.specs.declared.ell_common.Update.TheVariants.{Status}
 use Rattle.oracles.specs.declared.ell_stable.EllStable.{EllStable}
-use Rattle.oracles.specs.declared.ell_stable.NewEllStable.TheVariants.{Made, Refused as NotMade}
 use Rattle.oracles.specs.declared.ell_stable.EllStableUpdate.{EllStableUpdate}
 
 -- ---- a new one
@@ -32,17 +30,17 @@ pub record NewStableIs (n : ℕ) (kappa : Float) (e : EllStable) : Type 0 where
   pub is : e ≡ fresh_stable n kappa
   pub parallel : e.helper.use_parallel_cut ≡ true
 
-pub stable_new : (n : ℕ) (kappa : Float) (e : EllStable) → new_ell_stable_answer n kappa ≡ Made e → NewStableIs n kappa e
+pub stable_new : (n : ℕ) (kappa : Float) (e : EllStable) → new_ell_stable_answer n kappa ≡ Ok e → NewStableIs n kappa e
 unfolding new_ell_stable_answer made
 stable_new n kappa e h =
-    let p = new_is NotMade (Made (fresh_stable n kappa)) n (Made e) (λ why k. let z : ◌≡◌ {A = ℕ} 0 1 = cc in omega arith) h in
+    let p = new_is Err (Ok (fresh_stable n kappa)) n (Ok e) (λ why k. let z : ◌≡◌ {A = ℕ} 0 1 = cc in omega arith) h in
     let q : e ≡ fresh_stable n kappa = cc in
     record { dimension = p.0; is = q; parallel = rw q }
 
 -- every n in its range has one
-pub stable_makes : (n : ℕ) (kappa : Float) → is_dimension n ≡ true → new_ell_stable_answer n kappa ≡ Made (fresh_stable n kappa)
+pub stable_makes : (n : ℕ) (kappa : Float) → is_dimension n ≡ true → new_ell_stable_answer n kappa ≡ Ok (fresh_stable n kappa)
 unfolding new_ell_stable_answer
-stable_makes n kappa = new_made NotMade (Made (fresh_stable n kappa)) n
+stable_makes n kappa = new_made Err (Ok (fresh_stable n kappa)) n
 
 -- ---- the lengths that n says
 
@@ -98,7 +96,7 @@ stable_t e grad b a j = t_of e.ndim b.mq grad (t_start (stable_omega e grad b) a
 -- no refusal: the definition's status, and tsq as it was where omega is tiny
 pub record StableAnswered (e : EllStable) (s : CutStrategy) (grad : List Float) (beta : CutChoice) (b : StableBuffers) (r : EllStableUpdate × StableBuffers) : Type 0 where
   pub is : r ≡ stable_update_of e s grad beta b
-  pub answer_is : r.0.answer ≡ Status (status_of (stable_work e s grad beta b))
+  pub answer_is : r.0.answer ≡ Ok (status_of (stable_work e s grad beta b))
   pub tsq_is : r.0.ell.tsq ≡ pick (is_tiny (stable_omega e grad b)) e.tsq (e.kappa ⊗ stable_omega e grad b)
 
 -- no success: centre and kappa as they came, and of the matrix the diagonal and what lies above it
@@ -158,20 +156,20 @@ module _ (e : EllStable) (s : CutStrategy) (grad : List Float) (beta : CutChoice
       (record { is = refl; answer_is = (update_says w).0; tsq_is = (update_says w).1 }))
 
   -- any answer but Success, a refusal too, keeps centre and kappa, and the matrix but for its strict lower triangle
-  pub stable_failed : ((stable_update_answer e s grad beta b).0.answer ≡ Status Success → ⊥) → StableKept e b (stable_update_answer e s grad beta b)
+  pub stable_failed : ((stable_update_answer e s grad beta b).0.answer ≡ Ok Success → ⊥) → StableKept e b (stable_update_answer e s grad beta b)
   stable_failed =
-      by_call (λ r. (r.0.answer ≡ Status Success → ⊥) → StableKept e b r)
+      by_call (λ r. (r.0.answer ≡ Ok Success → ⊥) → StableKept e b r)
       (λ h. let k = call_failed (stable_work e s grad beta b) (stable_tests e.ndim grad b)
       (λ c. (c.xc ≡ b.xc) × ((i j : ℕ) → i ≤ j → j < e.ndim → at e.ndim c.mq i j ≡ at e.ndim b.mq i j))
       (refl, λ i j l m. refl) (refl, λ i j l m. lowered_high e.ndim b.mq grad i j (omega arith) m l) h in
       record { kappa_is = k.0; xc_is = k.1.0; mq_at = k.1.1 })
 
   -- Success gives the entries in closed form
-  pub stable_succeeded : (stable_update_answer e s grad beta b).0.answer ≡ Status Success
+  pub stable_succeeded : (stable_update_answer e s grad beta b).0.answer ≡ Ok Success
       → StableSucceeded e grad b (answer_of (stable_work e s grad beta b)) (stable_update_answer e s grad beta b).0.ell.kappa (stable_update_answer e s grad beta b).1
   unfolding succeeded
   stable_succeeded =
-      by_call (λ r. r.0.answer ≡ Status Success → StableSucceeded e grad b (answer_of (stable_work e s grad beta b)) r.0.ell.kappa r.1)
+      by_call (λ r. r.0.answer ≡ Ok Success → StableSucceeded e grad b (answer_of (stable_work e s grad beta b)) r.0.ell.kappa r.1)
       (λ h. subst (λ (p : Float × StableBuffers). StableSucceeded e grad b (answer_of (stable_work e s grad beta b)) p.0 p.1)
       (sym (call_succeeded (stable_work e s grad beta b) (stable_tests e.ndim grad b) h))
       (record {

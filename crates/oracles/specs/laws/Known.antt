@@ -1,7 +1,7 @@
 -- Document 01, "Known values (P: proved)": all of them, of both layers, as one table with a single proof.
 -- A row has what a definition gives and what the document says, each as words: a float as its bits, an answer as its numbers in order.
 use Rattle.numbers.specs.declared.refusal.Refusal.{Refusal}
-use Rattle.std.specs.Prelude.{ℕ, ◌-◌, ◌≡◌, refl, true, cond, List, [], ◌∷◌, ◌++◌, map, ℤ, pos, negsuc, Float, Err, Ok, Result}
+use Rattle.std.specs.Prelude.{ℕ, ◌-◌, ◌≡◌, refl, true, cond, List, [], ◌∷◌, ◌++◌, map, ℤ, pos, negsuc, Float, Err, Ok, Result, Some, None, Option}
 use Rattle.std.specs.Float.{binary64}
 use Rattle.std.specs.Float.Ieee.{add, neg, lt, sub, mul, div, le, of_int, of_bits, to_bits}
 use Rattle.numbers.specs.Pick.{pick}
@@ -14,20 +14,17 @@ use Rattle.numbers.specs.EllCalc.{made, calc_bias_cut, calc_bias_cut_q, calc_par
 use Rattle.oracles.specs.RoundRobin.{fresh, advanced}
 use Rattle.oracles.specs.Scan.{−∞, none, scan_from, scan_of}
 use Rattle.oracles.specs.Table.{value_of}
-use Rattle.oracles.specs.LowpassOracle.{group_number, group_side, assess_sign, assess_middle, assess_stop, assess_of, assess_feas_answer}
+use Rattle.oracles.specs.LowpassOracle.{group_number, group_side, assess_sign, assess_middle, assess_stop, assess_of, assess_feas_answer, Verdict}
 use Rattle.oracles.specs.Matrix.{grid, total}
 use Rattle.oracles.specs.LdltMgr.{get_elem, taken, reduced, stored, stop_from, stop_of, filled, position_of, factor_rows, factor_of, factor_answer, witness_tail, witness_of, witness_answer, quad_term, quad_of, sym_quad_answer}
-use Rattle.oracles.specs.declared.ldlt_mgr.Factored.{Factored}
-use Rattle.oracles.specs.declared.ldlt_mgr.Factored.TheVariants.{Definite, Stopped, Refused}
 use Rattle.oracles.specs.declared.lowpass_oracle.LowpassOracle.{LowpassOracle}
 use Rattle.oracles.specs.declared.lowpass_oracle.Assessed.{Assessed}
 use Rattle.oracles.specs.declared.lowpass_oracle.Group.{Group}
 use Rattle.oracles.specs.declared.lowpass_oracle.Group.TheVariants.{Pass, Stop, Middle, Sign}
-use Rattle.oracles.specs.declared.lowpass_oracle.Verdict.{Verdict}
-use Rattle.oracles.specs.declared.lowpass_oracle.Verdict.TheVariants.{Feasible, Cut, Refused as NotAssessed}
 use Rattle.numbers.specs.declared.cut.CutAnswer.{CutAnswer}
 use Rattle.numbers.specs.declared.cut.CutStatus.{CutStatus}
 use Rattle.numbers.specs.declared.cut.CutStatus.TheVariants.{Success, NoSoln, NoEffect}
+use Rattle.oracles.specs.declared.ldlt_mgr.Pos.{Pos}
 
 pub record Row : Type 0 where
   pub got : List ℕ
@@ -81,10 +78,10 @@ abbrev floats : List Float → List ℕ
 floats = map (to_bits binary64)
 
 -- where a factorization stopped; definite is (0, 0)
-abbrev place : Factored → List ℕ
-place Definite = 0 ∷ 0 ∷ []
-place (Stopped p) = p.start ∷ p.end ∷ []
-place (Refused why) = []
+abbrev place : Result (Option Pos) Refusal → List ℕ
+place (Ok None) = 0 ∷ 0 ∷ []
+place (Ok (Some p)) = p.start ∷ p.end ∷ []
+place (Err why) = []
 
 abbrev number : Result Float Refusal → List ℕ
 number (Ok x) = to_bits binary64 x ∷ []
@@ -125,9 +122,9 @@ row (Middle i) = i ∷ []
 row Sign = []
 
 abbrev verdict : Verdict → List ℕ
-verdict Feasible = 4 ∷ []
-verdict (Cut g beta) = group_number g ∷ row g ++ cond (group_side g) 1 0 ∷ chosen beta (λ beta0. floats (beta0 ∷ [])) (λ beta0 beta1. floats (beta0 ∷ beta1 ∷ []))
-verdict (NotAssessed why) = []
+verdict (Ok None) = 4 ∷ []
+verdict (Ok (Some c)) = group_number c.group ∷ row c.group ++ cond (group_side c.group) 1 0 ∷ chosen c.beta (λ beta0. floats (beta0 ∷ [])) (λ beta0 beta1. floats (beta0 ∷ beta1 ∷ []))
+verdict (Err why) = []
 
 abbrev assess : Float → Float → Assessed
 assess x₀ x₁ = (assess_feas_answer oracle 2 3 table (x₀ ∷ x₁ ∷ []) (0ᶠ ∷ 0ᶠ ∷ [])).0

@@ -1,7 +1,7 @@
 -- Laws of the definitions of LdltMgr. Assumes nothing.
-use Rattle.std.specs.Prelude.{◌≡◌, Bool, ◌&&◌, ◌⊎◌, List, [], ltb, eqb, length, Float, Ok}
+use Rattle.std.specs.Prelude.{◌≡◌, Bool, ◌&&◌, ◌⊎◌, List, [], ltb, eqb, length, Float, Ok, Err, Some, None, Result, Option}
 use Rattle.std.proofs.Math.Path.{refl, sym, ap}
-use Rattle.std.proofs.Common.{◌∙◌, inl, inr, zero-mul, eq-or-lt_of_le, arith}
+use Rattle.std.proofs.Common.{◌∙◌, inl, inr, eq-or-lt_of_le, arith}
 use Rattle.std.proofs.Math.Bool.{true, false}
 use Rattle.std.proofs.Math.Logic.{⊎_elim}
 use Prim.Native.Nat.{ℕ, zero, suc, ◌≤◌, ◌<◌, ◌+◌, ◌-◌, ◌*◌}
@@ -18,22 +18,10 @@ use Rattle.oracles.specs.Matrix.{at, total}
 use Rattle.oracles.specs.laws.Matrix.{length_grid, grid_at, grid_ext}
 use Rattle.oracles.specs.LdltMgr.{is_order, get_elem, less, taken, reduced, stored, stops, stop_from, stop_of, filled, position_of, factor_rows, factor_of, factor_tests, factor_answer, witness_of, witness_tests, witness_answer}
 use Rattle.oracles.specs.declared.ldlt_mgr.Pos.{Pos}
-use Rattle.oracles.specs.declared.ldlt_mgr.Factored.{Factored}
-use Rattle.oracles.specs.declared.ldlt_mgr.Factored.TheVariants.{Definite, Stopped, Refused}
 
 -- ---- the entry
 
--- the slices that `get_elem` reads
-pub record LmiReads (m : ℕ) (mat_b mat_f xc : List Float) : Type 0 where
-  pub order : m ≤ 32
-  pub long_b : length mat_b ≡ m * m
-  pub long_f : length mat_f ≡ length xc * (m * m)
-  pub few : length xc ≤ 32
-
--- with no mat_f and xc it reads mat_b alone, whose entry it is
-pub plain_reads : (m : ℕ) (mat : List Float) → m ≤ 32 → length mat ≡ m * m → LmiReads m mat [] []
-plain_reads m mat h l = record { order = h; long_b = l; long_f = sym (zero-mul (m * m)); few = omega arith }
-
+-- with no mat_f and xc it is mat_b's own
 pub entry_plain : (m : ℕ) (mat : List Float) (i j : ℕ) → get_elem m mat [] [] i j ≡ at m mat i j
 unfolding get_elem total
 entry_plain m mat i j = refl
@@ -249,39 +237,43 @@ pub record StoppedAt (m : ℕ) (pos : Pos) (out : List Float) : Type 0 where
   pub begun : pos.start < pos.end
   pub within : pos.end ≤ m
 
-refused_no : (why : Refusal) (pos : Pos) → Refused why ≡ Stopped pos → ⊥
+-- what `factor` may say
+abbrev Said : Type 0
+Said = Result (Option Pos) Refusal
+
+refused_no : (why : Refusal) (pos : Pos) → ◌≡◌ {A = Said} (Err why) (Ok (Some pos)) → ⊥
 refused_no why pos h = let z : ◌≡◌ {A = ℕ} 0 1 = cc in omega arith
 
-definite_no : (pos : Pos) → Definite ≡ Stopped pos → ⊥
+definite_no : (pos : Pos) → ◌≡◌ {A = Said} (Ok None) (Ok (Some pos)) → ⊥
 definite_no pos h = let z : ◌≡◌ {A = ℕ} 0 1 = cc in omega arith
 
-same_place : (p q : Pos) → Stopped p ≡ Stopped q → p ≡ q
+same_place : (p q : Pos) → ◌≡◌ {A = Said} (Ok (Some p)) (Ok (Some q)) → p ≡ q
 same_place p q h = cc
 
-abbrev said : Factored × List Float → Factored
+abbrev said : Said × List Float → Said
 said x = x.0
 
-rows_stopped : (A : ℕ → ℕ → Float) (m : ℕ) (storage : List Float) (pos : Pos) (out : List Float) → is_order m ≡ true → factor_of A m storage ≡ (Stopped pos, out) → StoppedAt m pos out
+rows_stopped : (A : ℕ → ℕ → Float) (m : ℕ) (storage : List Float) (pos : Pos) (out : List Float) → is_order m ≡ true → factor_of A m storage ≡ (Ok (Some pos), out) → StoppedAt m pos out
 unfolding factor_of factor_rows
 rows_stopped A m storage pos out o f = go (eqb (stop_of A m) 0) refl
   where
     go : (t : Bool) → eqb (stop_of A m) 0 ≡ t → StoppedAt m pos out
-    go true x = absurd (definite_no pos (hit _ _ _ _ x refl ∙ ap said f))
+    go true x = absurd (definite_no pos (ap Ok (hit _ _ _ _ x refl) ∙ ap said f))
     go false x =
-        let q = same_place (position_of (stop_of A m)) pos (skip _ _ _ _ x refl ∙ ap said f) in
+        let q = same_place (position_of (stop_of A m)) pos (ap Ok (skip _ _ _ _ x refl) ∙ ap said f) in
         let a : 0 ≡ pos.start = ap (λ (p : Pos). p.start) q in
         let b : stop_of A m ≡ pos.end = ap (λ (p : Pos). p.end) q in
         record {
           order = o;
-          long = sym (ap (λ (x : Factored × List Float). length x.1) f) ∙ length_filled A m storage _;
+          long = sym (ap (λ (x : Said × List Float). length x.1) f) ∙ length_filled A m storage _;
           start = sym a;
           begun = let z = eqb-false (stop_of A m) 0 x in omega arith;
           within = omega (arith, stop_most A m);
         }
 
-pub factor_stopped : (m : ℕ) (mat storage : List Float) (pos : Pos) (out : List Float) → factor_answer m mat storage ≡ (Stopped pos, out) → StoppedAt m pos out
+pub factor_stopped : (m : ℕ) (mat storage : List Float) (pos : Pos) (out : List Float) → factor_answer m mat storage ≡ (Ok (Some pos), out) → StoppedAt m pos out
 factor_stopped m mat storage pos out =
-    by_tests (λ (r : Factored × List Float). r ≡ (Stopped pos, out) → StoppedAt m pos out) (factor_tests m mat storage) _ _
+    by_tests (λ (r : Said × List Float). r ≡ (Ok (Some pos), out) → StoppedAt m pos out) (factor_tests m mat storage) _ _
     (λ why place e h. absurd (refused_no why pos (ap said h)))
     (λ e h. rows_stopped (get_elem m mat [] []) m storage pos out (ask_sound (is_order m) _ _ (both_sound (ask (is_order m) Dimension) _ e).0) h)
 

@@ -1,5 +1,6 @@
 -- The oracle and the gradient after a call: bands and limits stay, and an accepted call can be followed by another. Assumes nothing.
-use Rattle.std.specs.Prelude.{◌≡◌, refl, Bool, true, false, List, ℕ, ◌≤◌, ◌<◌, ◌*◌, length, drop, replicate, pos, nat_abs, Float}
+use Rattle.std.specs.Prelude.{◌≡◌, refl, Bool, true, false, List, ℕ, ◌≤◌, ◌<◌, ◌*◌, length, drop, replicate, pos, nat_abs, Float, Ok, Err, Some, None, Result}
+use Rattle.numbers.specs.declared.refusal.Refusal.{Refusal}
 use Rattle.std.proofs.Common.{sym, ap, ◌∙◌, true≢false, inl, inr, le_refl, le_trans, arith, eq-eqb, length-drop, length-set, length-take-le}
 use Rattle.std.proofs.lemmas.List.{length-map, length-replicate}
 use Rattle.std.specs.Int.Signed.{lt_z}
@@ -14,16 +15,12 @@ use Rattle.oracles.specs.RoundRobin.{is_at}
 use Rattle.oracles.specs.laws.RoundRobin.{legal_at}
 use Rattle.oracles.specs.Scan.{−∞, none, band_gradient}
 use Rattle.oracles.specs.laws.Scan.{last_legal}
-use Rattle.oracles.specs.LowpassOracle.{−1ᶠ, bands_fit, offered, assess_of, improved_of, optim_of, assess_tests, assess_feas_answer, assess_optim_answer}
+use Rattle.oracles.specs.LowpassOracle.{−1ᶠ, bands_fit, offered, assess_of, improved_of, optim_of, assess_tests, assess_feas_answer, assess_optim_answer, Verdict}
 use Rattle.oracles.specs.laws.Assess.{fit_of, pass_left, stop_left, middle_left, assess_cases, accepted_of, accepted_by, accepted_is}
 use Rattle.oracles.specs.Verdict.{asked, limits, is_accepted, FeasRule}
 use Rattle.oracles.specs.laws.CursorRule.{band_found, feas_rule}
-use Rattle.oracles.specs.declared.scan.Upper.TheVariants.{Absent, Limit}
 use Rattle.oracles.specs.declared.lowpass_oracle.LowpassOracle.{LowpassOracle}
-use Rattle.oracles.specs.declared.lowpass_oracle.Verdict.{Verdict}
-use Rattle.oracles.specs.declared.lowpass_oracle.Verdict.TheVariants.{Feasible, Cut, Refused}
 use Rattle.oracles.specs.declared.lowpass_oracle.OptimVerdict.{OptimVerdict}
-use Rattle.oracles.specs.declared.lowpass_oracle.OptimVerdict.TheVariants.{Improved, Cut as CutOptim, Refused as RefusedOptim}
 use Rattle.oracles.specs.declared.lowpass_oracle.Assessed.{Assessed}
 use Rattle.oracles.specs.declared.lowpass_oracle.AssessedOptim.{AssessedOptim}
 
@@ -40,10 +37,9 @@ assess_kept o n rows table x grad =
     P r = limits r.0.oracle ≡ limits o
 
 -- whether `assess_optim` has refused the call
-abbrev pub is_refusal : OptimVerdict → Bool
-is_refusal (Improved beta) = false
-is_refusal (CutOptim group beta) = false
-is_refusal (RefusedOptim why) = true
+abbrev pub is_refusal : Result OptimVerdict Refusal → Bool
+is_refusal (Ok v) = false
+is_refusal (Err why) = true
 
 -- a refusal gives the oracle o as it came, any other answer the oracle o' that the assessment of the offered number leaves
 pub record OptimAfter (o o' : LowpassOracle) (r : AssessedOptim) : Type 0 where
@@ -56,12 +52,12 @@ unfolding improved_of
 optim_after o gamma n rows table x grad = let a = assess_feas_answer (offered o gamma) n rows table x grad in go a.0.oracle a.0.verdict a.1
   where
     go : (o' : LowpassOracle) (v : Verdict) (g : List Float) → OptimAfter o o' (optim_of o gamma n table o' v g).0
-    go o' Feasible g =
+    go o' (Ok None) g =
         by_test (λ (r : AssessedOptim × List Float). OptimAfter o o' r.0) (lt_z o'.kmax (pos 0)) _ _
         (λ t. record { as_it_came = λ e. refl; assessed = λ e. absurd (true≢false e) })
         (λ t. record { as_it_came = λ e. absurd (true≢false (sym e)); assessed = λ e. refl })
-    go o' (Cut group beta) g = record { as_it_came = λ e. absurd (true≢false (sym e)); assessed = λ e. refl }
-    go o' (Refused why) g = record { as_it_came = λ e. refl; assessed = λ e. absurd (true≢false e) }
+    go o' (Ok (Some c)) g = record { as_it_came = λ e. absurd (true≢false (sym e)); assessed = λ e. refl }
+    go o' (Err why) g = record { as_it_came = λ e. refl; assessed = λ e. absurd (true≢false e) }
 
 -- so the offered number is stored unless the call is refused
 pub optim_kept : (o : LowpassOracle) (gamma : Float) (n rows : ℕ) (table x grad : List Float) → is_refusal (assess_optim_answer o gamma n rows table x grad).0.verdict ≡ false
@@ -86,9 +82,9 @@ module _ (o : LowpassOracle) (n rows : ℕ) (table x grad : List Float) (h : is_
   assessed_again =
       let a = accepted_of o n rows table x grad h in
       let F = fit_of o rows a.bands a.cursors in
-      let p = (last_legal n table x o.rr1 o.lp_sq (Limit o.up_sq) F.pass_rows.legal).at in
-      let s = (last_legal n table x o.rr3 0ᶠ (Limit o.sp_sq) F.stop_rows.legal).at in
-      let m = (last_legal n table x o.rr2 0ᶠ Absent F.middle_rows.legal).at in
+      let p = (last_legal n table x o.rr1 o.lp_sq (Some o.up_sq) F.pass_rows.legal).at in
+      let s = (last_legal n table x o.rr3 0ᶠ (Some o.sp_sq) F.stop_rows.legal).at in
+      let m = (last_legal n table x o.rr2 0ᶠ None F.middle_rows.legal).at in
       let s₀ = legal_at o.rr3 F.stop_rows.legal in
       let m₀ = legal_at o.rr2 F.middle_rows.legal in
       assess_cases o n table x grad (λ r. is_accepted r.0.oracle n rows table x' grad' ≡ true)
@@ -128,9 +124,9 @@ module _ (o : LowpassOracle) (n rows : ℕ) (table x grad : List Float) (h : is_
       let F = fit_of o rows a.bands a.cursors in
       rw (accepted_is o n rows table x grad h)
       (assess_cases o n table x grad (λ r. length r.1 ≡ n)
-      (λ row v over e. cut row over (band_found n table x o.rr1 o.lp_sq (Limit o.up_sq) 0 (nat_abs o.nwpass) F.pass_rows row v over e).high F.pass_high)
-      (λ e₁ row v over e. cut row over (band_found n table x o.rr3 0ᶠ (Limit o.sp_sq) (nat_abs o.nwstop) rows F.stop_rows row v over e).high (le_refl rows))
-      (λ e₁ e₂ row v over e. cut row over (band_found n table x o.rr2 0ᶠ Absent (nat_abs o.nwpass) (nat_abs o.nwstop) F.middle_rows row v over e).high F.middle_high)
+      (λ row v over e. cut row over (band_found n table x o.rr1 o.lp_sq (Some o.up_sq) 0 (nat_abs o.nwpass) F.pass_rows row v over e).high F.pass_high)
+      (λ e₁ row v over e. cut row over (band_found n table x o.rr3 0ᶠ (Some o.sp_sq) (nat_abs o.nwstop) rows F.stop_rows row v over e).high (le_refl rows))
+      (λ e₁ e₂ row v over e. cut row over (band_found n table x o.rr2 0ᶠ None (nat_abs o.nwpass) (nat_abs o.nwstop) F.middle_rows row v over e).high F.middle_high)
       (λ e₁ e₂ e₃ e. length-set (replicate (length grad) 0ᶠ) 0 −1ᶠ ∙ length-replicate (length grad) 0ᶠ ∙ a.grad_long)
       (λ e₁ e₂ e₃ e. a.grad_long))
     where
@@ -144,11 +140,11 @@ optim_gradient_length o gamma n rows table x grad h =
     go a.0.oracle a.0.verdict a.1 (feas_rule (offered o gamma) n rows table x grad h) (gradient_length (offered o gamma) n rows table x grad h)
   where
     go : (o' : LowpassOracle) (v : Verdict) (g : List Float) → FeasRule (asked o gamma n rows table x) (record { oracle = o'; verdict = v }) → length g ≡ n → length (optim_of o gamma n table o' v g).1 ≡ n
-    go o' Feasible g r e =
+    go o' (Ok None) g r e =
         by_test (λ (r : AssessedOptim × List Float). length r.1 ≡ n) (lt_z o'.kmax (pos 0)) _ _ (λ t. e)
         (λ t. elim (r.peak (sym r.verdict_is)) [
           | inl p ↦ rw p.row_is (row_length n rows table p.row (accepted_of o n rows table x grad h).table_long p.high)
           | inr p ↦ absurd (true≢false (rw p.kmax_is at t))
         ])
-    go o' (Cut group beta) g r e = e
-    go o' (Refused why) g r e = e
+    go o' (Ok (Some c)) g r e = e
+    go o' (Err why) g r e = e

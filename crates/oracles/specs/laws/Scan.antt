@@ -1,5 +1,5 @@
 -- Laws of a scan, for every legal cursor of a band: what it finds, where it leaves the cursor, and its largest value. Assumes nothing.
-use Rattle.std.specs.Prelude.{◌≡◌, Bool, ◌||◌, ◌⊎◌, List, ℤ, pos, Float}
+use Rattle.std.specs.Prelude.{◌≡◌, Bool, ◌||◌, ◌⊎◌, List, ℤ, pos, Float, None, Option}
 use Rattle.std.proofs.Math.Path.{refl, ap}
 use Rattle.std.proofs.Common.{sym, ◌∙◌, true≢false}
 use Rattle.std.proofs.Math.Bool.{true, false}
@@ -15,12 +15,11 @@ use Rattle.oracles.specs.RoundRobin.{is_band, is_at, with_cur}
 use Rattle.oracles.specs.laws.RoundRobin.{canon, legal_canon, legal_band, legal_at, Legal}
 use Rattle.oracles.specs.laws.ScanRows.{Ready, band_count, Seen, NextRow, next_row}
 use Rattle.oracles.specs.laws.FloatOrder.{nlt_trans, lt_asym, lt_irrefl, above_compares}
-use Rattle.oracles.specs.Scan.{−∞, none, is_over, scan_from, scan_of}
+use Rattle.oracles.specs.Scan.{−∞, none, is_over, scan_from, scan_of, broken_at}
 use Rattle.oracles.specs.Table.{value_of}
 use Rattle.oracles.specs.declared.round_robin.RoundRobin.{RoundRobin}
-use Rattle.oracles.specs.declared.scan.Upper.{Upper}
-use Rattle.oracles.specs.declared.scan.Violation.TheVariants.{Nothing, Broken}
 use Rattle.oracles.specs.declared.scan.Scan.{Scan}
+use Rattle.oracles.specs.declared.scan.Violation.{Violation}
 
 -- ---- one row of a scan
 
@@ -33,13 +32,13 @@ best_row fmax kmax i v = pick (lt fmax v) (pos i) kmax
 
 -- a scan that ends at row i
 abbrev ended : ℕ → Float → Bool → Float → ℤ → Scan
-ended i v over fmax kmax = record { viol = Broken i v over; fmax = fmax; kmax = kmax; last = pos i }
+ended i v over fmax kmax = record { viol = broken_at i v over; fmax = fmax; kmax = kmax; last = pos i }
 
 -- the two answers of a scan differ
-nothing_broken : (i : ℕ) (v : Float) (over : Bool) → Nothing ≡ Broken i v over → ⊥
+nothing_broken : (i : ℕ) (v : Float) (over : Bool) → None ≡ broken_at i v over → ⊥
 nothing_broken i v over e = let z : ◌≡◌ {A = ℕ} 0 1 = cc in omega arith
 
-module _ (n : ℕ) (table x : List Float) (lower : Float) (upper : Upper) where
+module _ (n : ℕ) (table x : List Float) (lower : Float) (upper : Option Float) where
   -- row i's value
   abbrev val : ℕ → Float
   val i = value_of n table x i
@@ -64,7 +63,7 @@ module _ (n : ℕ) (table x : List Float) (lower : Float) (upper : Upper) where
 -- ---- what holds wherever a scan of the band from .. past − 1 ends
 module _ (n : ℕ) (table x : List Float) (from past : ℕ) where
   -- a row of the band breaks a limit, the upper one where `over` is true, and the cursor stands there
-  pub record Found (lower : Float) (upper : Upper) (row : ℕ) (v : Float) (over : Bool) (last : ℤ) : Type 0 where
+  pub record Found (lower : Float) (upper : Option Float) (row : ℕ) (v : Float) (over : Bool) (last : ℤ) : Type 0 where
     pub low : from ≤ row
     pub high : row < past
     pub value_is : v ≡ value_of n table x row
@@ -95,15 +94,15 @@ module _ (n : ℕ) (table x : List Float) (from past : ℕ) where
       go false e = t
 
   -- the violation, the largest value, and a cursor that is still legal
-  record Sound (lower : Float) (upper : Upper) (s : Scan) : Type 0 where
-    broken : (row : ℕ) (v : Float) (over : Bool) → s.viol ≡ Broken row v over → Found lower upper row v over s.last
+  record Sound (lower : Float) (upper : Option Float) (s : Scan) : Type 0 where
+    broken : (row : ℕ) (v : Float) (over : Bool) → s.viol ≡ broken_at row v over → Found lower upper row v over s.last
     top : Top s.fmax s.kmax
     next : ℕ
     last_is : s.last ≡ pred_ℤ (pos next)
     above : from ≤ next
     below : next ≤ past
 
-  module _ (lower : Float) (upper : Upper) where
+  module _ (lower : Float) (upper : Option Float) where
     -- at row i, with a violation
     sound_end : (i : ℕ) (over : Bool) (fmax : Float) (kmax : ℤ) → from ≤ i → i < past → Top fmax kmax
         → (over ≡ true → is_over upper (value_of n table x i) ≡ true)
@@ -111,11 +110,12 @@ module _ (n : ℕ) (table x : List Float) (from past : ℕ) where
         → Sound lower upper (ended i (value_of n table x i) over fmax kmax)
     sound_end i over fmax kmax a b t above below = record { broken = found; top = t; next = suc i; last_is = refl; above = omega arith; below = b }
       where
-        found : (row : ℕ) (v : Float) (o : Bool) → Broken i (value_of n table x i) over ≡ Broken row v o → Found lower upper row v o (pos i)
+        found : (row : ℕ) (v : Float) (o : Bool) → broken_at i (value_of n table x i) over ≡ broken_at row v o → Found lower upper row v o (pos i)
         found row v o e =
-            let ei : i ≡ row = cc in
-            let ev : value_of n table x i ≡ v = cc in
-            let eo : over ≡ o = cc in
+            let p : ◌≡◌ {A = Violation} (record { row = i; value = value_of n table x i; is_over = over }) (record { row = row; value = v; is_over = o }) = cc in
+            let ei : i ≡ row = ap (λ (w : Violation). w.row) p in
+            let ev : value_of n table x i ≡ v = ap (λ (w : Violation). w.value) p in
+            let eo : over ≡ o = ap (λ (w : Violation). w.is_over) p in
             record { low = rw (← ei) a; high = rw (← ei) b; value_is = rw ei at (sym ev); above = rw (eo, ev) at above; below = rw (eo, ev) at below; last_is = rw ei }
 
     -- wherever it begins
@@ -147,7 +147,7 @@ larger fmax v h = go (lt fmax v) refl
     go true e = record { compares = above_compares fmax v e; keeps = lt_asym fmax v e; takes = lt_irrefl v }
     go false e = record { compares = h; keeps = lt_irrefl fmax; takes = e }
 
-module _ (n : ℕ) (table x : List Float) (lower : Float) (upper : Upper) where
+module _ (n : ℕ) (table x : List Float) (lower : Float) (upper : Option Float) where
   -- row i breaks no limit, and its value is not above the largest
   pub record Passed (fmax : Float) (i : ℕ) : Type 0 where
     pub not_over : is_over upper (value_of n table x i) ≡ false
@@ -161,7 +161,7 @@ module _ (n : ℕ) (table x : List Float) (lower : Float) (upper : Upper) where
       keeps : lt fmax' fmax ≡ false
 
     clear : (left k : ℕ) (fmax : Float) (kmax : ℤ) → from ≤ k → k ≤ past → left ≤ past - from → is_nan fmax ≡ false
-        → (scan_from n table x lower upper left (canon from past k) fmax kmax).viol ≡ Nothing
+        → (scan_from n table x lower upper left (canon from past k) fmax kmax).viol ≡ None
         → Clear k left fmax (scan_from n table x lower upper left (canon from past k) fmax kmax).fmax
     unfolding scan_from
     clear zero k fmax kmax a b m h = λ e. record { each = λ i u w s. absurd (unseen i u s); keeps = lt_irrefl fmax }
@@ -173,7 +173,7 @@ module _ (n : ℕ) (table x : List Float) (lower : Float) (upper : Upper) where
         let o = next_row from past k a b (omega arith) in
         let v = value_of n table x o.row in
         let g = larger fmax v h in
-        turn n table x lower upper (λ s. s.viol ≡ Nothing → Clear k (suc left) fmax s.fmax) left from past k fmax kmax o
+        turn n table x lower upper (λ s. s.viol ≡ None → Clear k (suc left) fmax s.fmax) left from past k fmax kmax o
         (λ s e. absurd (nothing_broken o.row v true (sym e)))
         (λ s u e. absurd (nothing_broken o.row v false (sym e)))
         (λ s u e. on o s u g (clear left (suc o.row) (best fmax v) (best_row fmax kmax o.row v) (omega arith) (omega arith) (omega arith) g.compares e))
@@ -192,7 +192,7 @@ module _ (n : ℕ) (table x : List Float) (lower : Float) (upper : Upper) where
 -- ---- the scan of a whole band, from any legal cursor
 
 -- whether row i breaks a limit
-abbrev pub row_breaks : ℕ → List Float → List Float → Float → Upper → ℕ → Bool
+abbrev pub row_breaks : ℕ → List Float → List Float → Float → Option Float → ℕ → Bool
 row_breaks n table x lower upper i = is_over upper (value_of n table x i) || lt (value_of n table x i) lower
 
 -- the cursor c as a scan leaves it: legal over the same band
@@ -203,7 +203,7 @@ pub record LeftAt (c : RoundRobin) (L : Legal c) (last : ℤ) : Type 0 where
   pub at : is_at (with_cur c last) ≡ true
   pub band : is_band (with_cur c last).lo (with_cur c last).hi ≡ true
 
-module _ (n : ℕ) (table x : List Float) (c : RoundRobin) (lower : Float) (upper : Upper) (L : Legal c) where
+module _ (n : ℕ) (table x : List Float) (c : RoundRobin) (lower : Float) (upper : Option Float) (L : Legal c) where
   -- it begins at the cursor's next row
   scan_is : scan_of n table x c lower upper ≡ scan_from n table x lower upper (L.past - L.from) (canon L.from L.past L.next) −∞ none
   unfolding scan_of
@@ -213,11 +213,11 @@ module _ (n : ℕ) (table x : List Float) (c : RoundRobin) (lower : Float) (uppe
   scan_sound = rw scan_is (sound n table x L.from L.past lower upper (L.past - L.from) L.next −∞ none L.above L.below (omega arith) (inl (refl, refl)))
 
   -- a violation is a row of the band
-  pub found_in : (row : ℕ) (v : Float) (over : Bool) → (scan_of n table x c lower upper).viol ≡ Broken row v over
+  pub found_in : (row : ℕ) (v : Float) (over : Bool) → (scan_of n table x c lower upper).viol ≡ broken_at row v over
       → Found n table x L.from L.past lower upper row v over (scan_of n table x c lower upper).last
   found_in row v over e = scan_sound.broken row v over e
 
-  pub broken_in : (row : ℕ) (v : Float) (over : Bool) → (scan_of n table x c lower upper).viol ≡ Broken row v over → (L.from ≤ row) × (row < L.past)
+  pub broken_in : (row : ℕ) (v : Float) (over : Bool) → (scan_of n table x c lower upper).viol ≡ broken_at row v over → (L.from ≤ row) × (row < L.past)
   broken_in row v over e = let f = found_in row v over e in (f.low, f.high)
 
   -- the largest value before a violation, and its row
@@ -242,7 +242,7 @@ module _ (n : ℕ) (table x : List Float) (c : RoundRobin) (lower : Float) (uppe
       }
 
   -- nothing is found: each row of the band has passed, and the largest value is that of all of them
-  pub passed_in : (scan_of n table x c lower upper).viol ≡ Nothing → (i : ℕ) → L.from ≤ i → i < L.past → Passed n table x lower upper (scan_of n table x c lower upper).fmax i
+  pub passed_in : (scan_of n table x c lower upper).viol ≡ None → (i : ℕ) → L.from ≤ i → i < L.past → Passed n table x lower upper (scan_of n table x c lower upper).fmax i
   unfolding is_nan
   passed_in e i a b =
       let r = clear n table x lower upper L.from L.past (L.past - L.from) L.next −∞ none L.above L.below (omega arith) refl (rw scan_is at e) in
@@ -252,11 +252,11 @@ module _ (n : ℕ) (table x : List Float) (c : RoundRobin) (lower : Float) (uppe
       whole i a b = elim (dec_lt i L.next) [ yes l ↦ inr (omega arith) | no g ↦ inl (omega arith) ]
 
   -- so it finds nothing exactly where no row of the band breaks a limit: one way
-  pub nothing_none : (scan_of n table x c lower upper).viol ≡ Nothing → some (row_breaks n table x lower upper) L.from (L.past - L.from) ≡ false
+  pub nothing_none : (scan_of n table x c lower upper).viol ≡ None → some (row_breaks n table x lower upper) L.from (L.past - L.from) ≡ false
   nothing_none e = none_some (row_breaks n table x lower upper) L.from (L.past - L.from) (λ i a b. let p = passed_in e i a (omega arith) in rw p.not_over p.not_under)
 
   -- and the other
-  pub broken_some : (row : ℕ) (v : Float) (over : Bool) → (scan_of n table x c lower upper).viol ≡ Broken row v over
+  pub broken_some : (row : ℕ) (v : Float) (over : Bool) → (scan_of n table x c lower upper).viol ≡ broken_at row v over
       → some (row_breaks n table x lower upper) L.from (L.past - L.from) ≡ true
   broken_some row v over e =
       let f = found_in row v over e in
@@ -267,7 +267,7 @@ module _ (n : ℕ) (table x : List Float) (c : RoundRobin) (lower : Float) (uppe
       go false above below = rw (below refl).0 (below refl).1
 
 -- the rows of a band can be read again after a scan
-pub left_ready : (n : ℕ) (table x : List Float) (c : RoundRobin) (lower : Float) (upper : Upper) → Ready n table x c → Ready n table x (with_cur c (scan_of n table x c lower upper).last)
+pub left_ready : (n : ℕ) (table x : List Float) (c : RoundRobin) (lower : Float) (upper : Option Float) → Ready n table x c → Ready n table x (with_cur c (scan_of n table x c lower upper).last)
 left_ready n table x c lower upper R =
     let l = last_legal n table x c lower upper R.legal in
     record { legal = l.legal; high = rw l.past_is R.high }

@@ -1,5 +1,5 @@
 -- The smallest inputs of docs/DIFFERENCES.md, where a definition shows them. Assumes nothing.
-use Rattle.std.specs.Prelude.{◌≡◌, refl, true, List, [], ◌∷◌, pos, negsuc, Float, Err, Ok}
+use Rattle.std.specs.Prelude.{◌≡◌, refl, true, List, [], ◌∷◌, pos, negsuc, Float, Err, Ok, Some, None}
 use Rattle.std.specs.Float.{nan, binary64}
 use Rattle.std.specs.Float.Ieee.{of_bits, add, sub, mul, div, neg, le, lt}
 use Rattle.numbers.specs.F64.{0ᶠ, 1ᶠ, 2ᶠ}
@@ -13,18 +13,14 @@ use Rattle.oracles.specs.LowpassOracle.{assess_sign, assess_middle, assess_stop,
 use Rattle.oracles.specs.Matrix.{grid, total}
 use Rattle.oracles.specs.LdltMgr.{get_elem, taken, reduced, stored, stop_from, stop_of, filled, position_of, factor_rows, factor_of, factor_answer, witness_tail, witness_of, witness_answer, quad_term, quad_of, sym_quad_answer}
 use Rattle.oracles.specs.LmiOracle.{lmi_answer}
-use Rattle.oracles.specs.declared.round_robin.CursorAnswer.TheVariants.{Refused as NoCursor}
 use Rattle.oracles.specs.declared.lowpass_oracle.LowpassOracle.{LowpassOracle}
-use Rattle.oracles.specs.declared.lowpass_oracle.OptimVerdict.TheVariants.{Refused as NotImproved}
-use Rattle.oracles.specs.declared.ldlt_mgr.Factored.TheVariants.{Definite, Stopped}
-use Rattle.oracles.specs.declared.lmi_oracle.LmiVerdict.TheVariants.{Refused as NoLmi}
 
 -- a band to 1,025, and `advance` over an empty one
-pub band_too_long : new_range_answer (pos 0) (pos 1025) ≡ NoCursor Band
+pub band_too_long : new_range_answer (pos 0) (pos 1025) ≡ Err Band
 unfolding new_range_answer pick
 band_too_long = refl
 
-pub empty_advance : advance_answer (record { cur = negsuc 0; lo = pos 0; hi = pos 0 }) ≡ NoCursor Band
+pub empty_advance : advance_answer (record { cur = negsuc 0; lo = pos 0; hi = pos 0 }) ≡ Err Band
 unfolding advance_answer pick
 empty_advance = refl
 
@@ -47,7 +43,7 @@ one_row = record {
   rr3 = fresh (pos 1) (pos 1);
 }
 
-pub no_stop_row : assess_optim_answer one_row 1ᶠ 2 1 (1ᶠ ∷ 0ᶠ ∷ []) (1ᶠ ∷ 0ᶠ ∷ []) (0ᶠ ∷ 0ᶠ ∷ []) ≡ (record { oracle = one_row; gamma = 1ᶠ; verdict = NotImproved NoStopValue }, 0ᶠ ∷ 0ᶠ ∷ [])
+pub no_stop_row : assess_optim_answer one_row 1ᶠ 2 1 (1ᶠ ∷ 0ᶠ ∷ []) (1ᶠ ∷ 0ᶠ ∷ []) (0ᶠ ∷ 0ᶠ ∷ []) ≡ (record { oracle = one_row; gamma = 1ᶠ; verdict = Err NoStopValue }, 0ᶠ ∷ 0ᶠ ∷ [])
 unfolding add mul le lt of_bits pick dot_from dot_of advanced value_of scan_from scan_of assess_sign assess_middle assess_stop assess_of assess_feas_answer improved_of
 no_stop_row = refl
 
@@ -61,7 +57,7 @@ unfolding pick
 no_form = refl
 
 -- a NaN pivot passes
-pub nan_pivot : factor_answer 1 (nan ∷ []) (0ᶠ ∷ []) ≡ (Definite, nan ∷ [])
+pub nan_pivot : factor_answer 1 (nan ∷ []) (0ᶠ ∷ []) ≡ (Ok None, nan ∷ [])
 unfolding le pick tab total get_elem taken reduced stored stop_from stop_of grid filled factor_rows factor_of
 nan_pivot = refl
 
@@ -72,7 +68,7 @@ lopsided = 1ᶠ ∷ 0ᶠ ∷ 2ᶠ ∷ 1ᶠ ∷ []
 abbrev zeros : List Float
 zeros = 0ᶠ ∷ 0ᶠ ∷ 0ᶠ ∷ 0ᶠ ∷ []
 
-pub lower_read : (factor_answer 2 lopsided zeros).0 ≡ Stopped (position_of 2)
+pub lower_read : (factor_answer 2 lopsided zeros).0 ≡ Ok (Some (position_of 2))
 unfolding add sub mul div le of_bits pick tab total get_elem taken reduced stored stop_from stop_of grid filled factor_rows factor_of
 lower_read = refl
 
@@ -81,6 +77,6 @@ unfolding add sub mul div neg le of_bits pick tab total get_elem taken reduced s
 upper_read = refl
 
 -- an LMI of one unknown
-pub one_unknown : lmi_answer 1 1 (0ᶠ ∷ []) (0ᶠ ∷ []) (0ᶠ ∷ []) (record { storage = 0ᶠ ∷ []; wit = 0ᶠ ∷ []; grad = 0ᶠ ∷ [] }) ≡ (NoLmi Dimension, record { storage = 0ᶠ ∷ []; wit = 0ᶠ ∷ []; grad = 0ᶠ ∷ [] })
+pub one_unknown : lmi_answer 1 1 (0ᶠ ∷ []) (0ᶠ ∷ []) (0ᶠ ∷ []) (record { storage = 0ᶠ ∷ []; wit = 0ᶠ ∷ []; grad = 0ᶠ ∷ [] }) ≡ (Err Dimension, record { storage = 0ᶠ ∷ []; wit = 0ᶠ ∷ []; grad = 0ᶠ ∷ [] })
 unfolding lmi_answer pick
 one_unknown = refl

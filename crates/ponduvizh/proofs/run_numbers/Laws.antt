@@ -1,4 +1,7 @@
 -- What a run says in numbers, part by part. Assumes nothing.
+use Rattle.drivers.specs.declared.cutting_plane_optim.OptimStop.{OptimStop}
+use Rattle.drivers.specs.CuttingPlaneOptim.{halted, optim_refused}
+use Rattle.std.specs.Prelude.{Ok, Result}
 use mathlib.Core.Path.{◌≡◌, refl}
 use mathlib.Core.List.{List}
 use Prim.Native.Nat.{ℕ}
@@ -8,8 +11,6 @@ use Rattle.numbers.specs.declared.refusal.Refusal.{Refusal}
 use Rattle.oracles.specs.declared.ell.Ell.{Ell}
 use Rattle.oracles.specs.declared.lowpass_oracle.LowpassOracle.{LowpassOracle}
 use Rattle.drivers.specs.declared.answer.Answer.{Answer}
-use Rattle.drivers.specs.declared.cutting_plane_optim.OptimAnswer.{OptimAnswer}
-use Rattle.drivers.specs.declared.cutting_plane_optim.OptimAnswer.TheVariants.{Ended, Halted, Refused}
 use Rattle.ponduvizh.specs.ExportedRuns.{RunNumbers, run_numbers, answer_of, marks_of, values_of, numbers_after, numbers_by}
 
 pub state_law : (a : Answer) (o : LowpassOracle) (e : Ell) (answer : List ℕ) (marks : List ℤ) (values : List Float)
@@ -21,12 +22,12 @@ unfolding numbers_after
 state_law a o e answer marks values h₁ h₂ h₃ = rw (h₁, h₂, h₃) refl
 
 -- a refusal leaves the numbers as they were
-module _ (o : LowpassOracle) (e : Ell) (old : RunNumbers) (a : OptimAnswer) where
-  pub run_ended : (d : Answer) (now : RunNumbers) → a ≡ Ended d → now ≡ numbers_after d o e → now ≡ numbers_by a o e old
+module _ (o : LowpassOracle) (e : Ell) (old : RunNumbers) (a : (Result Answer OptimStop)) where
+  pub run_ended : (d : Answer) (now : RunNumbers) → a ≡ Ok d → now ≡ numbers_after d o e → now ≡ numbers_by a o e old
   run_ended d now m h = rw (m, h) refl
 
-  pub run_halted : (d : Answer) (now : RunNumbers) → a ≡ Halted d → now ≡ numbers_after d o e → now ≡ numbers_by a o e old
+  pub run_halted : (d : Answer) (now : RunNumbers) → a ≡ halted d → now ≡ numbers_after d o e → now ≡ numbers_by a o e old
   run_halted d now m h = rw (m, h) refl
 
-  pub run_refused : (why : Refusal) → a ≡ Refused why → old ≡ numbers_by a o e old
+  pub run_refused : (why : Refusal) → a ≡ optim_refused why → old ≡ numbers_by a o e old
   run_refused why m = rw m refl

@@ -1,39 +1,28 @@
 -- A scan told by its parts is the scan told. Assumes nothing.
+use Rattle.numbers.specs.Refusal.{number_of}
+use Rattle.std.specs.Prelude.{Err, Ok, Result}
 use mathlib.Core.Path.{◌≡◌, refl}
-use mathlib.Core.Bool.{Bool, true, false}
 use mathlib.Core.List.{[], ◌∷◌}
 use Prim.Native.Nat.{ℕ}
 use lib.IntN.{ℤ}
 use lib.Ieee.{Float}
 use Rattle.numbers.specs.declared.refusal.Refusal.{Refusal}
-use Rattle.numbers.specs.laws.Pick.{hit, skip}
-use Rattle.oracles.specs.Numbered.{scan_number}
 use Rattle.oracles.specs.declared.round_robin.RoundRobin.{RoundRobin}
-use Rattle.oracles.specs.declared.scan.Violation.{Violation}
-use Rattle.oracles.specs.declared.scan.Violation.TheVariants.{Broken}
 use Rattle.oracles.specs.declared.scan.Scan.{Scan}
-use Rattle.oracles.specs.declared.scan.ScanAnswer.{ScanAnswer}
-use Rattle.oracles.specs.declared.scan.ScanAnswer.TheVariants.{Scanned, Refused}
 use Rattle.ponduvizh.specs.ExportedScan.{ScanNumbers, side_of, row_of, value_of, scan_numbers, scan_numbers_or, scan_end}
-
-pub is_above : (v : Violation) (row : ℕ) (value : Float) (over : Bool) → v ≡ Broken row value over → over ≡ true → ◌≡◌ {A = ℕ} 2 (side_of v)
-is_above v row value over e h = rw e (hit _ _ _ _ h refl)
-
-pub is_below : (v : Violation) (row : ℕ) (value : Float) (over : Bool) → v ≡ Broken row value over → over ≡ false → ◌≡◌ {A = ℕ} 1 (side_of v)
-is_below v row value over e h = rw e (skip _ _ _ _ h refl)
 
 pub scan_law : (s : Scan) (side row : ℕ) (value : Float) (kmax : ℤ) → side ≡ side_of s.viol → row ≡ row_of s.viol → value ≡ value_of s.viol → kmax ≡ s.kmax
     → ◌≡◌ {A = ScanNumbers} (record { found = side ∷ row ∷ []; values = value ∷ s.fmax ∷ []; kmax = kmax }) (scan_numbers s)
 unfolding scan_numbers
 scan_law s side row value kmax a b d e = rw (a, b, d, e) refl
 
-pub was_scanned : (a : ScanAnswer) (s : Scan) (l l' : ScanNumbers) → a ≡ Scanned s → l' ≡ scan_numbers s → l' ≡ scan_numbers_or a l
+pub was_scanned : (a : (Result Scan Refusal)) (s : Scan) (l l' : ScanNumbers) → a ≡ Ok s → l' ≡ scan_numbers s → l' ≡ scan_numbers_or a l
 was_scanned a s l l' m h = rw (m, h) refl
 
-pub was_refused : (a : ScanAnswer) (why : Refusal) (l : ScanNumbers) → a ≡ Refused why → l ≡ scan_numbers_or a l
+pub was_refused : (a : (Result Scan Refusal)) (why : Refusal) (l : ScanNumbers) → a ≡ Err why → l ≡ scan_numbers_or a l
 was_refused a why l m = rw m refl
 
-pub ended_law : (a : ScanAnswer) (rr : RoundRobin) (r : ScanAnswer × RoundRobin) (code : ℕ) (cur : ℤ) (l l' : ScanNumbers) → (a, rr) ≡ r → code ≡ scan_number a → l' ≡ scan_numbers_or a l → cur ≡ rr.cur
+pub ended_law : (a : (Result Scan Refusal)) (rr : RoundRobin) (r : Result Scan Refusal × RoundRobin) (code : ℕ) (cur : ℤ) (l l' : ScanNumbers) → (a, rr) ≡ r → code ≡ number_of a → l' ≡ scan_numbers_or a l → cur ≡ rr.cur
     → ◌≡◌ {A = (ℕ × ScanNumbers) × ℤ} ((code, l'), cur) (scan_end r l)
 unfolding scan_end
 ended_law a rr r code cur l l' d h t e = rw (h, t, e, ← d) refl

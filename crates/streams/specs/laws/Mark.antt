@@ -23,3 +23,8 @@ pub marked_append : (mark : ℕ) (a b : List ℕ) → marked (marked mark a) b �
 unfolding marked
 marked_append mark [] b = refl
 marked_append mark (byte ∷ a) b = marked_append (digit_on mark byte) a b
+
+-- one byte more is one more digit
+pub marked_push : (mark : ℕ) (a : List ℕ) (byte : ℕ) → digit_on (marked mark a) byte ≡ marked mark (a ++ (byte ∷ []))
+unfolding marked
+marked_push mark a byte = marked_append mark a (byte ∷ [])

@@ -1,23 +1,18 @@
 -- `commands::arguments::command_of` meets its contract.
-use Rattle.std.proofs.Common.{Bool, refl, sym, ap, ◌∙◌}
-use Rattle.std.specs.Prelude.{◌&&◌, eqb}
-use Rattle.numbers.specs.laws.Pick.{hit, skip}
-use Rattle.commands.specs.Arguments.{command_of}
+use Rattle.std.proofs.Common.{◌∙◌, rules}
+use Rattle.drivers.specs.Text.{bytes_of}
+use Rattle.commands.specs.laws.Arguments.{asks, by_answer, by_belongs, by_usage}
 use Rattle.commands.proofs.arguments.command_of.Goals as goal
 
-pub returns-then-count-is_word : goal.returns-then-count-is_word
-unfolding command_of
-returns-then-count-is_word c =
-    hit _ _ _ _ (ap (λ (t : Bool). eqb c.args.count 2 && t) (sym c.is_word.ensures) ∙ c.if-count-is_word.true) refl
+pub returns-then-is_answer : goal.returns-then-is_answer
+returns-then-is_answer c = by_answer c.args.count c.args.word.now (asks c.args.count 2 _ _ (bytes_of "answer") _ c.eq.ensures (search rules) ∙ c.if-is_answer.true)
 
-pub returns-then-count-is_word-2 : goal.returns-then-count-is_word-2
-unfolding command_of
-returns-then-count-is_word-2 c =
-    skip _ _ _ _ (ap (λ (t : Bool). eqb c.args.count 2 && t) (sym c.is_word.ensures) ∙ c.if-count-is_word.false)
-    (hit _ _ _ _ (ap (λ (t : Bool). eqb c.args.count 4 && t) (sym c.is_word-2.ensures) ∙ c.if-count-is_word-2.true) refl)
+pub returns-then-is_belongs : goal.returns-then-is_belongs
+returns-then-is_belongs c =
+    by_belongs c.args.count c.args.word.now (asks c.args.count 2 _ _ (bytes_of "answer") _ c.eq.ensures (search rules) ∙ c.if-is_answer.false)
+    (asks c.args.count 4 _ _ (bytes_of "belongs") _ c.eq-2.ensures (search rules) ∙ c.if-is_belongs.true)
 
-pub returns : goal.returns
-unfolding command_of
-returns c =
-    skip _ _ _ _ (ap (λ (t : Bool). eqb c.args.count 2 && t) (sym c.is_word.ensures) ∙ c.if-count-is_word.false)
-    (skip _ _ _ _ (ap (λ (t : Bool). eqb c.args.count 4 && t) (sym c.is_word-2.ensures) ∙ c.if-count-is_word-2.false) refl)
+pub returns-else-is_belongs : goal.returns-else-is_belongs
+returns-else-is_belongs c =
+    by_usage c.args.count c.args.word.now (asks c.args.count 2 _ _ (bytes_of "answer") _ c.eq.ensures (search rules) ∙ c.if-is_answer.false)
+    (asks c.args.count 4 _ _ (bytes_of "belongs") _ c.eq-2.ensures (search rules) ∙ c.if-is_belongs.false)

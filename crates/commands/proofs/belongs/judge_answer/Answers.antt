@@ -1,10 +1,10 @@
 -- `commands::belongs::judge_answer` meets its contract.
-use Rattle.std.proofs.Common.{◌≡◌, ℕ, ◌≤◌, List, length, take, replicate, refl, ap, ◌∙◌, length-take-le, arith}
+use Rattle.std.proofs.Common.{◌≡◌, ℕ, ◌≤◌, List, length, take, replicate, refl, subst, length-take-le, arith, rules}
 use Rattle.std.proofs.lemmas.List.{length-replicate}
 use lib.Ieee.{Float}
 use Rattle.numbers.specs.F64.{0ᶠ}
 use Rattle.drivers.specs.laws.Job.{n_to}
-use Rattle.commands.specs.Output.{handed_over}
+use Rattle.commands.specs.Output.{Writes}
 use Rattle.commands.specs.laws.Taken.{as_answer, answer_taken_is}
 use Rattle.commands.specs.laws.Belongs.{judged_is, refused_judged}
 use Rattle.commands.proofs.belongs.judge_answer.Goals as goal
@@ -23,27 +23,29 @@ in_point n xs h l = omega (arith, in_zeros n h, l)
 front_long : (n : ℕ) (xs : List Float) → n ≤ 32 → length xs ≡ length zeros → length (take n xs) ≡ n
 front_long n xs h l = length-take-le n xs (in_point n xs h l)
 
-pub returns-in-Taken : goal.returns-in-Taken
+pub returns-in-Ok : goal.returns-in-Ok
 unfolding zeros
-returns-in-Taken g c =
-    let a = c.args in
+returns-in-Ok g c =
+    let j = c.args.job in
+    let b = c.args.buffers.now in
     let p = c.requires in
-    let n = a.job.n in
+    let n = j.n in
     let call = c.take_answer-taken in
-    let small = n_to a.job p.0 in
-    let is = answer_taken_is n a.bytes.now zeros a.out.now _ _ _ (as_answer call.ensures c.in-Taken.is) in
+    let small = n_to j p.0 in
+    let is = answer_taken_is n c.args.bytes.now zeros b.out _ _ _ (as_answer call.ensures c.in-Ok.is) in
+    subst (Writes g.W.Write.contents c.args.console.now c.say.new.console)
+    (judged_is j p.0 _ _ _ (length-take-le _ b.table p.1) (length-take-le n b.xc p.2) (front_long n zeros small refl)
+    c.args.bytes.now zeros b.out _ _ _ (in_zeros n small) is (front_long n _ small call.auto.point) _ _ c.belongs.ensures)
     c.say.ensures
-    ∙ ap handed_over
-    (judged_is a.job p.0 _ _ _ (length-take-le _ a.table.now p.1) (length-take-le n a.xc.now p.2) (front_long n zeros small refl)
-    a.bytes.now zeros a.out.now _ _ _ (in_zeros n small) is (front_long n _ small call.auto.point) _ _ c.belongs.ensures)
 
-pub returns-in-Refused : goal.returns-in-Refused
+pub returns-in-Err : goal.returns-in-Err
 unfolding zeros
-returns-in-Refused g c =
-    let a = c.args in
+returns-in-Err g c =
+    let j = c.args.job in
+    let b = c.args.buffers.now in
     let p = c.requires in
-    let n = a.job.n in
+    let n = j.n in
     let call = c.take_answer-taken in
+    subst (Writes g.W.Write.contents c.args.console.now c.hand_text.new.console)
+    (refused_judged j _ _ c.args.bytes.now zeros b.out (in_zeros n (n_to j p.0)) (search rules) _ _ _ (as_answer call.ensures c.in-Err.is))
     c.hand_text.ensures
-    ∙ ap handed_over
-    (refused_judged a.job _ _ a.bytes.now zeros a.out.now (in_zeros n (n_to a.job p.0)) p.3 _ _ _ (as_answer call.ensures c.in-Refused.is))

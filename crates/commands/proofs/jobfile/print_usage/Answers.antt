@@ -1,8 +1,7 @@
 -- `commands::jobfile::print_usage` meets its contract.
-use Rattle.std.proofs.Common.{sym, subst}
-use Rattle.commands.specs.Jobfile.{Wrote, advised}
-use Rattle.commands.specs.declared.arguments.Command.TheVariants.{Usage}
+use Rattle.commands.specs.Output.{usage_written}
+use Rattle.commands.specs.Jobfile.{advised}
 use Rattle.commands.proofs.jobfile.print_usage.Goals as goal
 
 pub returns : goal.returns
-returns g c = subst (Wrote Usage) (sym c.hand.ensures) advised
+returns g c = record { written = usage_written; is_one = advised; writes = c.hand.ensures }

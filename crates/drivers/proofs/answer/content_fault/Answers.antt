@@ -1,13 +1,13 @@
 -- `drivers::answer::content_fault` meets its contract, a fault at a time. Assumes nothing.
-use Rattle.std.specs.Prelude.{is_err}
-use mathlib.Core.Path.{◌≡◌, sym, ◌∙◌}
+use Rattle.std.specs.Prelude.{is_err, Err}
+use mathlib.Core.Path.{◌≡◌, ap, ◌∙◌}
 use mathlib.Core.Bool.{true, false, ◌&&◌}
 use mathlib.Core.List.{List}
 use Prim.Native.Nat.{ℕ}
 use lib.Dec.{ltb}
 use Rattle.numbers.specs.declared.refusal.Refusal.TheVariants.{Room}
 use Rattle.numbers.specs.Refusal.{◌⨾◌, At, Sound, Tests}
-use Rattle.numbers.specs.laws.Refusal.{stops, passes, failed, held}
+use Rattle.numbers.specs.laws.Refusal.{stops, passes, failed, held, exit_same}
 use Rattle.drivers.specs.Record.{fields_of, lengths_fault}
 use Rattle.drivers.specs.Answer.{has_point, point_at, outcome_fault, point_room}
 use Rattle.drivers.specs.laws.Answer.{content_fault, no_room, room_there}
@@ -32,25 +32,27 @@ module _ (n : ℕ) (bytes places : List ℕ) (room : ℕ) (f : Tests) (e : f ≡
       sound : (has_point places && ltb room n) ≡ false → Sound ≡ content_fault n bytes places room
       sound h = answer Sound (passes g _ Sound u (held Room 0 (room_there n bytes places room h)))
 
-pub returns-then-is_err : goal.returns-then-is_err
-returns-then-is_err c =
+pub returns-in_err-lengths_fault : goal.returns-in_err-lengths_fault
+returns-in_err-lengths_fault c =
     let a = c.args in
-    at_lengths a.n a.bytes.now a.places.now a.room _ c.lengths_fault-fault.ensures (sym c.is_err.ensures.value ∙ c.if-is_err.true)
+    exit_same c.from_residual.ensures.1 c.in_err-lengths_fault.was
+    ∙ at_lengths a.n a.bytes.now a.places.now a.room _ c.lengths_fault.ensures (ap is_err c.in_err-lengths_fault.was)
 
-pub returns-then-is_err-2 : goal.returns-then-is_err-2
-returns-then-is_err-2 c =
+pub returns-in_err-outcome_fault : goal.returns-in_err-outcome_fault
+returns-in_err-outcome_fault c =
     let a = c.args in
-    at_outcome a.n a.bytes.now a.places.now a.room _ c.lengths_fault-fault.ensures (sym c.is_err.ensures.value ∙ c.if-is_err.false)
-    _ c.outcome_fault-fault.ensures (sym c.is_err-2.ensures.value ∙ c.if-is_err-2.true)
+    exit_same c.from_residual-in_err-outcome_fault.ensures.1 c.in_err-outcome_fault.was
+    ∙ at_outcome a.n a.bytes.now a.places.now a.room _ c.lengths_fault.ensures (ap is_err c.in_ok-lengths_fault.was)
+    _ c.outcome_fault.ensures (ap is_err c.in_err-outcome_fault.was)
 
 pub returns-then-places-room : goal.returns-then-places-room
 returns-then-places-room c =
     let a = c.args in
-    at_room a.n a.bytes.now a.places.now a.room _ c.lengths_fault-fault.ensures (sym c.is_err.ensures.value ∙ c.if-is_err.false)
-    _ c.outcome_fault-fault.ensures (sym c.is_err-2.ensures.value ∙ c.if-is_err-2.false) c.if-places-room.true
+    ap Err c.from.ensures ∙ at_room a.n a.bytes.now a.places.now a.room _ c.lengths_fault.ensures (ap is_err c.in_ok-lengths_fault.was)
+    _ c.outcome_fault.ensures (ap is_err c.in_ok-outcome_fault.was) c.if-places-room.true
 
 pub returns : goal.returns
 returns c =
     let a = c.args in
-    sound a.n a.bytes.now a.places.now a.room _ c.lengths_fault-fault.ensures (sym c.is_err.ensures.value ∙ c.if-is_err.false)
-    _ c.outcome_fault-fault.ensures (sym c.is_err-2.ensures.value ∙ c.if-is_err-2.false) c.if-places-room.false
+    sound a.n a.bytes.now a.places.now a.room _ c.lengths_fault.ensures (ap is_err c.in_ok-lengths_fault.was)
+    _ c.outcome_fault.ensures (ap is_err c.in_ok-outcome_fault.was) c.if-places-room.false

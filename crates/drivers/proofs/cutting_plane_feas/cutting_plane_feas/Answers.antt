@@ -1,20 +1,20 @@
 -- `drivers::cutting_plane_feas::cutting_plane_feas` meets its contract. Assumes nothing.
 use Rattle.drivers.specs.CuttingPlane.{state_of}
 use Rattle.drivers.proofs.cutting_plane_feas.Answers.{feas_faulty, feas_done}
+use Rattle.std.proofs.Common.{refl}
+use Rattle.numbers.specs.laws.Refusal.{unless_err, unless_ok}
 use Rattle.drivers.proofs.cutting_plane_feas.cutting_plane_feas.Goals as goal
 
 pub returns-in-Err : goal.returns-in-Err
 returns-in-Err c =
     let a = c.args in
-    let k = c.check-fault in
-    let p = feas_faulty a.options a.rows a.table.now (state_of a.oracle a.ell a.mq.now a.xc.now a.grad.now a.grad_t.now) a.x_best.now k.result k.ensures _ _ c.in-Err.is in
+    let p = feas_faulty a.options a.rows a.table.now (state_of a.oracle a.ell a.mq.now a.xc.now a.grad.now a.grad_t.now) a.x_best.now _ refl _ _ (unless_err _ c.check-tested.ensures c.in-Err.is).1 in
     record { answer_and_state = p.0; refused_writes_nothing = p.1 }
 
 pub returns-in-Ok : goal.returns-in-Ok
 returns-in-Ok c =
     let a = c.args in
-    let k = c.check-fault in
     let r = c.run_feas-run in
-    let p = feas_done a.options a.rows a.table.now (state_of a.oracle a.ell a.mq.now a.xc.now a.grad.now a.grad_t.now) a.x_best.now k.result k.ensures c.in-Ok.is
+    let p = feas_done a.options a.rows a.table.now (state_of a.oracle a.ell a.mq.now a.xc.now a.grad.now a.grad_t.now) a.x_best.now _ refl (unless_ok _ c.check-tested.ensures c.in-Ok.is)
     r.result.answer _ r.ensures c.is_found.result c.is_found.ensures _ c.keep.ensures in
     record { answer_and_state = p.0; refused_writes_nothing = p.1 }

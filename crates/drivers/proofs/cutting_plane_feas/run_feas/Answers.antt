@@ -1,5 +1,6 @@
 -- `drivers::cutting_plane_feas::run_feas` meets its contract. Assumes nothing.
-use mathlib.Core.Path.{refl, sym, ◌∙◌}
+use Rattle.std.specs.Prelude.{ℕ, false, Ok}
+use mathlib.Core.Path.{◌≡◌, refl, sym, ◌∙◌}
 use native.Mathlib.Omega.{arith}
 use Rattle.drivers.specs.CuttingPlane.{state_of}
 use Rattle.drivers.specs.CuttingPlaneFeas.{feas_run}
@@ -22,12 +23,6 @@ returns-then-not-goes_on c =
     c.loop-niter-test.true f.ensures (says_no _ _ c.goes_on.ensures (ap not c.if-not-goes_on.true)) _ c.feas_ended.ensures
     ∙ l.invariant.1
 
-pub overflow_add-niter : goal.overflow_add-niter
-overflow_add-niter c = record { fits = omega (arith, c.loop-niter-test.true, c.loop-niter.invariant.0) }
-
-pub loop-niter-smaller : goal.loop-niter-smaller
-loop-niter-smaller c = omega (arith, c.loop-niter-test.true)
-
 pub loop-niter-preserved : goal.loop-niter-preserved
 loop-niter-preserved c =
     let l = c.loop-niter in
@@ -48,5 +43,7 @@ pub returns : goal.returns
 returns c =
     let l = c.loop-niter in
     let a = c.args in
-    sym (feas_out a.rows a.table.now a.options.tolerance a.options.max_iters l.niter (state_of l.oracle l.space l.mq l.xc l.grad l.grad_t) c.loop-niter-test.false)
+    let e : a.options.max_iters ≡ l.niter = omega (arith, c.loop-niter-test.false, l.invariant.0) in
+    ap (λ (k : ℕ). (Ok (record { found = false; steps = k }), state_of l.oracle l.space l.mq l.xc l.grad l.grad_t)) e
+    ∙ sym (feas_out a.rows a.table.now a.options.tolerance a.options.max_iters l.niter (state_of l.oracle l.space l.mq l.xc l.grad l.grad_t) c.loop-niter-test.false)
     ∙ l.invariant.1

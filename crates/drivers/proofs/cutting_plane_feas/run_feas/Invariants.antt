@@ -12,6 +12,3 @@ invariant-loop-niter l =
     × (feas_run l.rows l.table l.options.tolerance (l.options.max_iters - l.niter) l.niter (state_of l.oracle l.space l.mq l.xc l.grad l.grad_t)
     ≡ feas_run l.rows l.table l.options.tolerance l.options.max_iters 0 (state_of l.initial.oracle l.initial.space l.initial.mq l.initial.xc l.initial.grad l.initial.grad_t))
     × (length l.mq ≡ length l.initial.mq) × (length l.xc ≡ length l.initial.xc) × (length l.grad ≡ length l.initial.grad) × (length l.grad_t ≡ length l.initial.grad_t)
-
-abbrev pub decreases-loop-niter : goal.decreases-loop-niter
-decreases-loop-niter l = l.options.max_iters - l.niter

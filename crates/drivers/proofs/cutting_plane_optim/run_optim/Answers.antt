@@ -1,8 +1,9 @@
 -- `drivers::cutting_plane_optim::run_optim` meets its contract. Assumes nothing.
-use mathlib.Core.Path.{refl, sym, ◌∙◌}
+use Rattle.std.specs.Prelude.{ℕ, Ok}
+use mathlib.Core.Path.{◌≡◌, refl, sym, ◌∙◌}
 use mathlib.Core.Bool.{false}
 use native.Mathlib.Omega.{arith}
-use Rattle.drivers.specs.CuttingPlaneOptim.{optim_state_of, optim_run}
+use Rattle.drivers.specs.CuttingPlaneOptim.{optim_state_of, optim_end, optim_run}
 use Rattle.drivers.proofs.cutting_plane.Left.{all_left}
 use Rattle.drivers.proofs.cutting_plane_optim.Runs.{optim_more, optim_ends, optim_out}
 use Rattle.numbers.specs.laws.Pick.{says_no, says_yes}
@@ -32,12 +33,6 @@ returns-then-not-optim_goes_on c =
     c.loop-niter-test.true f.ensures (says_no _ _ c.optim_goes_on.ensures (ap not c.if-not-optim_goes_on.true)) _ c.optim_ended.ensures
     ∙ l.invariant.1)
 
-pub overflow_add-niter : goal.overflow_add-niter
-overflow_add-niter c = record { fits = omega (arith, c.loop-niter-test.true, c.loop-niter.invariant.0) }
-
-pub loop-niter-smaller : goal.loop-niter-smaller
-loop-niter-smaller c = omega (arith, c.loop-niter-test.true)
-
 pub loop-niter-preserved : goal.loop-niter-preserved
 loop-niter-preserved c =
     let l = c.loop-niter in
@@ -59,6 +54,8 @@ pub returns : goal.returns
 returns c =
     let l = c.loop-niter in
     let a = c.args in
+    let e : a.options.max_iters ≡ l.niter = omega (arith, c.loop-niter-test.false, l.invariant.0) in
     rw c.run_of-2.ensures
-    (sym (optim_out a.rows a.table.now a.options.tolerance a.options.max_iters l.niter (optim_state_of l.oracle l.space l.offer l.found l.mq l.xc l.grad l.grad_t l.x_best) c.loop-niter-test.false)
+    (ap (λ (k : ℕ). optim_end (Ok (record { found = l.found; steps = k })) l.oracle l.space l.offer l.mq l.xc l.grad l.grad_t l.x_best) e
+    ∙ sym (optim_out a.rows a.table.now a.options.tolerance a.options.max_iters l.niter (optim_state_of l.oracle l.space l.offer l.found l.mq l.xc l.grad l.grad_t l.x_best) c.loop-niter-test.false)
     ∙ l.invariant.1)

@@ -1,11 +1,11 @@
 -- `drivers::job::content_fault` meets its contract, a fault at a time. Assumes nothing.
 use Rattle.std.specs.Prelude.{is_err}
-use mathlib.Core.Path.{◌≡◌, sym, ◌∙◌}
+use mathlib.Core.Path.{◌≡◌, ap, ◌∙◌}
 use mathlib.Core.Bool.{true, false}
 use mathlib.Core.List.{List}
 use Prim.Native.Nat.{ℕ, ◌≤◌}
 use Rattle.numbers.specs.Refusal.{◌⨾◌, Tests}
-use Rattle.numbers.specs.laws.Refusal.{stops, passes}
+use Rattle.numbers.specs.laws.Refusal.{stops, passes, exit_same}
 use Rattle.drivers.specs.Rules.{n_place}
 use Rattle.drivers.specs.Record.{size_fault, fields_of, half_at, lengths_fault, place}
 use Rattle.drivers.specs.Job.{job_at}
@@ -32,23 +32,24 @@ module _ (bytes places : List ℕ) (f : Tests) (e : f ≡ size_fault n_place 2 b
     behind : is_err g ≡ false → (r : Tests) → r ≡ oracle_fault j places → r ≡ content_fault bytes places
     behind u r h = answer r (passes g _ r u h)
 
-pub returns-then-is_err : goal.returns-then-is_err
-returns-then-is_err c =
+pub returns-in_err-size_fault : goal.returns-in_err-size_fault
+returns-in_err-size_fault c =
     let a = c.args in
-    at_size a.bytes.now a.places.now _ c.size_fault-fault.ensures (sym c.is_err.ensures.value ∙ c.if-is_err.true)
+    exit_same c.from_residual.ensures.1 c.in_err-size_fault.was ∙ at_size a.bytes.now a.places.now _ c.size_fault.ensures (ap is_err c.in_err-size_fault.was)
 
-pub lengths_fault-fault-requires : goal.lengths_fault-fault-requires
-lengths_fault-fault-requires c =
-    n_small _ _ _ c.job_at-job.ensures (size_small n_place 2 _ _ _ c.size_fault-fault.ensures (sym c.is_err.ensures.value ∙ c.if-is_err.false))
+pub lengths_fault-requires : goal.lengths_fault-requires
+lengths_fault-requires c =
+    n_small _ _ _ c.job_at-job.ensures (size_small n_place 2 _ _ _ c.size_fault.ensures (ap is_err c.in_ok-size_fault.was))
 
-pub returns-then-is_err-2 : goal.returns-then-is_err-2
-returns-then-is_err-2 c =
+pub returns-in_err-lengths_fault : goal.returns-in_err-lengths_fault
+returns-in_err-lengths_fault c =
     let a = c.args in
-    at_lengths a.bytes.now a.places.now _ c.size_fault-fault.ensures (sym c.is_err.ensures.value ∙ c.if-is_err.false)
-    _ c.job_at-job.ensures _ c.lengths_fault-fault.ensures (sym c.is_err-2.ensures.value ∙ c.if-is_err-2.true)
+    exit_same c.from_residual-in_err-lengths_fault.ensures.1 c.in_err-lengths_fault.was
+    ∙ at_lengths a.bytes.now a.places.now _ c.size_fault.ensures (ap is_err c.in_ok-size_fault.was)
+    _ c.job_at-job.ensures _ c.lengths_fault.ensures (ap is_err c.in_err-lengths_fault.was)
 
 pub returns : goal.returns
 returns c =
     let a = c.args in
-    behind a.bytes.now a.places.now _ c.size_fault-fault.ensures (sym c.is_err.ensures.value ∙ c.if-is_err.false)
-    _ c.job_at-job.ensures _ c.lengths_fault-fault.ensures (sym c.is_err-2.ensures.value ∙ c.if-is_err-2.false) _ c.oracle_fault.ensures
+    behind a.bytes.now a.places.now _ c.size_fault.ensures (ap is_err c.in_ok-size_fault.was)
+    _ c.job_at-job.ensures _ c.lengths_fault.ensures (ap is_err c.in_ok-lengths_fault.was) _ c.oracle_fault.ensures

@@ -3,7 +3,7 @@ use Rattle.numbers.specs.Refusal.{At, Sound}
 use mathlib.Core.Path.{◌≡◌, sym, ap, ◌∙◌}
 use mathlib.Core.Bool.{Bool, true, false, not, ◌&&◌}
 use mathlib.Core.List.{List}
-use Prim.Native.Nat.{ℕ, ◌<◌, ◌≤◌, ◌+◌, ◌-◌, ◌/◌, ◌%◌}
+use Prim.Native.Nat.{ℕ, ◌<◌, ◌≤◌, ◌+◌, ◌-◌}
 use native.Mathlib.Omega.{arith}
 use borrow.Author.Tests.{lt-ltb, le-ltb, lt-leb, le-leb, not-true, not-false}
 use lib.Dec.{eqb}
@@ -13,12 +13,12 @@ use Rattle.numbers.specs.declared.refusal.Refusal.TheVariants.{CutShort, Foreign
 use Rattle.drivers.specs.Record.{index_at, length_at, place, field_fault}
 use Rattle.drivers.specs.declared.rules.Rule.{Rule}
 use Rattle.drivers.specs.declared.rules.Form.{Form}
-use Rattle.drivers.specs.Rules.{many, rule_at, is_of, index_of}
+use Rattle.drivers.specs.Rules.{has_tag, is_many, rule_at, is_of, index_of}
 use Rattle.drivers.specs.laws.Rules.{is_of_listed}
 use Rattle.drivers.proofs.record.field_fault.Goals as goal
 
 -- a tag by its rule: whether it is of the form, and that it is then in the table
-module _ (bytes : List ℕ) (form : Form) (at i : ℕ) (e : i ≡ index_at bytes at) (r : Rule) (d : r ≡ rule_at i) (t : Bool) (q : t ≡ eqb (r.1 / form.bit % 2) 1) where
+module _ (bytes : List ℕ) (form : Form) (at i : ℕ) (e : i ≡ index_at bytes at) (r : Rule) (d : r ≡ rule_at i) (t : Bool) (q : t ≡ has_tag form r) where
   of_form : t ≡ is_of form (index_at bytes at)
   of_form = q ∙ rw (d, e)
 
@@ -30,7 +30,7 @@ module _ (bytes : List ℕ) (form : Form) (places : List ℕ) (at : ℕ) where
   unfolding field_fault
   no_header h = at_first _ (failed (lt-leb 3 (length bytes - at) h))
 
-  module _ (h : 3 ≤ length bytes - at) (i : ℕ) (e : i ≡ index_at bytes at) (r : Rule) (d : r ≡ rule_at i) (t : Bool) (q : t ≡ eqb (r.1 / form.bit % 2) 1) where
+  module _ (h : 3 ≤ length bytes - at) (i : ℕ) (e : i ≡ index_at bytes at) (r : Rule) (d : r ≡ rule_at i) (t : Bool) (q : t ≡ has_tag form r) where
     known : t ≡ is_of form (index_at bytes at)
     known = of_form bytes form at i e r d t q
 
@@ -38,27 +38,27 @@ module _ (bytes : List ℕ) (form : Form) (places : List ℕ) (at : ℕ) where
     unfolding field_fault
     foreign f = at_next (held _ _ (le-leb 3 (length bytes - at) h)) (at_first _ (failed (sym known ∙ not-true t f)))
 
-    module _ (f : not t ≡ false) where
-      again : (not (eqb (place places i) 0) && not (eqb r.5 many)) ≡ true → At RepeatedTag at ≡ field_fault bytes form places at
+    module _ (f : not t ≡ false) (o : Bool) (m : o ≡ is_many r.often) where
+      again : (not (eqb (place places i) 0) && not o) ≡ true → At RepeatedTag at ≡ field_fault bytes form places at
       unfolding field_fault
       again g =
           at_next (held _ _ (le-leb 3 (length bytes - at) h))
-          (at_next (held _ _ (sym known ∙ not-false t f)) (at_first _ (failed (rw (← e, ← d) (ap not g)))))
+          (at_next (held _ _ (sym known ∙ not-false t f)) (at_first _ (failed (rw (← e, ← d, ← m) (ap not g)))))
 
-      module _ (g : (not (eqb (place places i) 0) && not (eqb r.5 many)) ≡ false) (l : ℕ) (k : l ≡ length_at bytes at) where
+      module _ (g : (not (eqb (place places i) 0) && not o) ≡ false) (l : ℕ) (k : l ≡ length_at bytes at) where
         no_content : length bytes - at - 3 < l → At CutShort at ≡ field_fault bytes form places at
         unfolding field_fault
         no_content x =
             at_next (held _ _ (le-leb 3 (length bytes - at) h))
             (at_next (held _ _ (sym known ∙ not-false t f))
-            (at_next (held _ _ (rw (← e, ← d) (ap not g))) (failed (ap not (lt-ltb (length bytes - at) (3 + length_at bytes at) (omega arith))))))
+            (at_next (held _ _ (rw (← e, ← d, ← m) (ap not g))) (failed (ap not (lt-ltb (length bytes - at) (3 + length_at bytes at) (omega arith))))))
 
         sound : l ≤ length bytes - at - 3 → Sound ≡ field_fault bytes form places at
         unfolding field_fault
         sound x =
             at_next (held _ _ (le-leb 3 (length bytes - at) h))
             (at_next (held _ _ (sym known ∙ not-false t f))
-            (at_next (held _ _ (rw (← e, ← d) (ap not g))) (held _ _ (ap not (le-ltb (length bytes - at) (3 + length_at bytes at) (omega arith))))))
+            (at_next (held _ _ (rw (← e, ← d, ← m) (ap not g))) (held _ _ (ap not (le-ltb (length bytes - at) (3 + length_at bytes at) (omega arith))))))
 
 pub returns-then-not-is_of : goal.returns-then-not-is_of
 returns-then-not-is_of c =
@@ -70,17 +70,17 @@ bounds-places-i c =
 
 pub returns-then-places-i : goal.returns-then-places-i
 returns-then-places-i c =
-    again _ _ _ _ c.if-bytes-at-lt-HEADER.false _ (c.rule_index-i.ensures ∙ ap index_of c.byte_at.ensures) _ c.rule_at-rule.ensures _ c.is_of.ensures (ap not c.if-not-is_of.false) c.if-places-i.true
+    again _ _ _ _ c.if-bytes-at-lt-HEADER.false _ (c.rule_index-i.ensures ∙ ap index_of c.byte_at.ensures) _ c.rule_at-rule.ensures _ c.is_of.ensures (ap not c.if-not-is_of.false) _ c.repeats.ensures c.if-places-i.true
 
 pub returns-then-bytes-at : goal.returns-then-bytes-at
 returns-then-bytes-at c =
     no_content _ _ _ _ c.if-bytes-at-lt-HEADER.false _ (c.rule_index-i.ensures ∙ ap index_of c.byte_at.ensures) _ c.rule_at-rule.ensures _ c.is_of.ensures (ap not c.if-not-is_of.false)
-    c.if-places-i.false _ c.length_at.ensures c.if-bytes-at.true
+    _ c.repeats.ensures c.if-places-i.false _ c.length_at.ensures c.if-bytes-at.true
 
 pub returns : goal.returns
 returns c =
     sound _ _ _ _ c.if-bytes-at-lt-HEADER.false _ (c.rule_index-i.ensures ∙ ap index_of c.byte_at.ensures) _ c.rule_at-rule.ensures _ c.is_of.ensures (ap not c.if-not-is_of.false)
-    c.if-places-i.false _ c.length_at.ensures c.if-bytes-at.false
+    _ c.repeats.ensures c.if-places-i.false _ c.length_at.ensures c.if-bytes-at.false
 
 pub returns-then-bytes-at-lt-HEADER : goal.returns-then-bytes-at-lt-HEADER
 returns-then-bytes-at-lt-HEADER c = no_header _ _ _ _ c.if-bytes-at-lt-HEADER.true

@@ -1,13 +1,8 @@
--- What the loop of `drivers::record::lengths_fault` keeps: at each turn what is left computes the answer.
-use mathlib.Core.Path.{◌≡◌}
-use Prim.Native.Nat.{◌-◌}
-use lib.ListN.{length}
+-- What the loop of `drivers::record::lengths_fault` keeps: the fields that are left give the answer.
+use Rattle.std.specs.Prelude.{◌≡◌}
 use Rattle.drivers.specs.Record.{fields_of, lengths_fault}
 use Rattle.drivers.specs.laws.Record.{fields_after}
 use Rattle.drivers.proofs.record.lengths_fault.Given as goal
 
 abbrev pub invariant-loop-at : goal.invariant-loop-at
-invariant-loop-at l = lengths_fault l.n l.bytes (fields_after l.bytes l.at) ≡ lengths_fault l.n l.bytes (fields_of l.bytes)
-
-abbrev pub decreases-loop-at : goal.decreases-loop-at
-decreases-loop-at l = length l.bytes - l.at
+invariant-loop-at l = lengths_fault l.n l.bytes (fields_after l.at-iterator.bytes.now l.at-iterator.at) ≡ lengths_fault l.n l.bytes (fields_of l.bytes)

@@ -9,7 +9,7 @@ use Rattle.drivers.specs.laws.Rules.{rule_small}
 use borrow.Author.Rules.{rules}
 use Rattle.drivers.proofs.rules.rule_length.Goals as goal
 
-small : (i : ℕ) (r : Rule) → r ≡ rule_at i → (r.2 ≤ 24) × (r.3 ≤ 8) × (r.4 ≤ 2)
+small : (i : ℕ) (r : Rule) → r ≡ rule_at i → (r.base ≤ 24) × (r.factor ≤ 8) × (r.power ≤ 2)
 small i r e = rw e (rule_small i)
 
 product : (f p n k : ℕ) → p ≡ n ^ k → f ≤ 8 → n ≤ 32 → k ≤ 2 → f * p ≤ 8192
@@ -20,20 +20,20 @@ product f p n k e a b d =
     let s : f * p ≤ 8 * 1024 = mul-le-mul a t in
     omega arith
 
-is : (i n p : ℕ) (r : Rule) → r ≡ rule_at i → p ≡ n ^ r.4 → r.2 + r.3 * p ≡ rule_length i n
+is : (i n p : ℕ) (r : Rule) → r ≡ rule_at i → p ≡ n ^ r.power → r.base + r.factor * p ≡ rule_length i n
 unfolding rule_length
 is i n p r e d = rw (d, e)
 
 pub overflow_mul-result : goal.overflow_mul-result
 overflow_mul-result c =
     let s = small _ _ c.rule_at-rule.ensures in
-    let p = product c.rule_at-rule.result.3 c.power.result c.args.n c.rule_at-rule.result.4 c.power.ensures s.1 c.requires s.2 in
+    let p = product c.rule_at-rule.result.factor c.power.result c.args.n c.rule_at-rule.result.power c.power.ensures s.1 c.requires s.2 in
     record { fits = omega arith }
 
 pub overflow_add-result : goal.overflow_add-result
 overflow_add-result c =
     let s = small _ _ c.rule_at-rule.ensures in
-    let p = product c.rule_at-rule.result.3 c.power.result c.args.n c.rule_at-rule.result.4 c.power.ensures s.1 c.requires s.2 in
+    let p = product c.rule_at-rule.result.factor c.power.result c.args.n c.rule_at-rule.result.power c.power.ensures s.1 c.requires s.2 in
     record { fits = omega arith }
 
 pub returns : goal.returns

@@ -2,12 +2,8 @@
 use Rattle.drivers.specs.laws.Text.{put_none}
 use Rattle.drivers.proofs.trace.put_step.Goals as goal
 
-pub returns-in-Cut : goal.returns-in-Cut
-returns-in-Cut c =
-    rw c.in-Cut.is c.put_cut.ensures
+pub returns-in-Err : goal.returns-in-Err
+returns-in-Err c = rw c.in-Err.is (put_none _ _)
 
-pub returns-in-Feasible : goal.returns-in-Feasible
-returns-in-Feasible c = rw c.in-Feasible.is (put_none _ _)
-
-pub returns-in-Refused : goal.returns-in-Refused
-returns-in-Refused c = rw c.in-Refused.is (put_none _ _)
+pub returns-in-None : goal.returns-in-None
+returns-in-None c = rw (c.in-Ok.is, c.in-None.is) (put_none _ _)

@@ -9,5 +9,5 @@ returns-then-s-len c = fill_out c.args.s.now _ _ _ _ (search rules)
 pub returns-then-given : goal.returns-then-given
 returns-then-given c = fill_given c.args.s.now _ _ _ _ _ (search rules) c.if-given.true c.floats.ensures
 
-pub returns : goal.returns
-returns c = fill_zeros c.args.s.now _ _ _ _ _ (search rules) c.if-given.false (c.fill.ensures.after (λ y e. e))
+pub returns-else-given : goal.returns-else-given
+returns-else-given c = fill_zeros c.args.s.now _ _ _ _ _ (search rules) c.if-given.false (c.fill.ensures.after (λ y e. e))

@@ -1,13 +1,9 @@
 -- `lists::signed::signed` meets its contract.
-use Rattle.std.proofs.Common.{rules, arith}
-use Rattle.lists.proofs.signed.Laws.{signed_low, signed_none, signed_high}
+use Rattle.std.proofs.Common.{◌∙◌, to_z-of_z, w32, w64}
+use Rattle.lists.proofs.signed.Laws.{value_of_word}
 use Rattle.lists.proofs.signed.signed.Goals as goal
 
-pub returns-then-w-lt2147483648 : goal.returns-then-w-lt2147483648
-returns-then-w-lt2147483648 c = signed_low c.args.w (search rules)
-
-pub returns-then-w-lt18446744071562067968 : goal.returns-then-w-lt18446744071562067968
-returns-then-w-lt18446744071562067968 c = signed_none c.args.w (search rules) (search rules)
-
 pub returns : goal.returns
-returns c = signed_high c.args.w (search rules) (omega arith)
+returns c =
+    to_z-of_z {w = w32} (record { sfits = c.unwrap_or.type_inv }) ∙ c.unwrap_or.ensures
+    ∙ value_of_word c.try_from.result c.args.w c.ranges.w.fits (rw (to_z-of_z {w = w64} (record { sfits = c.cast_signed.type_inv }), c.cast_signed.ensures) at c.try_from.ensures)

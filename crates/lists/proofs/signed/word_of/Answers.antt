@@ -1,9 +1,9 @@
 -- `lists::signed::word_of` meets its contract.
-use Rattle.lists.proofs.signed.Laws.{flip_word, read_word}
+use Rattle.std.proofs.Common.{to_z-of_z, ◌∙◌, w64, w32}
+use Rattle.lists.proofs.signed.Laws.{word_of_value, wider}
 use Rattle.lists.proofs.signed.word_of.Goals as goal
 
-pub returns-then-i-lt0 : goal.returns-then-i-lt0
-returns-then-i-lt0 c = flip_word c.args.i c.ranges.i c.if-i-lt0.true
-
 pub returns : goal.returns
-returns c = read_word c.args.i c.ranges.i c.if-i-lt0.false
+returns c =
+    let e = c.from.ensures ∙ to_z-of_z {w = w32} c.ranges.i in
+    c.cast_unsigned.ensures ∙ rw (e, to_z-of_z {w = w64} (wider c.args.i c.ranges.i)) (word_of_value c.args.i c.ranges.i)

@@ -1,24 +1,15 @@
 -- `lists::tally::compare` meets its contract.
-use Rattle.lists.proofs.tally.Laws.{word_differs, count_differs, all_agree, refused_differs, unfit_differs, unknown_known}
+use Rattle.lists.proofs.tally.Laws.{word_differs, all_agree, count_differs, no_words}
 use Rattle.lists.proofs.tally.compare.Goals as goal
 
-pub returns-then-k-both : goal.returns-then-k-both
-returns-then-k-both c =
-    word_differs c.args.outs _ _ _ _ _ _ c.in-Words.is c.shorter-both.ensures c.first_difference-k.ensures c.if-k-both.true
+pub returns-in-Some : goal.returns-in-Some
+returns-in-Some c = word_differs c.args.outs _ _ _ _ _ _ c.in-Ok.is c.min-both.ensures c.first_difference.ensures _ c.in-Some.is
 
-pub returns-then-n-outs : goal.returns-then-n-outs
-returns-then-n-outs c =
-    count_differs c.args.outs _ _ _ _ _ _ c.in-Words.is c.shorter-both.ensures c.first_difference-k.ensures c.if-k-both.false c.if-n-outs.true
+pub returns-in-None : goal.returns-in-None
+returns-in-None c = all_agree c.args.outs _ _ _ _ _ _ c.in-Ok.is c.min-both.ensures c.first_difference.ensures c.in-None.is c.if-n-outs.true
 
-pub returns-else-n-outs : goal.returns-else-n-outs
-returns-else-n-outs c =
-    all_agree c.args.outs _ _ _ _ _ _ c.in-Words.is c.shorter-both.ensures c.first_difference-k.ensures c.if-k-both.false c.if-n-outs.false
+pub returns-in-None-2 : goal.returns-in-None-2
+returns-in-None-2 c = count_differs c.args.outs _ _ _ _ _ _ c.in-Ok.is c.min-both.ensures c.first_difference.ensures c.in-None.is c.if-n-outs.false
 
-pub returns-in-Refused : goal.returns-in-Refused
-returns-in-Refused c = refused_differs _ _ _ _ _ c.in-Refused.is
-
-pub returns-in-Unfit : goal.returns-in-Unfit
-returns-in-Unfit c = unfit_differs _ _ _ _ c.in-Unfit.is
-
-pub returns-in-Unknown : goal.returns-in-Unknown
-returns-in-Unknown c = unknown_known _ _ _ _ c.in-Unknown.is
+pub returns-in-Err : goal.returns-in-Err
+returns-in-Err c = no_words _ _ _ _ _ _ c.in-Err.is c.verdict.ensures

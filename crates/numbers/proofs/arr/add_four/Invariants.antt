@@ -1,7 +1,6 @@
 -- What the loop of `numbers::arr::add_four` keeps: of each row, what is left to add, begun at the sum so far, gives the answer.
 use mathlib.Core.Path.{◌≡◌}
-use Prim.Native.Nat.{◌-◌}
-use lib.ListN.{length, drop}
+use lib.ListN.{drop}
 use Rattle.numbers.specs.Arr.{dot_from}
 use Rattle.numbers.proofs.arr.add_four.Given as goal
 

@@ -1,15 +1,16 @@
 -- `numbers::arr::dot_zip` meets its contract. Assumes nothing.
-use mathlib.Core.Path.{◌∙◌}
-use borrow.Author.Rules.{rules}
-use Rattle.numbers.proofs.arr.Laws.{none, first_on}
+use Rattle.std.proofs.Common.{◌∙◌, arith}
+use Rattle.numbers.specs.Arr.{dot_of}
+use Rattle.numbers.specs.laws.Arr.{folded}
+use Rattle.numbers.proofs.arr.Laws.{none}
 use Rattle.numbers.proofs.arr.dot_zip.Goals as goal
 
-pub returns-then-shorter-eq0 : goal.returns-then-shorter-eq0
-returns-then-shorter-eq0 c =
-    let a = c.args in
-    none a.a.now a.b.now (search rules)
+pub returns-in_default : goal.returns-in_default
+returns-in_default c = none c.args.a.now c.args.b.now (omega (arith, c.in_default.ensures.cases))
+
+pub returns-in_default-split_first : goal.returns-in_default-split_first
+returns-in_default-split_first c = none c.args.a.now c.args.b.now (omega (arith, c.in_default-split_first.ensures.cases))
 
 pub returns : goal.returns
-returns c =
-    let a = c.args in
-    c.add_products.ensures ∙ first_on a.a.now a.b.now (search rules) (search rules)
+unfolding dot_of
+returns c = rw (c.in-Some.ensures.cases.0, c.in-Some-split_first.ensures.cases.0) (c.add_products.ensures ∙ folded _ _ _)

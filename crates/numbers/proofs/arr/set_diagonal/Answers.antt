@@ -1,7 +1,7 @@
 -- `numbers::arr::set_diagonal` meets its contract. Assumes nothing.
 use Rattle.std.proofs.Common.{refl, rules}
 use Rattle.numbers.specs.Arr.{set_diag}
-use Rattle.numbers.proofs.arr.Laws.{diagonal_turn, diagonal_done}
+use Rattle.numbers.proofs.arr.Laws.{diagonal_turn}
 use Rattle.numbers.proofs.arr.set_diagonal.Goals as goal
 
 pub loop-i-init : goal.loop-i-init

@@ -1,6 +1,5 @@
 -- What the loop of `numbers::arr::set_diagonal` keeps: the entries (k, k) with k below i are set.
 use mathlib.Core.Path.{◌≡◌}
-use Prim.Native.Nat.{◌≤◌, ◌-◌}
 use lib.ListN.{length}
 use Rattle.numbers.specs.Arr.{set_diag}
 use Rattle.numbers.proofs.arr.set_diagonal.Given as goal

@@ -1,26 +1,26 @@
 -- `numbers::bits::le_number` meets its contract.
-use mathlib.Core.Path.{refl}
-use native.Mathlib.Omega.{arith}
+use Rattle.std.proofs.Common.{refl, arith, ◌-◌, ◌<◌, get_or}
 use Rattle.numbers.proofs.bits.Laws.{read_none, read_turn, read_all}
-use borrow.Author.Rules.{rules}
 use Rattle.numbers.proofs.bits.le_number.Goals as goal
 
 pub overflow_mul-w : goal.overflow_mul-w
 overflow_mul-w c =
-    let a = read_turn _ c.loop-i.w c.loop-i.i _ (search rules) (search rules) c.loop-i.invariant refl (search rules) in
-    record { fits = omega (arith, a.1) }
+    let l = c.loop-i in
+    let a = read_turn _ l.w l.i _ c.requires c.loop-i-test.true l.invariant refl (let h : get_or c.args.bytes.now (l.i - 1) 0 < 256 = omega (arith, c.type_inv.bytes (l.i - 1)) in h) in
+    omega (arith, a.1)
 
 pub overflow_add-w : goal.overflow_add-w
 overflow_add-w c =
-    let a = read_turn _ c.loop-i.w c.loop-i.i c.wide.result (search rules) (search rules) c.loop-i.invariant c.wide.ensures (omega arith) in
-    record { fits = a.1 }
+    let l = c.loop-i in
+    record { fits = (read_turn _ l.w l.i c.from.result c.requires c.loop-i-test.true l.invariant c.from.ensures (let h : get_or c.args.bytes.now (l.i - 1) 0 < 256 = omega (arith, c.type_inv.bytes (l.i - 1)) in h)).1 }
 
 pub loop-i-preserved : goal.loop-i-preserved
 loop-i-preserved c =
-    (read_turn _ c.loop-i.w c.loop-i.i c.wide.result (search rules) (search rules) c.loop-i.invariant c.wide.ensures (omega arith)).0
+    let l = c.loop-i in
+    (read_turn _ l.w l.i c.from.result c.requires c.loop-i-test.true l.invariant c.from.ensures (let h : get_or c.args.bytes.now (l.i - 1) 0 < 256 = omega (arith, c.type_inv.bytes (l.i - 1)) in h)).0
 
 pub returns : goal.returns
-returns c = read_all _ _ c.loop-i.i (search rules) c.loop-i.invariant
+returns c = read_all _ _ c.loop-i.i c.loop-i-test.false c.loop-i.invariant
 
 pub loop-i-init : goal.loop-i-init
 loop-i-init c = read_none _

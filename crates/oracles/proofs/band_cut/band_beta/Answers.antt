@@ -7,12 +7,9 @@ use Rattle.oracles.proofs.band_cut.band_beta.Goals as goal
 pub returns-then-is_over : goal.returns-then-is_over
 returns-then-is_over c =
     let a = c.args in
-    hit a.is_over _ _ _ c.if-is_over.true refl ∙ sym (ap (band_beta a.value a.is_over a.lower) c.in-Limit.is)
+    hit a.is_over _ _ _ c.if-is_over.true refl ∙ sym (ap (band_beta a.value a.is_over a.lower) c.in-Some.is)
 
-pub returns-in-Absent : goal.returns-in-Absent
-returns-in-Absent c = let a = c.args in sym (ap (band_beta a.value a.is_over a.lower) c.in-Absent.is)
-
-pub returns-else-is_over : goal.returns-else-is_over
-returns-else-is_over c =
+pub returns : goal.returns
+returns c =
     let a = c.args in
-    skip a.is_over _ _ _ c.if-is_over.false refl ∙ sym (ap (band_beta a.value a.is_over a.lower) c.in-Limit.is)
+    skip a.is_over _ _ _ c.if-is_over.false refl ∙ sym (ap (band_beta a.value a.is_over a.lower) c.in-Some.is)

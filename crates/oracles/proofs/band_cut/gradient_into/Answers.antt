@@ -1,18 +1,12 @@
 -- `oracles::band_cut::gradient_into` meets its contract. Assumes nothing.
-use Rattle.numbers.specs.declared.refusal.Refusal.{Refusal}
-use Rattle.std.specs.Prelude.{Result, ⊤}
-use mathlib.Core.Path.{◌≡◌, refl, sym, ap, ◌∙◌}
-use mathlib.Core.Bool.{Bool, true, false, ◌&&◌}
+use mathlib.Core.Path.{◌≡◌}
+use mathlib.Core.Bool.{Bool, true, false}
 use mathlib.Core.List.{List, map}
-use Prim.Native.Nat.{ℕ, ◌≤◌, ◌+◌, ◌-◌, ◌*◌}
+use Prim.Native.Nat.{ℕ, ◌+◌, ◌-◌, ◌*◌}
 use native.Mathlib.Omega.{arith}
-use borrow.Author.Tests.{le-leb, eq-eqb}
-use lib.Dec.{eqb}
-use lib.ListN.{length, take, drop, length-drop}
-use lib.Seq.{length-take-le}
+use lib.ListN.{take, drop}
 use lib.Ieee.{Float, neg}
-use Rattle.numbers.specs.Arr.{is_dimension, row_of, copy_from_tests, copy_from_answer}
-use Rattle.numbers.specs.laws.Refusal.{held, at_next, accepts}
+use Rattle.numbers.specs.Arr.{row_of}
 use Rattle.numbers.specs.laws.Pick.{hit, skip}
 use Rattle.oracles.specs.Scan.{band_gradient}
 use Rattle.oracles.proofs.band_cut.gradient_into.Goals as goal
@@ -32,9 +26,9 @@ negated n row over table grad' e o = skip over _ _ _ o (rw (row_is n row table) 
 pub returns-then-is_over : goal.returns-then-is_over
 returns-then-is_over c =
     let a = c.args in
-    copied a.n a.row a.is_over a.table.now _ c.copy_from_slice.ensures.after c.if-is_over.true
+    copied a.rows.n a.row a.is_over a.rows.table.now _ c.copy_from_slice.ensures.after c.if-is_over.true
 
 pub returns-else-is_over : goal.returns-else-is_over
 returns-else-is_over c =
     let a = c.args in
-    negated a.n a.row a.is_over a.table.now _ c.negate_into.ensures c.if-is_over.false
+    negated a.rows.n a.row a.is_over a.rows.table.now _ c.negate_into.ensures c.if-is_over.false

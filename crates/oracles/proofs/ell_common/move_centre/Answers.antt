@@ -7,15 +7,15 @@ use Rattle.oracles.specs.laws.Loop.{sweep_zero, sweep_turn, sweep_left, sweep_do
 use Rattle.oracles.proofs.ell_common.move_centre.Goals as goal
 
 pub loop-i-init : goal.loop-i-init
-loop-i-init c = (search rules, sweep_zero _ _ _ refl)
+loop-i-init c = sweep_zero _ _ _ refl
 
 pub loop-i-preserved : goal.loop-i-preserved
 loop-i-preserved c =
     let l = c.loop-i in
-    (search rules, sweep_turn _ _ _ l.i l.xc l.invariant.1 _ (search rules) (rw (sweep_left _ _ _ l.i l.xc l.invariant.1 l.i (omega arith) (search rules))))
+    sweep_turn _ _ _ l.i l.xc l.invariant _ (search rules) (rw (sweep_left _ _ _ l.i l.xc l.invariant l.i (omega arith) (search rules)))
 
 pub returns : goal.returns
 unfolding centre_of
 returns c =
     let l = c.loop-i in
-    sweep_done _ _ _ l.i l.xc l.invariant.1 (λ k b g. absurd (omega arith))
+    sweep_done _ _ _ l.i l.xc l.invariant (λ k b g. absurd (omega arith))

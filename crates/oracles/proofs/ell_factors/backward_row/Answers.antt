@@ -1,8 +1,6 @@
 -- `oracles::ell_factors::backward_row` meets its contract. Assumes nothing.
-use mathlib.Core.Path.{ap}
 use borrow.Author.Rules.{rules}
-use lib.ListN.{set}
-use Rattle.oracles.specs.laws.Matrix.{from_start, from_turn, from_done}
+use Rattle.oracles.specs.laws.Matrix.{from_start, from_turn}
 use Rattle.oracles.proofs.ell_factors.backward_row.Goals as goal
 
 pub loop-j-init : goal.loop-j-init
@@ -10,9 +8,3 @@ loop-j-init c = from_start _ _ _ _ _ (search rules)
 
 pub loop-j-preserved : goal.loop-j-preserved
 loop-j-preserved c = let l = c.loop-j in from_turn _ _ _ _ _ l.s l.j _ l.invariant (search rules) (rw c.at.ensures)
-
-pub returns : goal.returns
-returns c =
-    let l = c.loop-j in
-    let a = c.args in
-    ap (set a.q.now a.i) (from_done _ _ _ _ _ l.s l.j l.invariant (search rules))

@@ -10,14 +10,14 @@ use Rattle.oracles.proofs.ell_factors.omega_into.Goals as goal
 
 pub loop-i-init : goal.loop-i-init
 unfolding total
-loop-i-init c = (search rules, sweep_zero _ _ _ refl, refl)
+loop-i-init c = (sweep_zero _ _ _ refl, refl)
 
 pub loop-i-preserved : goal.loop-i-preserved
 loop-i-preserved c =
     let l = c.loop-i in
-    (search rules, sweep_turn _ _ _ l.i l.gg l.invariant.1 _ (search rules) refl, total_turn ◌⊕◌ 0ᶠ _ l.i _ _ l.invariant.2 refl)
+    (sweep_turn _ _ _ l.i l.gg l.invariant.0 _ (search rules) refl, total_turn ◌⊕◌ 0ᶠ _ l.i _ _ l.invariant.1 refl)
 
 pub returns : goal.returns
 returns c =
     let l = c.loop-i in
-    (total_at ◌⊕◌ 0ᶠ _ _ _ _ l.invariant.2 (search rules), sweep_done _ _ _ l.i l.gg l.invariant.1 (λ k b g. absurd (omega arith)))
+    (total_at ◌⊕◌ 0ᶠ _ _ _ _ l.invariant.1 (search rules), sweep_done _ _ _ l.i l.gg l.invariant.0 (λ k b g. absurd (omega arith)))

@@ -10,17 +10,14 @@ use Rattle.oracles.specs.laws.EllStable.{column_taken}
 use Rattle.oracles.proofs.ell_factors.take_column.Goals as goal
 
 pub loop-l-init : goal.loop-l-init
-loop-l-init c = (search rules, sweep_start _ _ _ _ _ (search rules) (λ k b. refl) (λ k b. skip (ltb _ k) _ _ _ (le-ltb _ k (omega (arith, b))) refl))
+loop-l-init c = sweep_start _ _ _ _ _ (search rules) (λ k b. refl) (λ k b. skip (ltb _ k) _ _ _ (le-ltb _ k (omega (arith, b))) refl)
 
 pub loop-l-preserved : goal.loop-l-preserved
 loop-l-preserved c =
     let l = c.loop-l in
-    let a = c.args in (
-      search rules,
-      sweep_turn _ _ _ l.l l.v l.invariant.1 _ (search rules)
-          (hit (ltb a.j l.l) _ _ _ (lt-ltb a.j l.l (search rules)) (rw (c.at.ensures, sweep_left _ _ _ l.l l.v l.invariant.1 l.l (omega arith) (search rules)))),
-    )
+    let a = c.args in sweep_turn _ _ _ l.l l.v l.invariant _ (search rules)
+    (hit (ltb a.j l.l) _ _ _ (lt-ltb a.j l.l (search rules)) (rw (c.at.ensures, sweep_left _ _ _ l.l l.v l.invariant l.l (omega arith) (search rules))))
 
 pub returns : goal.returns
 unfolding column_taken
-returns c = let l = c.loop-l in sweep_done _ _ _ l.l l.v l.invariant.1 (λ k b g. absurd (omega arith))
+returns c = let l = c.loop-l in sweep_done _ _ _ l.l l.v l.invariant (λ k b g. absurd (omega arith))

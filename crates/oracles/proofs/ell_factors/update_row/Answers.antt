@@ -11,19 +11,16 @@ use Rattle.numbers.specs.laws.Pick.{hit, skip}
 use Rattle.oracles.proofs.ell_factors.update_row.Goals as goal
 
 pub loop-l-init : goal.loop-l-init
-loop-l-init c = (search rules, sweep_start _ _ _ 1 _ (rw length-set (search rules)) (λ k b. refl) (λ k b. hit (eqb k 0) _ _ _ (eq-eqb k 0 (omega (arith, b))) refl))
+loop-l-init c = sweep_start _ _ _ 1 _ (rw length-set (search rules)) (λ k b. refl) (λ k b. hit (eqb k 0) _ _ _ (eq-eqb k 0 (omega (arith, b))) refl)
 
 pub loop-l-preserved : goal.loop-l-preserved
 loop-l-preserved c =
-    let l = c.loop-l in (
-      search rules,
-      sweep_turn _ _ _ l.l l.row l.invariant.1 _ (search rules)
-          (skip (eqb l.l 0) _ _ _ (ne_eqb l.l 0 (λ q. absurd (omega (arith, q)))) (rw (sweep_left _ _ _ l.l l.row l.invariant.1 l.l (omega arith) (search rules)))),
-    )
+    let l = c.loop-l in sweep_turn _ _ _ l.l l.row l.invariant _ (search rules)
+    (skip (eqb l.l 0) _ _ _ (ne_eqb l.l 0 (λ q. absurd (omega (arith, q)))) (rw (sweep_left _ _ _ l.l l.row l.invariant l.l (omega arith) (search rules))))
 
 pub returns : goal.returns
 returns c =
     let l = c.loop-l in
     let a = c.args in
-    sweep_done _ _ _ l.l l.row l.invariant.1 (λ k b g. absurd (omega arith))
+    sweep_done _ _ _ l.l l.row l.invariant (λ k b g. absurd (omega arith))
     ∙ row_done a.row.now a.ratio a.beta2 a.v.now (search rules) (search rules)

@@ -2,15 +2,8 @@
 use mathlib.Core.Path.{◌≡◌}
 use borrow.Author.Rules.{rules}
 use lib.ListN.{length}
-use Rattle.numbers.specs.laws.Arr.{dimension_most}
 use Rattle.oracles.proofs.ell_stable.Laws.{prepare_done}
 use Rattle.oracles.proofs.ell_stable.prepare.Goals as goal
-
-pub forward-requires : goal.forward-requires
-forward-requires c = (dimension_most _ c.requires.0, search rules, search rules, search rules)
-
-pub scale_into-requires : goal.scale_into-requires
-scale_into-requires c = (dimension_most _ c.requires.0, search rules, search rules, search rules)
 
 pub returns : goal.returns
 returns c =

@@ -1,15 +1,6 @@
 -- `oracles::ell_stable::succeed` meets its contract. Assumes nothing.
-use borrow.Author.Rules.{rules}
-use Rattle.numbers.specs.laws.Arr.{dimension_most}
-use Rattle.oracles.proofs.ell_common.Laws.{dimension_least}
 use Rattle.oracles.proofs.ell_stable.Laws.{succeed_done}
 use Rattle.oracles.proofs.ell_stable.succeed.Goals as goal
-
-pub backward-requires : goal.backward-requires
-backward-requires c = (dimension_least _ c.requires.0, dimension_most _ c.requires.0, search rules, search rules)
-
-pub rank_one-requires : goal.rank_one-requires
-rank_one-requires c = (dimension_most _ c.requires.0, search rules, search rules, search rules)
 
 pub returns : goal.returns
 returns c =

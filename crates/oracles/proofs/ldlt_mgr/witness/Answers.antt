@@ -1,56 +1,25 @@
 -- `oracles::ldlt_mgr::witness` meets its contract. Assumes nothing.
-use mathlib.Core.Path.{refl}
-use native.Mathlib.Nat.{mul-le-mul}
-use native.Mathlib.Omega.{arith}
-use borrow.Author.Tests.{le-ltb, lt-ltb, le-leb, lt-leb, eq-eqb, ne_eqb}
-use borrow.Author.Rules.{rules}
-use Rattle.numbers.specs.laws.Pick.{says_no, says_yes}
-use Rattle.numbers.specs.laws.Refusal.{failed, held, at_first, at_next, refuses, accepts}
-use Rattle.oracles.proofs.ldlt_mgr.Laws.{order_most}
-use Rattle.std.proofs.Math.Path.{ap}
-use Rattle.std.proofs.Math.Bool.{not}
+use Rattle.std.proofs.Common.{refl}
+use Rattle.numbers.specs.laws.Refusal.{at_first, at_next, asked_fault, asked_sound, exits, accepts}
 use Rattle.oracles.proofs.ldlt_mgr.witness.Goals as goal
 
-pub returns-then-not-is_order : goal.returns-then-not-is_order
-returns-then-not-is_order c = refuses _ _ _ (at_first _ (at_first _ (failed (says_no _ _ c.is_order.ensures (ap not c.if-not-is_order.true))))) refl
+pub returns-in_err-order : goal.returns-in_err-order
+returns-in_err-order c = exits (λ r. (r, c.args.wit.now)) _ _ c.from_residual.ensures.1 (at_first _ (at_first _ (asked_fault _ _ c.order.ensures.value c.in_err-order.was)))
 
-pub overflow_mul-m : goal.overflow_mul-m
-overflow_mul-m c =
-    let h = order_most c.args.m _ c.is_order.ensures (ap not c.if-not-is_order.false) in
-    omega (arith, mul-le-mul h h)
+pub returns-in_err-lengths : goal.returns-in_err-lengths
+returns-in_err-lengths c =
+    exits (λ r. (r, c.args.wit.now)) _ _ c.from_residual-in_err-lengths.ensures.1
+    (at_first _ (at_next (asked_sound _ _ c.order.ensures.value c.in_ok-order.was) (asked_fault _ _ c.lengths.ensures.value c.in_err-lengths.was)))
 
-pub returns-then-storage-m : goal.returns-then-storage-m
-returns-then-storage-m c = refuses _ _ _ (at_first _ (at_next (held _ _ (says_yes _ _ c.is_order.ensures (ap not c.if-not-is_order.false))) (failed (rw (ne_eqb _ _ c.if-storage-m.true))))) refl
-
-pub returns-then-wit-m : goal.returns-then-wit-m
-returns-then-wit-m c =
-    refuses _ _ _ (at_first _ (at_next (held _ _ (says_yes _ _ c.is_order.ensures (ap not c.if-not-is_order.false))) (failed (rw (eq-eqb _ _ c.if-storage-m.false, ne_eqb _ _ c.if-wit-m.true))))) refl
-
-pub returns-then-pos : goal.returns-then-pos
-returns-then-pos c =
-    refuses _ _ _
-    (at_next (at_next (held _ _ (says_yes _ _ c.is_order.ensures (ap not c.if-not-is_order.false))) (held _ _ (rw (eq-eqb _ _ c.if-storage-m.false, eq-eqb _ _ c.if-wit-m.false))))
-    (failed (rw (le-ltb _ _ c.if-pos.true))))
-    refl
-
-pub returns-then-pos-m : goal.returns-then-pos-m
-returns-then-pos-m c =
-    refuses _ _ _
-    (at_next (at_next (held _ _ (says_yes _ _ c.is_order.ensures (ap not c.if-not-is_order.false))) (held _ _ (rw (eq-eqb _ _ c.if-storage-m.false, eq-eqb _ _ c.if-wit-m.false))))
-    (failed (rw (lt-ltb _ _ c.if-pos.false, lt-leb _ _ c.if-pos-m.true))))
-    refl
-
-pub witness_into-requires : goal.witness_into-requires
-witness_into-requires c =
-    (order_most _ _ c.is_order.ensures (ap not c.if-not-is_order.false), search rules, search rules, search rules, search rules)
-
-pub at-requires : goal.at-requires
-at-requires c =
-    (order_most _ _ c.is_order.ensures (ap not c.if-not-is_order.false), search rules, search rules, search rules)
+pub returns-in_err-position : goal.returns-in_err-position
+returns-in_err-position c =
+    exits (λ r. (r, c.args.wit.now)) _ _ c.from_residual-in_err-position.ensures.1
+    (at_next (at_next (asked_sound _ _ c.order.ensures.value c.in_ok-order.was) (asked_sound _ _ c.lengths.ensures.value c.in_ok-lengths.was))
+    (asked_fault _ _ c.position.ensures.value c.in_err-position.was))
 
 pub returns : goal.returns
 returns c =
-    accepts _ _ _
-    (at_next (at_next (held _ _ (says_yes _ _ c.is_order.ensures (ap not c.if-not-is_order.false))) (held _ _ (rw (eq-eqb _ _ c.if-storage-m.false, eq-eqb _ _ c.if-wit-m.false))))
-    (held _ _ (rw (lt-ltb _ _ c.if-pos.false, le-leb _ _ c.if-pos-m.false))))
-    (rw (c.at.ensures, c.witness_into.ensures))
+    rw (c.at.ensures, c.witness_into.ensures) (accepts _ _ _
+    (at_next (at_next (asked_sound _ _ c.order.ensures.value c.in_ok-order.was) (asked_sound _ _ c.lengths.ensures.value c.in_ok-lengths.was))
+    (asked_sound _ _ c.position.ensures.value c.in_ok-position.was))
+    refl)

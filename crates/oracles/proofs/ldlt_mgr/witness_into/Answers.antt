@@ -1,18 +1,13 @@
 -- `oracles::ldlt_mgr::witness_into` meets its contract. Assumes nothing.
 use Prim.Native.Nat.{suc, ◌-◌}
-use mathlib.Core.Path.{◌≡◌, ◌∙◌}
+use mathlib.Core.Path.{◌≡◌}
 use native.Mathlib.Omega.{arith}
 use borrow.Author.Rules.{rules}
-use lib.ListN.{length-set}
 use Rattle.oracles.proofs.ldlt_mgr.WitnessLaws.{witness_start, witness_turn, witness_done}
 use Rattle.oracles.proofs.ldlt_mgr.witness_into.Goals as goal
 
 pub loop-i-init : goal.loop-i-init
 loop-i-init c = (search rules, witness_start _ _ _ c.args.wit.now (search rules) (search rules))
-
-pub column_sum-requires : goal.column_sum-requires
-column_sum-requires c =
-    (search rules, search rules, search rules, search rules, c.loop-i.invariant.1.long ∙ simp length-set (search rules))
 
 pub loop-i-preserved : goal.loop-i-preserved
 loop-i-preserved c =

@@ -4,7 +4,4 @@ use Rattle.oracles.proofs.ldlt_mgr.WitnessLaws.{WitnessTo}
 use Rattle.oracles.proofs.ldlt_mgr.witness_into.Given as goal
 
 abbrev pub invariant-loop-i : goal.invariant-loop-i
-invariant-loop-i l = (l.start ≤ l.i) × WitnessTo l.m l.storage l.end l.initial.wit l.wit l.i
-
-abbrev pub decreases-loop-i : goal.decreases-loop-i
-decreases-loop-i l = l.i
+invariant-loop-i l = (l.start ≤ l.i) × WitnessTo l.storage.n l.storage.entries.now l.end l.initial.wit l.wit l.i

@@ -1,36 +1,36 @@
 -- `oracles::lmi_oracle::assess_feas` meets its contract. Assumes nothing.
-use mathlib.Core.Path.{refl}
-use Rattle.numbers.specs.laws.Pick.{says_no, says_yes}
-use Rattle.numbers.specs.laws.Refusal.{failed, held, at_first, at_next, refuses}
-use Rattle.oracles.specs.LmiOracle.{lmi_answer}
-use Rattle.oracles.proofs.ldlt_mgr.Laws.{order_most}
-use Rattle.oracles.proofs.lmi_oracle.Laws.{dimension_small, wrong_length, accepted, lengths}
-use Rattle.std.proofs.Math.Path.{ap}
-use Rattle.std.proofs.Math.Bool.{not}
+use Rattle.std.proofs.Common.{◌≡◌, rules, length}
+use Rattle.numbers.specs.laws.Refusal.{at_first, at_next, asked_fault, asked_sound, exits}
+use Rattle.oracles.specs.LmiOracle.{lmi_buffers, lmi_answer}
+use Rattle.oracles.proofs.lmi_oracle.Laws.{accepted_of}
 use Rattle.oracles.proofs.lmi_oracle.assess_feas.Goals as goal
 
-pub returns-then-not-is_order : goal.returns-then-not-is_order
+pub returns-in_err-order : goal.returns-in_err-order
 unfolding lmi_answer
-returns-then-not-is_order c = refuses _ _ _ (at_first _ (failed (says_no _ _ c.is_order.ensures (ap not c.if-not-is_order.true)))) refl
+returns-in_err-order c =
+    let a = c.args in
+    exits (λ r. (r, lmi_buffers a.storage.now a.wit.now a.grad.now)) _ _ c.from_residual.ensures.1 (at_first _ (asked_fault _ _ c.order.ensures.value c.in_err-order.was))
 
-pub returns-then-not-is_dimension : goal.returns-then-not-is_dimension
+pub returns-in_err-dimension : goal.returns-in_err-dimension
 unfolding lmi_answer
-returns-then-not-is_dimension c =
-    refuses _ _ _ (at_next (held _ _ (says_yes _ _ c.is_order.ensures (ap not c.if-not-is_order.false))) (at_first _ (failed (says_no _ _ c.is_dimension.ensures (ap not c.if-not-is_dimension.true))))) refl
+returns-in_err-dimension c =
+    let a = c.args in
+    exits (λ r. (r, lmi_buffers a.storage.now a.wit.now a.grad.now)) _ _ c.from_residual-in_err-dimension.ensures.1
+    (at_next (asked_sound _ _ c.order.ensures.value c.in_ok-order.was) (at_first _ (asked_fault _ _ c.dimension.ensures.value c.in_err-dimension.was)))
 
-pub lengths_fit-requires : goal.lengths_fit-requires
-lengths_fit-requires c =
-    (order_most _ _ c.is_order.ensures (ap not c.if-not-is_order.false), dimension_small _ _ c.is_dimension.ensures (ap not c.if-not-is_dimension.false))
-
-pub returns-then-not-lengths_fit : goal.returns-then-not-lengths_fit
-returns-then-not-lengths_fit c =
-    wrong_length _ _ _ _ _ _ c.is_order.ensures c.is_dimension.ensures c.lengths_fit.ensures (ap not c.if-not-is_order.false) (ap not c.if-not-is_dimension.false) (ap not c.if-not-lengths_fit.true)
-
-pub assess-requires : goal.assess-requires
-assess-requires c =
-    let q = lengths _ _ _ _ _ _ _ _ c.lengths_fit.ensures (ap not c.if-not-lengths_fit.false) in
-    (order_most _ _ c.is_order.ensures (ap not c.if-not-is_order.false), dimension_small _ _ c.is_dimension.ensures (ap not c.if-not-is_dimension.false), q.0, q.1, q.2, q.3, q.4, q.5)
+pub returns-in_err-lengths : goal.returns-in_err-lengths
+unfolding lmi_answer
+returns-in_err-lengths c =
+    let a = c.args in
+    exits (λ r. (r, lmi_buffers a.storage.now a.wit.now a.grad.now)) _ _ c.from_residual-in_err-lengths.ensures.1
+    (at_next (asked_sound _ _ c.order.ensures.value c.in_ok-order.was)
+    (at_next (asked_sound _ _ c.dimension.ensures.value c.in_ok-dimension.was) (asked_fault _ _ c.lengths.ensures.value c.in_err-lengths.was)))
 
 pub returns : goal.returns
 returns c =
-    accepted _ _ _ _ _ _ c.is_order.ensures c.is_dimension.ensures c.lengths_fit.ensures (ap not c.if-not-is_order.false) (ap not c.if-not-is_dimension.false) _ (record { storage = _; wit = _; grad = _ }) (ap not c.if-not-lengths_fit.false) c.assess.ensures
+    let a = c.args in
+    let e : length a.xc.now ≡ a.n = search rules in
+    accepted_of a.m a.n a.mat_b.now a.mat_f.now a.xc.now (lmi_buffers a.storage.now a.wit.now a.grad.now) _ _
+    (at_next (asked_sound _ _ c.order.ensures.value c.in_ok-order.was)
+    (at_next (asked_sound _ _ c.dimension.ensures.value c.in_ok-dimension.was) (asked_sound _ _ c.lengths.ensures.value c.in_ok-lengths.was)))
+    (rw e at c.assess.ensures)

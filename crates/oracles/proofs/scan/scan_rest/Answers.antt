@@ -1,52 +1,39 @@
 -- `oracles::scan::scan_rest` meets its contract. Assumes nothing.
-use mathlib.Core.Path.{◌≡◌, refl, sym, ap, ◌∙◌}
-use mathlib.Core.Logic.{◌⊎◌, inl, inr}
-use Prim.Native.Nat.{ℕ, ◌≤◌}
+use mathlib.Core.Path.{refl, sym, ap, ◌∙◌}
+use Rattle.std.specs.Prelude.{Some}
 use native.Mathlib.Omega.{arith}
 use borrow.Author.Rules.{rules}
 use mir.Syntax.{w32}
 use mir.Facts.{to_z-of_z}
 use lib.IntN.{ℤ}
 use Rattle.oracles.specs.Scan.{scan_from}
-use Rattle.oracles.specs.declared.scan.Upper.TheVariants.{Limit}
 use Rattle.oracles.proofs.Signed.{cur_fits}
 use Rattle.oracles.proofs.scan.Turn.{clear, row_there, legal_there, row_before_past, rows_small, rows_in, ends, turned}
 use Rattle.oracles.proofs.scan.scan_rest.Goals as goal
-
--- at least one row
-some : {many : ℕ} → (many ≡ 1) ⊎ (many ≡ 4) → 1 ≤ many
-some (inl e) = omega arith
-some (inr e) = omega arith
-
-pub loop-left-init : goal.loop-left-init
-loop-left-init c = (c.requires, refl)
-
-pub step-rr-requires : goal.step-rr-requires
-step-rr-requires c = c.loop-left.invariant.0.legal
 
 pub row_at-row-requires : goal.row_at-row-requires
 row_at-row-requires c =
     let l = c.loop-left in
     let a = c.args in
-    row_there a.x.now a.lower a.limit l.fmax _ l.invariant.0 l.invariant.1 c.loop-left-test.true c.step-rr.ensures
+    row_there a.rows.x.now a.lower a.limit l.fmax _ l.invariant.0 l.invariant.1 c.loop-left-test.true c.step-rr.ensures
 
 pub band_past-requires : goal.band_past-requires
 band_past-requires c =
     let l = c.loop-left in
     let a = c.args in
-    legal_there a.x.now a.lower a.limit l.fmax _ l.invariant.0 l.invariant.1 c.loop-left-test.true c.step-rr.ensures
+    legal_there a.rows.x.now a.lower a.limit l.fmax _ l.invariant.0 l.invariant.1 c.loop-left-test.true c.step-rr.ensures
 
 pub overflow_sub-band_past : goal.overflow_sub-band_past
 overflow_sub-band_past c =
     let l = c.loop-left in
     let a = c.args in
-    omega (arith, row_before_past a.x.now a.lower a.limit l.fmax _ l.invariant.0 l.invariant.1 c.loop-left-test.true c.step-rr.ensures c.row_at-row.ensures c.band_past.ensures)
+    omega (arith, row_before_past a.rows.x.now a.lower a.limit l.fmax _ l.invariant.0 l.invariant.1 c.loop-left-test.true c.step-rr.ensures c.row_at-row.ensures c.band_past.ensures)
 
 pub rows_together-many-requires : goal.rows_together-many-requires
 rows_together-many-requires c =
     let l = c.loop-left in
     let a = c.args in
-    (c.loop-left-test.true, omega (arith, row_before_past a.x.now a.lower a.limit l.fmax _ l.invariant.0 l.invariant.1 c.loop-left-test.true c.step-rr.ensures c.row_at-row.ensures c.band_past.ensures))
+    (c.loop-left-test.true, omega (arith, row_before_past a.rows.x.now a.lower a.limit l.fmax _ l.invariant.0 l.invariant.1 c.loop-left-test.true c.step-rr.ensures c.row_at-row.ensures c.band_past.ensures))
 
 pub look_at-s-requires : goal.look_at-s-requires
 look_at-s-requires c =
@@ -54,38 +41,30 @@ look_at-s-requires c =
     let a = c.args in
     let m = c.rows_together-many.ensures in (
       m.0,
-      rows_small a.x.now a.lower a.limit l.fmax _ l.invariant.0 l.invariant.1 c.loop-left-test.true c.step-rr.ensures c.row_at-row.ensures c.band_past.ensures m.1 m.2,
-      rows_in a.x.now a.lower a.limit l.fmax _ l.invariant.0 l.invariant.1 c.loop-left-test.true c.step-rr.ensures c.row_at-row.ensures c.band_past.ensures m.1 m.2,
+      rows_small a.rows.x.now a.lower a.limit l.fmax _ l.invariant.0 l.invariant.1 c.loop-left-test.true c.step-rr.ensures c.row_at-row.ensures c.band_past.ensures m.1 m.2,
+      rows_in a.rows.x.now a.lower a.limit l.fmax _ l.invariant.0 l.invariant.1 c.loop-left-test.true c.step-rr.ensures c.row_at-row.ensures c.band_past.ensures m.1 m.2,
     )
 
-pub returns-then-is_broken : goal.returns-then-is_broken
-returns-then-is_broken c =
+pub returns-then-is_some : goal.returns-then-is_some
+returns-then-is_some c =
     let l = c.loop-left in
     let a = c.args in
-    ends a.x.now a.lower a.limit l.fmax _ l.invariant.0 l.invariant.1 c.loop-left-test.true c.step-rr.ensures
-    c.row_at-row.ensures c.band_past.ensures c.rows_together-many.ensures.1 c.rows_together-many.ensures.2 c.look_at-s.ensures (sym c.is_broken.ensures ∙ c.if-is_broken.true)
-    ∙ ap (λ (k : ℤ). scan_from a.n a.table.now a.x.now a.lower (Limit a.limit) a.count a.start a.peak k) (to_z-of_z c.ranges.peak_row)
-
-pub overflow_sub-left : goal.overflow_sub-left
-overflow_sub-left c = c.rows_together-many.ensures.1
-
-pub loop-left-smaller : goal.loop-left-smaller
-loop-left-smaller c =
-    omega (arith, c.loop-left-test.true, c.rows_together-many.ensures.1, some c.rows_together-many.ensures.0)
+    ends a.rows.x.now a.lower a.limit l.fmax _ l.invariant.0 l.invariant.1 c.loop-left-test.true c.step-rr.ensures
+    c.row_at-row.ensures c.band_past.ensures c.rows_together-many.ensures.1 c.rows_together-many.ensures.2 c.look_at-s.ensures (sym c.is_some.ensures ∙ c.if-is_some.true)
+    ∙ ap (λ (k : ℤ). scan_from a.rows.n a.rows.table.now a.rows.x.now a.lower (Some a.limit) a.count a.start a.peak k) (to_z-of_z c.ranges.peak_row)
 
 pub loop-left-preserved : goal.loop-left-preserved
 loop-left-preserved c =
     let l = c.loop-left in
     let a = c.args in
-    let v = rw (to_z-of_z {w = w32} {z = c.look_at-s.result.last} (search rules)) at c.with_cur-rr.ensures in
-    let w = turned a.x.now a.lower a.limit l.fmax _ l.invariant.0 l.invariant.1 c.loop-left-test.true c.step-rr.ensures
-    c.row_at-row.ensures c.band_past.ensures c.rows_together-many.ensures.1 c.rows_together-many.ensures.2 c.look_at-s.ensures (sym c.is_broken.ensures ∙ c.if-is_broken.false) v in
-    (w.0, rw (to_z-of_z {w = w32} {z = c.look_at-s.result.kmax} (search rules)) w.1)
+    let w = turned a.rows.x.now a.lower a.limit l.fmax _ l.invariant.0 l.invariant.1 c.loop-left-test.true c.step-rr.ensures
+    c.row_at-row.ensures c.band_past.ensures c.rows_together-many.ensures.1 c.rows_together-many.ensures.2 c.look_at-s.ensures (sym c.is_some.ensures ∙ c.if-is_some.false) refl in
+    rw (to_z-of_z {w = w32} {z = c.look_at-s.result.last} (search rules), to_z-of_z {w = w32} {z = c.look_at-s.result.kmax} (search rules)) (w.0, w.1)
 
 pub returns : goal.returns
 returns c =
     let l = c.loop-left in
     let a = c.args in
     rw (to_z-of_z (cur_fits _ l.invariant.0.legal))
-    (clear a.x.now a.lower a.limit l.fmax _ l.invariant.0 l.invariant.1 c.loop-left-test.false
-    ∙ ap (λ (k : ℤ). scan_from a.n a.table.now a.x.now a.lower (Limit a.limit) a.count a.start a.peak k) (to_z-of_z c.ranges.peak_row))
+    (clear a.rows.x.now a.lower a.limit l.fmax _ l.invariant.0 l.invariant.1 c.loop-left-test.false
+    ∙ ap (λ (k : ℤ). scan_from a.rows.n a.rows.table.now a.rows.x.now a.lower (Some a.limit) a.count a.start a.peak k) (to_z-of_z c.ranges.peak_row))

@@ -1,13 +1,13 @@
 -- What the loop of `oracles::scan::scan_rest` keeps: at each turn what is left computes the answer.
 use mathlib.Core.Path.{◌≡◌}
+use Rattle.std.specs.Prelude.{Some}
 use Rattle.oracles.specs.Scan.{scan_from}
 use Rattle.oracles.specs.laws.ScanRun.{RowsLeft}
-use Rattle.oracles.specs.declared.scan.Upper.TheVariants.{Limit}
 use Rattle.oracles.proofs.scan.scan_rest.Given as goal
 
 abbrev pub invariant-loop-left : goal.invariant-loop-left
 invariant-loop-left l =
-    RowsLeft l.n l.table l.rr l.left × (scan_from l.n l.table l.x l.lower (Limit l.limit) l.left l.rr l.fmax l.kmax ≡ scan_from l.n l.table l.x l.lower (Limit l.limit) l.initial.left l.initial.rr l.initial.fmax l.initial.kmax)
+    RowsLeft l.rows.n l.rows.table.now l.rr l.left × (scan_from l.rows.n l.rows.table.now l.rows.x.now l.lower (Some l.limit) l.left l.rr l.fmax l.kmax ≡ scan_from l.rows.n l.rows.table.now l.rows.x.now l.lower (Some l.limit) l.initial.left l.initial.rr l.initial.fmax l.initial.kmax)
 
 abbrev pub decreases-loop-left : goal.decreases-loop-left
 decreases-loop-left l = l.left

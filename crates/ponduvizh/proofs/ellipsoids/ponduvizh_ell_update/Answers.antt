@@ -3,8 +3,8 @@ use Rattle.ponduvizh.proofs.ellipsoids.Laws.{ell_made, ell_refused}
 use borrow.Author.Rules.{rules}
 use Rattle.ponduvizh.proofs.ellipsoids.ponduvizh_ell_update.Goals as goal
 
-pub returns-in-Refused : goal.returns-in-Refused
-returns-in-Refused c = search (rules, ell_refused)
+pub returns-in-Err : goal.returns-in-Err
+returns-in-Err c = search (rules, ell_refused)
 
-pub returns-in-Made : goal.returns-in-Made
-returns-in-Made c = search (rules, ell_made)
+pub returns-in-Ok : goal.returns-in-Ok
+returns-in-Ok c = search (rules, ell_made)

@@ -9,5 +9,5 @@ returns-in-Refused c = search (rules, run_refused)
 pub returns-in-Halted : goal.returns-in-Halted
 returns-in-Halted c = search (rules, run_halted)
 
-pub returns-in-Ended : goal.returns-in-Ended
-returns-in-Ended c = search (rules, run_ended)
+pub returns-in-Ok : goal.returns-in-Ok
+returns-in-Ok c = search (rules, run_ended)

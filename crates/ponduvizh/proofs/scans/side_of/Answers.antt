@@ -1,10 +1,10 @@
 -- `ponduvizh::scans::side_of` meets its contract. Assumes nothing.
-use Rattle.ponduvizh.proofs.scans.Laws.{is_above, is_below}
-use borrow.Author.Rules.{rules}
+use Rattle.std.proofs.Common.{refl}
+use Rattle.numbers.specs.laws.Pick.{hit, skip}
 use Rattle.ponduvizh.proofs.scans.side_of.Goals as goal
 
-pub returns-then-over : goal.returns-then-over
-returns-then-over c = search (rules, is_above)
+pub returns-then-broken : goal.returns-then-broken
+returns-then-broken c = rw c.in-Some.is (hit _ _ _ _ c.if-broken.true refl)
 
-pub returns-else-over : goal.returns-else-over
-returns-else-over c = search (rules, is_below)
+pub returns-else-broken : goal.returns-else-broken
+returns-else-broken c = rw c.in-Some.is (skip _ _ _ _ c.if-broken.false refl)

@@ -1,5 +1,4 @@
 -- `numbers::ell_calc::EllCalc::new` meets its contract. Assumes nothing.
-use Rattle.std.proofs.Common.{refl}
 use Rattle.numbers.specs.EllCalc.{made, new_answer}
 use Rattle.numbers.specs.laws.Refusal.{exits, accepts, asked_fault, asked_sound}
 use Rattle.numbers.proofs.ell_calc.EllCalc.new.Goals as goal

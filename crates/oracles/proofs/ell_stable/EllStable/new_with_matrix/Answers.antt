@@ -1,19 +1,21 @@
 -- `oracles::ell_stable::EllStable::new_with_matrix` meets its contract. Assumes nothing.
-use mathlib.Core.Path.{sym, ◌∙◌}
+use Rattle.std.specs.Prelude.{Ok, Err}
+use Rattle.std.proofs.Common.{sym, ◌∙◌}
+use Rattle.std.proofs.lemmas.Result.{err_from_is_err_and}
 use Rattle.numbers.specs.F64.{0ᶠ}
 use Rattle.oracles.specs.EllStable.{new_ell_stable_answer}
-use Rattle.oracles.specs.declared.ell_stable.NewEllStable.TheVariants.{Made, Refused}
 use Rattle.oracles.proofs.ell_common.Laws.{made_from}
 use Rattle.oracles.proofs.ell_stable.EllStable.new_with_matrix.Goals as goal
 
-pub returns-in-Ok : goal.returns-in-Ok
+pub returns-in_err-new : goal.returns-in_err-new
 unfolding new_ell_stable_answer
-returns-in-Ok c =
+returns-in_err-new c =
     let a = c.args in
-    made_from Refused (λ helper. Made (record { ndim = a.n; kappa = a.kappa; helper = helper; tsq = 0ᶠ })) a.n _ (sym c.in-Ok.is ∙ c.new.ensures)
+    let p = err_from_is_err_and c.from_residual.result c.from_residual.ensures.1 in
+    rw (p.1, p.2) (made_from Err (λ helper. Ok (record { ndim = a.n; kappa = a.kappa; helper = helper; tsq = 0ᶠ })) a.n _ (sym c.in_err-new.was ∙ c.new.ensures))
 
-pub returns-in-Err : goal.returns-in-Err
+pub returns : goal.returns
 unfolding new_ell_stable_answer
-returns-in-Err c =
+returns c =
     let a = c.args in
-    made_from Refused (λ helper. Made (record { ndim = a.n; kappa = a.kappa; helper = helper; tsq = 0ᶠ })) a.n _ (sym c.in-Err.is ∙ c.new.ensures)
+    made_from Err (λ helper. Ok (record { ndim = a.n; kappa = a.kappa; helper = helper; tsq = 0ᶠ })) a.n _ (sym c.in_ok-new.was ∙ c.new.ensures)

@@ -1,7 +1,8 @@
 -- `oracles::ell_stable::EllStable::update` meets its contract. Assumes nothing.
-use mathlib.Core.Path.{◌∙◌}
+use mathlib.Core.Path.{refl}
 use Rattle.oracles.specs.EllStable.{stable_buffers}
 use Rattle.oracles.proofs.ell_stable.Laws.{stable_no_effect, stable_fails, stable_succeeds}
+use Rattle.oracles.proofs.ell_common.Laws.{unlike}
 use Rattle.std.proofs.Math.Path.{ap}
 use Rattle.std.proofs.Math.Bool.{not}
 use Rattle.oracles.proofs.ell_stable.EllStable.update.Goals as goal
@@ -22,13 +23,8 @@ returns-then-failed c =
     stable_fails a.self a.strategy a.grad.now a.beta
     (stable_buffers a.mq.now a.xc.now a.inv_ml_g.now a.inv_md_inv_ml_g.now a.gg_t.now a.g_t.now)
     c.with_status-then-failed.result p.result _ _ _ _ _ p.ensures c.is_tiny.ensures
-    c.calc-answer.result _ c.calc-answer.ensures c.is_success-success.ensures c.if-is_tiny.false
-    (ap not c.if-failed.true) c.with_status-then-failed.ensures
-
-pub succeed-requires : goal.succeed-requires
-succeed-requires c =
-    let p = c.prepare-omega in
-    (c.requires.0, c.requires.1, p.auto.mq ∙ c.requires.2.mq_long, c.requires.2.xc_long, p.auto.inv_md_inv_ml_g ∙ c.requires.2.inv_md_inv_ml_g_long, c.requires.2.g_t_long)
+    c.calc-answer.result _ c.calc-answer.ensures refl c.if-is_tiny.false
+    (unlike _ (ap not c.eq-success.ensures) (ap not c.if-failed.true)) c.with_status-then-failed.ensures
 
 pub returns : goal.returns
 returns c =
@@ -38,5 +34,5 @@ returns c =
     stable_succeeds a.self a.strategy a.grad.now a.beta
     (stable_buffers a.mq.now a.xc.now a.inv_ml_g.now a.inv_md_inv_ml_g.now a.gg_t.now a.g_t.now)
     c.with_status-2.result p.result _ _ _ _ _ p.ensures c.is_tiny.ensures
-    k.result _ k.ensures c.is_success-success.ensures c.if-is_tiny.false
-    _ _ _ (ap not c.if-failed.false) c.succeed.ensures c.with_status-2.ensures
+    k.result _ k.ensures refl c.if-is_tiny.false
+    _ _ _ (unlike _ (ap not c.eq-success.ensures) (ap not c.if-failed.false)) c.succeed.ensures c.with_status-2.ensures

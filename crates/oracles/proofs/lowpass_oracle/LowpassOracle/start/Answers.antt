@@ -1,5 +1,7 @@
 -- `oracles::lowpass_oracle::LowpassOracle::start` meets its contract. Assumes nothing.
 use mathlib.Core.Path.{◌≡◌, refl, ◌∙◌}
+use Rattle.std.specs.Prelude.{Result}
+use Rattle.numbers.specs.declared.refusal.Refusal.{Refusal}
 use mathlib.Core.Bool.{true}
 use lib.IntN.{ℤ, pos}
 use mir.Syntax.{w32}
@@ -11,11 +13,11 @@ use Rattle.oracles.specs.Scan.{−∞, none}
 use Rattle.oracles.specs.LowpassOracle.{fresh_cur, start_oracle}
 use Rattle.oracles.specs.laws.Start.{start_same}
 use Rattle.oracles.specs.declared.lowpass_oracle.LowpassOracle.{LowpassOracle}
-use Rattle.oracles.specs.declared.round_robin.CursorAnswer.{CursorAnswer}
 use Rattle.oracles.proofs.lowpass_oracle.LowpassOracle.start.Goals as goal
 use borrow.Author.Rules.{rules}
+use Rattle.oracles.specs.declared.round_robin.RoundRobin.{RoundRobin}
 
-is : (a b d e f g : ℤ) (lp up sp : Float) (p q r : CursorAnswer) (i j k : ℤ)
+is : (a b d e f g : ℤ) (lp up sp : Float) (p q r : Result RoundRobin Refusal) (i j k : ℤ)
     → p ≡ new_range_answer (pos 0) a
     → q ≡ new_range_answer a b
     → r ≡ new_range_answer b d

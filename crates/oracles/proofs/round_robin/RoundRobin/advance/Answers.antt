@@ -1,5 +1,6 @@
 -- `oracles::round_robin::RoundRobin::advance` meets its contract. Assumes nothing.
 use mathlib.Core.Path.{◌≡◌, refl, ap, ◌∙◌}
+use Rattle.std.specs.Prelude.{Ok, Err}
 use mathlib.Core.Bool.{Bool, true, false, not, ◌&&◌}
 use lib.Signed.{lt_z}
 use mir.Syntax.{w32}
@@ -9,7 +10,6 @@ use borrow.Author.Rules.{rules}
 use Rattle.oracles.specs.RoundRobin.{is_band, is_at, advanced, advance_answer}
 use Rattle.oracles.specs.laws.RoundRobin.{legal_of}
 use Rattle.oracles.specs.declared.round_robin.RoundRobin.{RoundRobin}
-use Rattle.oracles.specs.declared.round_robin.CursorAnswer.TheVariants.{Accepted, Refused}
 use Rattle.numbers.specs.declared.refusal.Refusal.TheVariants.{Band, Cursor}
 use Rattle.numbers.specs.laws.Pick.{and_parts, says_no, says_yes}
 use Rattle.numbers.specs.laws.Refusal.{failed, held, at_first, at_next, refuses, accepts}
@@ -34,17 +34,17 @@ module _ (self : RoundRobin) (fl : SFits w32 self.lo) (fh : SFits w32 self.hi) {
   band : not tested ≡ false → is_band self.lo self.hi ≡ true
   band h = (and_parts (is_band self.lo self.hi) (lt_z self.lo self.hi) (says_yes tested _ whole h)).0
 
-  no_band : not tested ≡ true → Refused Band ≡ advance_answer self
+  no_band : not tested ≡ true → Err Band ≡ advance_answer self
   unfolding advance_answer
   no_band h = refuses _ _ _ (at_first _ (failed (says_no tested _ whole h))) refl
 
-  no_cursor : not tested ≡ false → {u : Bool} → u ≡ is_at self → not u ≡ true → Refused Cursor ≡ advance_answer self
+  no_cursor : not tested ≡ false → {u : Bool} → u ≡ is_at self → not u ≡ true → Err Cursor ≡ advance_answer self
   unfolding advance_answer
   no_cursor h a k = refuses _ _ _ (at_next (held _ _ (says_yes tested _ whole h)) (failed (says_no _ _ a k))) refl
 
-  goes : not tested ≡ false → {u : Bool} → u ≡ is_at self → not u ≡ false → (r : RoundRobin) → r ≡ advanced self → Accepted r ≡ advance_answer self
+  goes : not tested ≡ false → {u : Bool} → u ≡ is_at self → not u ≡ false → (r : RoundRobin) → r ≡ advanced self → Ok r ≡ advance_answer self
   unfolding advance_answer
-  goes h a k r q = accepts _ _ _ (at_next (held _ _ (says_yes tested _ whole h)) (held _ _ (says_yes _ _ a k))) (ap Accepted q)
+  goes h a k r q = accepts _ _ _ (at_next (held _ _ (says_yes tested _ whole h)) (held _ _ (says_yes _ _ a k))) (ap Ok q)
 
 pub returns-then-not-is_band-lo : goal.returns-then-not-is_band-lo
 returns-then-not-is_band-lo c =

@@ -1,5 +1,6 @@
 -- `oracles::round_robin::RoundRobin::new_range` meets its contract. Assumes nothing.
 use mathlib.Core.Path.{◌≡◌, refl, ◌∙◌}
+use Rattle.std.specs.Prelude.{Ok, Err}
 use mathlib.Core.Bool.{Bool, true, false, not, ◌&&◌}
 use lib.IntN.{ℤ, pos, ◌-ℤ◌}
 use lib.Signed.{le_z}
@@ -7,7 +8,6 @@ use mir.Syntax.{w32}
 use mir.Val.{SFits}
 use mir.Facts.{to_z-of_z}
 use Rattle.oracles.specs.RoundRobin.{is_band, new_range_answer}
-use Rattle.oracles.specs.declared.round_robin.CursorAnswer.TheVariants.{Accepted, Refused}
 use Rattle.numbers.specs.declared.refusal.Refusal.TheVariants.{Band}
 use Rattle.numbers.specs.laws.Pick.{and_parts, says_no, says_yes}
 use Rattle.numbers.specs.laws.Refusal.{failed, held, refuses, accepts}
@@ -23,19 +23,16 @@ module _ {lo hi : ℤ} (fl : SFits w32 lo) (fh : SFits w32 hi) {t : Bool} (e : t
   before_fits : not t ≡ false → SFits w32 (read lo -ℤ pos 1)
   before_fits h = rw (to_z-of_z fl) (pred_fits lo (and_parts (le_z (pos 0) lo) (le_z lo hi) (and_parts (le_z (pos 0) lo && le_z lo hi) (le_z hi (pos 1024)) (says_yes t _ same h)).0).0 fl)
 
-  refused : not t ≡ true → Refused Band ≡ new_range_answer lo hi
+  refused : not t ≡ true → Err Band ≡ new_range_answer lo hi
   unfolding new_range_answer
   refused h = refuses _ _ _ (failed (says_no t _ same h)) refl
 
-  made : not t ≡ false → Accepted (record { cur = read (read lo -ℤ pos 1); lo = read lo; hi = read hi }) ≡ new_range_answer lo hi
+  made : not t ≡ false → Ok (record { cur = read (read lo -ℤ pos 1); lo = read lo; hi = read hi }) ≡ new_range_answer lo hi
   unfolding new_range_answer
   made h = accepts _ _ _ (held _ _ (says_yes t _ same h)) (rw (to_z-of_z (before_fits h), to_z-of_z fl, to_z-of_z fh))
 
 pub returns-then-not-is_band : goal.returns-then-not-is_band
 returns-then-not-is_band c = refused c.ranges.lo c.ranges.hi c.is_band.ensures (ap not c.if-not-is_band.true)
-
-pub overflow_sub-result : goal.overflow_sub-result
-overflow_sub-result c = before_fits c.ranges.lo c.ranges.hi c.is_band.ensures (ap not c.if-not-is_band.false)
 
 pub returns : goal.returns
 returns c = made c.ranges.lo c.ranges.hi c.is_band.ensures (ap not c.if-not-is_band.false)

@@ -1,0 +1,95 @@
+// Replays a list: each case's call is made, and its answer compared with what the list has.
+ghost use Rattle.std.specs.Prelude.{◌≡◌};
+ghost use Rattle.lists.specs.Tally.{none_differ};
+
+use crate::inputs::Inputs;
+use crate::pushes::Got;
+use crate::report::Report;
+use crate::rooms::{Room, Rooms, fill};
+use crate::tally::Unreplayed;
+use std::io::{Read, Write};
+
+// A layer's calls. A trait and no closure, of which a caller would have to show that it may be called.
+pub trait Replay {
+    // Makes the case's call, and gives its answer's words.
+    fn replay(
+        &self,
+        inputs: &Inputs<'_>,
+        rooms: &mut Rooms,
+        got: &mut Got,
+    ) -> Result<(), Unreplayed>;
+}
+
+// The rooms of a replay: the words of a case, the same as floats, what is expected, and what came.
+#[derive(Drop)]
+struct Buffers {
+    inputs: [u8; 524288],
+    floats: Room,
+    expected: [u8; 524288],
+    got: Got,
+    rooms: Rooms,
+}
+
+// Replays the next case; whether there was one.
+fn replay_next<R: Read, W: Write, L: Replay>(
+    report: &mut Report<W>,
+    input: &mut R,
+    buffers: &mut Buffers,
+    layer: &L,
+) -> bool {
+    let next = report.take_case(input, &mut buffers.inputs, &mut buffers.expected);
+    let Ok(Some(case)) = next else {
+        return false;
+    };
+    fill(&mut buffers.floats, &buffers.inputs, true, 0, case.ins);
+    buffers.got.len = 0;
+    let inputs = Inputs {
+        op: case.op,
+        count: case.ins,
+        bytes: &buffers.inputs,
+        floats: &buffers.floats,
+    };
+    let replayed = layer.replay(&inputs, &mut buffers.rooms, &mut buffers.got);
+    let len = buffers.got.len;
+    report.judge(
+        case,
+        &buffers.expected,
+        replayed.map(|()| len),
+        &buffers.got.bytes,
+    );
+    true
+}
+
+// Replays a list to its end, and prints the counts; whether no case differs. A proved loop has to end, so the position bounds it.
+pub fn replay_list<R: Read, W: Write, L: Replay>(
+    input: &mut R,
+    report: &mut Report<W>,
+    layer: &L,
+) -> bool
+    ensures { result ≡ none_differ report.new.tally }
+{
+    let mut buffers = Buffers {
+        inputs: [0; 524288],
+        floats: [0.0; 65536],
+        expected: [0; 524288],
+        got: Got {
+            bytes: [0; 524288],
+            len: 0,
+        },
+        rooms: Rooms {
+            a: [0.0; 65536],
+            b: [0.0; 65536],
+            c: [0.0; 65536],
+            d: [0.0; 65536],
+            e: [0.0; 65536],
+            f: [0.0; 65536],
+        },
+    };
+    for position in 1..u64::MAX {
+        report.position = position;
+        if !replay_next(report, input, &mut buffers, layer) {
+            break;
+        }
+    }
+    report.print_totals()
+}

@@ -1,0 +1,22 @@
+-- `numbers::mv::rows_by_four` meets its contract. Assumes nothing.
+use Rattle.std.proofs.Common.{rules, ap, arith, ◌*◌, ◌+◌, ◌≡◌}
+use Rattle.numbers.specs.laws.Arr.{filled_start, filled_four}
+use Rattle.numbers.specs.declared.arr.Four.{Four}
+use Rattle.numbers.proofs.arr.Laws.{block_in}
+use Rattle.numbers.proofs.mv.rows_by_four.Goals as goal
+
+pub loop-k-init : goal.loop-k-init
+loop-k-init c = filled_start _ _
+
+pub four_rows-four-requires : goal.four_rows-four-requires
+four_rows-four-requires c =
+    let n = c.args.n in
+    let i = 4 * c.loop-k.k in
+    (omega (arith, block_in n i (omega arith)), search rules)
+
+pub loop-k-preserved : goal.loop-k-preserved
+loop-k-preserved c =
+    let l = c.loop-k in
+    let e = c.four_rows-four.ensures in
+    rw (let q : 4 * (l.k + 1) ≡ 4 * l.k + 4 = omega arith in q)
+    (filled_four _ _ l.out (4 * l.k) _ _ _ _ l.invariant (omega arith) (ap (λ (z : Four). z.a) e) (ap (λ (z : Four). z.b) e) (ap (λ (z : Four). z.c) e) (ap (λ (z : Four). z.d) e))

@@ -1,0 +1,34 @@
+// Texts at the front of a slice, handed over.
+ghost use Rattle.drivers.specs.laws.Trace.{text_in};
+ghost use Rattle.std.specs.Prelude.{take};
+ghost use Rattle.streams.specs.Output.{Hands};
+
+use drivers::trace::Text;
+use std::io::Write;
+use streams::output::{Console, Stream};
+
+// The first bytes of `out`, so many.
+pub fn hand_front<W: Write, E: Write>(
+    console: &mut Console<'_, W, E>,
+    to: Stream,
+    out: &[u8],
+    count: usize,
+)
+    ensures { Hands W.contents console.old console.new to (take count out.now) }
+{
+    console.hand(to, &out[..count.min(out.len())]);
+}
+
+pub fn hand_text<W: Write, E: Write>(
+    console: &mut Console<'_, W, E>,
+    to: Stream,
+    out: &[u8],
+    text: Text,
+)
+    ensures { Hands W.contents console.old console.new to (text_in text out.now) }
+{
+    match text {
+        Ok(count) => hand_front(console, to, out, count),
+        Err(_) => {}
+    }
+}

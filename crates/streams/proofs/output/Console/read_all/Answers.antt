@@ -1,0 +1,7 @@
+-- `streams::output::Console::read_all` meets its contract.
+use Rattle.std.proofs.Common.{refl}
+use Rattle.streams.specs.laws.Output.{hands_kept}
+use Rattle.streams.proofs.output.Console.read_all.Goals as goal
+
+pub returns-clause-told : goal.returns-clause-told
+returns-clause-told g c = hands_kept g.W.Write.contents _ _ refl refl
