@@ -1,12 +1,12 @@
 // Vectors and matrices over flat slices, row after row (arr.rs). Each public call tests n, then the lengths, and writes nothing where it refuses.
 ghost use Rattle.std.specs.Prelude.{◌≡◌, ◌+◌, ◌*◌, ◌≤◌, ◌<◌, min, length, drop, replicate, OnOk, IsTrue};
-ghost use Rattle.numbers.specs.Arr.{is_dimension, dot_from, dot_of, four_of, diag_of, set_diag, dot_answer, dot_mv_into_answer, copy_from_answer, eye_answer, from_diag_answer};
+ghost use Rattle.numbers.specs.Arr.{is_dimension, dot_from, dot_of, four_of, diag_of, dot_answer, dot_mv_into_answer, copy_from_answer, eye_answer, from_diag_answer};
 ghost use Rattle.numbers.specs.Refusal.{asked};
 ghost use Rattle.numbers.specs.declared.refusal.Refusal.TheVariants.{Dimension, Length};
-ghost use Rattle.numbers.specs.laws.Arr.{four_from, products_on};
+ghost use Rattle.numbers.specs.laws.Arr.{four_from};
 
-use crate::mv::rows_into;
-use crate::refusal::Refusal;
+use crate::mv::Product;
+use crate::refusal::{Refusal, ask};
 
 // A number for each of four rows.
 #[derive(Clone, Copy)]
@@ -29,11 +29,7 @@ pub fn dimension(n: usize) -> Result<(), Refusal>
     ensures value { result ≡ asked (is_dimension n) Dimension }
     ensures range { OnOk result ((2 ≤ n) × (n ≤ 32)) }
 {
-    if is_dimension(n) {
-        Ok(())
-    } else {
-        Err(Refusal::Dimension)
-    }
+    ask(is_dimension(n), Refusal::Dimension)
 }
 
 // Refusal 2, unless the lengths are right.
@@ -41,27 +37,38 @@ pub fn lengths(fit: bool) -> Result<(), Refusal>
     ensures value { result ≡ asked fit Length }
     ensures right { OnOk result (IsTrue fit) }
 {
-    if fit { Ok(()) } else { Err(Refusal::Length) }
+    ask(fit, Refusal::Length)
 }
 
-// `start`, and the products of what the two slices have in common added left to right.
-pub(crate) fn add_products(start: f64, a: &[f64], b: &[f64]) -> f64
-    ensures { result ≡ products_on start a.now b.now }
+// `start`, and the products from `from` on of what the two slices have in common, added left to right, two to a turn. A fold over the pairs, or one to a turn,
+// takes 10 to 30 % longer for up to eight numbers. `from` is 1 after a first product and else 0, so that no slice is cut.
+pub(crate) fn add_products(start: f64, a: &[f64], b: &[f64], from: usize) -> f64
+    requires { (from ≤ length a.now) × (from ≤ length b.now) }
+    ensures { result ≡ dot_from start (drop from a.now) (drop from b.now) }
 {
-    a.iter().zip(b).fold(start, |s, (x, y)| s + *x * *y)
+    let common = a.len().min(b.len());
+    let twos = (common - from) / 2;
+    let mut s = start;
+    for k in 0..twos {
+        let i = from + 2 * k;
+        s = s + a[i] * b[i];
+        s = s + a[i + 1] * b[i + 1];
+    }
+    let last = from + 2 * twos;
+    if last < common {
+        s = s + a[last] * b[last];
+    }
+    s
 }
 
 // The dot product of what the two slices have in common, from the first product on: `dot` with nothing to refuse.
 pub fn dot_zip(a: &[f64], b: &[f64]) -> f64
     ensures { result ≡ dot_of a.now b.now }
 {
-    let Some((x, xs)) = a.split_first() else {
+    if a.len().min(b.len()) == 0 {
         return -0.0;
-    };
-    let Some((y, ys)) = b.split_first() else {
-        return -0.0;
-    };
-    add_products(*x * *y, xs, ys)
+    }
+    add_products(a[0] * b[0], a, b, 1)
 }
 
 // The calls share their tests, `dimension` and `lengths`; what follows these is of each call alone.
@@ -74,7 +81,7 @@ pub fn dot(n: usize, a: &[f64], b: &[f64]) -> Result<f64, Refusal>
 }
 
 // The products of four rows and x from `from` on: side by side, so that an addition does not wait for another row's, and each added to its row's start left
-// to right.
+// to right. `from` serves five slices, which would be cut five times.
 pub(crate) fn add_four(
     start: Four,
     a: &[f64],
@@ -134,7 +141,7 @@ pub fn dot_mv_into(n: usize, mat: &[f64], x: &[f64], out: &mut [f64]) -> Result<
 {
     dimension(n)?;
     lengths((mat.len() == n * n) & (x.len() == n) & (out.len() == n))?;
-    rows_into(n, mat, x, out);
+    Product { n, mat, x }.rows_into(out);
     Ok(())
 }
 
@@ -147,23 +154,16 @@ pub fn copy_from(n: usize, dst: &mut [f64], src: &[f64]) -> Result<(), Refusal>
     Ok(())
 }
 
-// v on the diagonal.
-fn set_diagonal(n: usize, v: &[f64], out: &mut [f64])
-    requires { (n ≤ 32) × (length v.now ≡ n) × (length out.old ≡ n * n) }
-    ensures { out.new ≡ set_diag n v.now n out.old }
-{
-    for i in 0..n {
-        let at = i * n + i;
-        out[at] = v[i];
-    }
-}
-
+// v on the diagonal, and zeros.
 fn diagonal_into(n: usize, v: &[f64], out: &mut [f64])
     requires { (n ≤ 32) × (length v.now ≡ n) × (length out.old ≡ n * n) }
     ensures { out.new ≡ diag_of n v.now }
 {
     out.fill(0.0);
-    set_diagonal(n, v, out);
+    for i in 0..n {
+        let at = i * n + i;
+        out[at] = v[i];
+    }
 }
 
 pub fn eye(n: usize, out: &mut [f64]) -> Result<(), Refusal>
@@ -171,6 +171,7 @@ pub fn eye(n: usize, out: &mut [f64]) -> Result<(), Refusal>
 {
     dimension(n)?;
     lengths(out.len() == n * n)?;
+    // fixed memory, since there is no heap
     let ones = [1.0f64; 32];
     diagonal_into(n, &ones[..n], out);
     Ok(())

@@ -52,6 +52,7 @@ fn le_word(bytes: &[u8]) -> u64
     le_half(&bytes[..4]) + 0x1_0000_0000 * le_half(&bytes[4..])
 }
 
+// A place goes beside the bytes, and no slice from it, here and below: it may lie past the end.
 // The word whose lowest byte is bytes[at]; bytes past the end count as 0.
 pub fn word_at(bytes: &[u8], at: usize) -> u64
     ensures { result ≡ word_at bytes.now at }

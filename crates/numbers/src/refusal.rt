@@ -1,6 +1,6 @@
 // Why a call says no. One enum serves the whole project; its numbers are document 01's.
-ghost use Rattle.std.specs.Prelude.{◌≡◌};
-ghost use Rattle.numbers.specs.Refusal.{refusal_number, number_of, number_at};
+ghost use Rattle.std.specs.Prelude.{◌≡◌, OnOk, IsTrue};
+ghost use Rattle.numbers.specs.Refusal.{refusal_number, asked, number_of, number_at};
 
 #[derive(Clone, Copy, PartialEq, Eq)]
 pub enum Refusal {
@@ -24,6 +24,14 @@ impl From<Refusal> for u8 {
     fn from(why: Refusal) -> u8 {
         why as u8
     }
+}
+
+// A test of a call: refusal `why`, unless it holds.
+pub fn ask(test: bool, why: Refusal) -> Result<(), Refusal>
+    ensures value { result ≡ asked test why }
+    ensures right { OnOk result (IsTrue test) }
+{
+    if test { Ok(()) } else { Err(why) }
 }
 
 // Document 01's number of an answer: 0, or the refusal's.

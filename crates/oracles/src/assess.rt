@@ -66,7 +66,8 @@ impl LowpassOracle {
         }
     }
 
-    // The three groups are written out: each has limits, state and a next step of its own.
+    // The three groups are written out: each has limits, state and a next step of its own. What all three ask is one word, `Assessable`; it speaks of the lent
+    // gradient too, which no struct could hold without a promise to keep it.
     // The middle rows, then the sign.
     fn assess_middle(self, rows: Rows, grad: &mut [f64]) -> Assessed
         requires { Assessable self rows.n rows.table.now rows.x.now grad.old }

@@ -3,6 +3,7 @@ ghost use Rattle.std.specs.Prelude.{◌≡◌, map, ◌+◌, ◌*◌, ◌≤◌,
 ghost use Rattle.std.specs.Float.Ieee.{neg};
 ghost use Rattle.oracles.specs.Scan.{band_beta, band_gradient};
 
+use crate::copy::copy_into;
 use crate::table::Rows;
 use numbers::cut::CutChoice;
 
@@ -24,7 +25,7 @@ pub(crate) fn gradient_into(rows: Rows, row: usize, is_over: bool, grad: &mut [f
     let at = row * rows.n;
     let end = at + rows.n;
     if is_over {
-        grad.copy_from_slice(&rows.table[at..end]);
+        copy_into(&rows.table[at..end], grad);
     } else {
         negate_into(&rows.table[at..end], grad);
     }

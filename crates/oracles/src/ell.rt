@@ -145,7 +145,8 @@ impl Ell {
         Ok(())
     }
 
-    // The update with nothing left to refuse. The slices stay apart: a struct of `&mut`s would have each function promise that it keeps them.
+    // The update with nothing left to refuse. Its parameters are the public call's, here and in `EllStable`. The slices stay apart: a struct of `&mut`s would have each
+    // function promise that it keeps them.
     fn update(
         self,
         strategy: CutStrategy,

@@ -1,4 +1,5 @@
 // The steps of `EllStable` on its factors: the inverse of the matrix is L D Lᵀ; the diagonal holds D's inverse, L[i, j] stands above it at (j, i), scratch below it.
+// A matrix that is written stays a slice here, with its length as a fact: see `Matrix`.
 ghost use Rattle.std.specs.Prelude.{◌≡◌, ◌++◌, ◌+◌, ◌*◌, ◌-◌, ◌≤◌, ◌<◌, length, drop};
 ghost use Rattle.numbers.specs.Arr.{tab};
 ghost use Rattle.numbers.specs.F64.{◌⊕◌, ◌⊖◌, ◌⊗◌, 0ᶠ};

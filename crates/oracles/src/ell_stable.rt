@@ -8,6 +8,7 @@ ghost use Rattle.oracles.specs.EllStable.{stable_buffers, new_ell_stable_answer,
 ghost use Rattle.oracles.specs.laws.EllStable.{less_columns, factors_after};
 ghost use Rattle.oracles.specs.laws.EllStableCalls.{StableLong};
 
+use crate::copy::copy_into;
 use crate::ell_common::{CutStrategy, is_tiny, move_centre};
 use crate::ell_factors::{backward, forward, omega_into, rank_one, scale_into};
 use crate::matrix::Matrix;
@@ -31,7 +32,7 @@ pub struct EllStableUpdate {
     pub answer: Result<CutStatus, Refusal>,
 }
 
-// What is written before the update is known to fail; omega.
+// What is written before the update is known to fail; omega. The slices stay apart, here and below, as in `Ell::update`.
 fn prepare(
     n: usize,
     grad: &[f64],
@@ -48,7 +49,7 @@ fn prepare(
         × (inv_md_inv_ml_g.new ≡ tab (inv_md_inv_ml_g_of n mq.old grad.now) n)
         × (gg_t.new ≡ tab (gg_t_of n mq.old grad.now) n) }
 {
-    inv_ml_g.copy_from_slice(grad);
+    copy_into(grad, inv_ml_g);
     forward(n, mq, inv_ml_g, gg_t);
     scale_into(Matrix { n, entries: mq }, inv_ml_g, inv_md_inv_ml_g);
     omega_into(inv_ml_g, inv_md_inv_ml_g, gg_t)
@@ -71,11 +72,11 @@ fn succeed(
         × (mq.new ≡ factors_after n mq.old z.now grad.now (t_start omega params.sigma))
         × (g_t.new ≡ tab (λ l. less_columns n mq.old grad.now l l) n) }
 {
-    g_t.copy_from_slice(z);
+    copy_into(z, g_t);
     backward(Matrix { n, entries: mq }, g_t);
     move_centre(xc, params.rho / omega, g_t);
     let mu = params.sigma / (1.0 - params.sigma);
-    g_t.copy_from_slice(grad);
+    copy_into(grad, g_t);
     rank_one(n, mq, z, g_t, omega / mu);
 }
 
@@ -165,6 +166,7 @@ impl EllStable {
         let helper = self.helper;
         let answer = strategy.calc(helper, beta, tsq);
         let status = answer.status;
+        // named, so that a wrong test is refused for what it means
         let success = status == CutStatus::Success;
         let failed = !success;
         if failed {

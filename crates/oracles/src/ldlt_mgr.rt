@@ -9,7 +9,7 @@ ghost use Rattle.oracles.specs.laws.Ldlt.{FactoredTo};
 
 use crate::matrix::Matrix;
 use numbers::arr::lengths;
-use numbers::refusal::Refusal;
+use numbers::refusal::{Refusal, ask};
 
 // The rows of a leading block that is not positive definite: start to end − 1.
 #[derive(Clone, Copy)]
@@ -30,11 +30,7 @@ pub(crate) fn order(m: usize) -> Result<(), Refusal>
     ensures value { result ≡ asked (is_order m) Dimension }
     ensures range { OnOk result ((1 ≤ m) × (m ≤ 32)) }
 {
-    if is_order(m) {
-        Ok(())
-    } else {
-        Err(Refusal::Dimension)
-    }
+    ask(is_order(m), Refusal::Dimension)
 }
 
 // Refusal 5, unless the position is right.
@@ -42,7 +38,7 @@ fn position(fit: bool) -> Result<(), Refusal>
     ensures value { result ≡ asked fit Position }
     ensures right { OnOk result (IsTrue fit) }
 {
-    if fit { Ok(()) } else { Err(Refusal::Position) }
+    ask(fit, Refusal::Position)
 }
 
 // The matrix of order m with the entries of mat_b − Σ xc[k] mat_f[k], each worked out where it is read; with an empty xc it is mat_b's own.
@@ -149,7 +145,7 @@ pub fn factor(m: usize, mat: &[f64], storage: &mut [f64]) -> Result<Option<Pos>,
     Ok(whole.factor_rows(storage))
 }
 
-// The sum of column i of L below row i times the entries of the witness there.
+// The sum of column i of L below row i times the entries of the witness there. `end` stands beside the witness, here and below: it bounds the matrix, too.
 fn column_sum(storage: Matrix, wit: &[f64], i: usize, end: usize) -> f64
     requires { (i < end) × (end ≤ storage.n) × (length wit.now ≡ storage.n) }
     ensures { result ≡ total ◌⊕◌ 0ᶠ (λ j. at storage.entry.n storage.entry.entries.now (i + 1 + j) i ⊗ nth wit.now (i + 1 + j)) (end - (i + 1)) }

@@ -3,6 +3,7 @@
 
 pub mod assess;
 pub mod band_cut;
+mod copy;
 pub mod ell;
 pub mod ell_common;
 mod ell_factors;

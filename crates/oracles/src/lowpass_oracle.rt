@@ -59,10 +59,7 @@ impl Group {
     pub fn is_over(self) -> bool
         ensures { result ≡ group_side self }
     {
-        match self {
-            Group::Pass(_, over) | Group::Stop(_, over) => over,
-            Group::Middle(_) | Group::Sign => false,
-        }
+        matches!(self, Group::Pass(_, true) | Group::Stop(_, true))
     }
 }
 
@@ -106,14 +103,12 @@ fn has_band(rr: RoundRobin, lo: i32, hi: i32) -> bool
 fn fresh_cur(fresh: Result<RoundRobin, Refusal>) -> i32
     ensures { result ≡ fresh_cur fresh }
 {
-    match fresh {
-        Ok(rr) => rr.cur,
-        Err(_) => -1,
-    }
+    fresh.map_or(-1, |rr| rr.cur)
 }
 
 impl LowpassOracle {
-    // An oracle that has assessed nothing yet, over the rows 0 to mdim − 1: each idx before its band, the cursors where they are told to stand. Its numbers come one by one, as a job and C have them.
+    // An oracle that has assessed nothing yet, over the rows 0 to mdim − 1: each idx before its band, the cursors where they are told to stand.
+    // Its numbers come one by one, as a job and C have them.
     pub fn start(
         nwpass: i32,
         nwstop: i32,
@@ -200,7 +195,7 @@ impl LowpassOracle {
     }
 
     // Tries pass, stop and middle rows and then the sign of x[0]; on a break `grad` is the cut's gradient. The second `ensures` is demand 3: the verdict
-    // depends on no cursor, and on nothing that an earlier point left in the oracle.
+    // depends on no cursor, and on nothing that an earlier point left in the oracle. A public call takes slices: `Rows` is made of them where they fit.
     pub fn assess_feas(
         self,
         n: usize,
@@ -229,6 +224,7 @@ impl LowpassOracle {
     }
 
     // The same with the offered sp_sq, which is stored; a feasible point gives the cut of its largest stop value, which becomes the caller's number.
+    // The match is on what was found, and each of its three ways has its own numbers.
     pub fn assess_optim(
         self,
         gamma: f64,

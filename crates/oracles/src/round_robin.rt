@@ -3,7 +3,7 @@ ghost use Rattle.std.specs.Prelude.{◌≡◌, ◌<◌, pos};
 ghost use Rattle.oracles.specs.RoundRobin.{is_band, is_at, advanced, new_range_answer, advance_answer};
 ghost use Rattle.oracles.specs.laws.RoundRobin.{Legal};
 
-use numbers::refusal::Refusal;
+use numbers::refusal::{Refusal, ask};
 
 // Row numbers of the band lo .. hi − 1, each in turn; cur is the last one given, lo − 1 at first.
 #[derive(Clone, Copy)]
@@ -32,9 +32,7 @@ impl RoundRobin {
     pub fn new_range(lo: i32, hi: i32) -> Result<RoundRobin, Refusal>
         ensures { result ≡ new_range_answer lo hi }
     {
-        if !is_band(lo, hi) {
-            return Err(Refusal::Band);
-        }
+        ask(is_band(lo, hi), Refusal::Band)?;
         Ok(RoundRobin {
             cur: lo - 1,
             lo,
@@ -70,12 +68,8 @@ impl RoundRobin {
     {
         let lo = self.lo;
         let hi = self.hi;
-        if !(is_band(lo, hi) & (lo < hi)) {
-            return Err(Refusal::Band);
-        }
-        if !self.is_at() {
-            return Err(Refusal::Cursor);
-        }
+        ask(is_band(lo, hi) & (lo < hi), Refusal::Band)?;
+        ask(self.is_at(), Refusal::Cursor)?;
         Ok(self.step())
     }
 

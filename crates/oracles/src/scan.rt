@@ -10,7 +10,7 @@ use crate::round_robin::RoundRobin;
 use crate::table::Rows;
 use numbers::refusal::Refusal;
 
-// The first row that breaks a limit: its number, its value, and whether the value lies above the upper limit, a side that says nothing of the other two.
+// The first row that breaks a limit: its number, its value, and whether the value lies above the upper limit. The side is a flag: either way there are both others.
 #[derive(Clone, Copy)]
 pub struct Violation {
     pub row: usize,
@@ -65,92 +65,94 @@ fn row_at(rr: RoundRobin) -> usize
     rr.cur as usize
 }
 
-// A row's value against the limits, and the largest value so far with this one.
-fn test_row(row: usize, value: f64, lower: f64, limit: f64, fmax: f64, kmax: i32) -> Scan
-    requires { row < 1024 }
-    ensures { result ≡ judged_of lower limit row value fmax kmax }
-{
-    let last = row as i32;
-    let over = value > limit;
-    if over {
-        return Scan {
-            viol: Some(Violation {
-                row,
-                value,
-                is_over: true,
-            }),
-            fmax,
-            kmax,
-            last,
-        };
-    }
-    if value < lower {
-        return Scan {
-            viol: Some(Violation {
-                row,
-                value,
-                is_over: false,
-            }),
-            fmax,
-            kmax,
-            last,
-        };
-    }
-    if value > fmax {
-        return Scan {
+// A band's limits, the upper one as a number: infinity, above which no value lies, where there is none.
+#[derive(Clone, Copy)]
+struct Limits {
+    lower: f64,
+    limit: f64,
+}
+
+impl Limits {
+    // A row's value against the limits, and the largest value so far with this one.
+    fn test_row(self, row: usize, value: f64, fmax: f64, kmax: i32) -> Scan
+        requires { row < 1024 }
+        ensures { result ≡ judged_of self.lower self.limit row value fmax kmax }
+    {
+        let last = row as i32;
+        let over = value > self.limit;
+        if over {
+            return Scan {
+                viol: Some(Violation {
+                    row,
+                    value,
+                    is_over: true,
+                }),
+                fmax,
+                kmax,
+                last,
+            };
+        }
+        let under = value < self.lower;
+        if under {
+            return Scan {
+                viol: Some(Violation {
+                    row,
+                    value,
+                    is_over: false,
+                }),
+                fmax,
+                kmax,
+                last,
+            };
+        }
+        if value > fmax {
+            return Scan {
+                viol: None,
+                fmax: value,
+                kmax: last,
+                last,
+            };
+        }
+        Scan {
             viol: None,
-            fmax: value,
-            kmax: last,
+            fmax,
+            kmax,
             last,
-        };
-    }
-    Scan {
-        viol: None,
-        fmax,
-        kmax,
-        last,
+        }
     }
 }
 
 // Four rows, whose values are had side by side, judged in turn up to the first that breaks a limit.
-fn look_at_four(rows: Rows, row: usize, lower: f64, limit: f64, fmax: f64, kmax: i32) -> Scan
+fn look_at_four(rows: Rows, row: usize, limits: Limits, fmax: f64, kmax: i32) -> Scan
     requires { (row + 4 ≤ 1024) × (row * rows.n + 4 * rows.n ≤ length rows.table.now) }
-    ensures { result ≡ scan_run rows.entry.n rows.entry.table.now rows.entry.x.now lower limit 4 row fmax kmax }
+    ensures { result ≡ scan_run rows.entry.n rows.entry.table.now rows.entry.x.now limits.lower limits.limit 4 row fmax kmax }
 {
     let values = rows.four_values(row);
-    let s = test_row(row, values.a, lower, limit, fmax, kmax);
+    let s = limits.test_row(row, values.a, fmax, kmax);
     if s.viol.is_some() {
         return s;
     }
-    let t = test_row(row + 1, values.b, lower, limit, s.fmax, s.kmax);
+    let t = limits.test_row(row + 1, values.b, s.fmax, s.kmax);
     if t.viol.is_some() {
         return t;
     }
-    let u = test_row(row + 2, values.c, lower, limit, t.fmax, t.kmax);
+    let u = limits.test_row(row + 2, values.c, t.fmax, t.kmax);
     if u.viol.is_some() {
         return u;
     }
-    test_row(row + 3, values.d, lower, limit, u.fmax, u.kmax)
+    limits.test_row(row + 3, values.d, u.fmax, u.kmax)
 }
 
 // The next row, or the next four.
-fn look_at(
-    rows: Rows,
-    row: usize,
-    many: usize,
-    lower: f64,
-    limit: f64,
-    fmax: f64,
-    kmax: i32,
-) -> Scan
+fn look_at(rows: Rows, row: usize, many: usize, limits: Limits, fmax: f64, kmax: i32) -> Scan
     requires { ((many ≡ 1) ⊎ (many ≡ 4)) × (row + many ≤ 1024) × (row * rows.n + many * rows.n ≤ length rows.table.now) }
-    ensures { result ≡ scan_run rows.entry.n rows.entry.table.now rows.entry.x.now lower limit many row fmax kmax }
+    ensures { result ≡ scan_run rows.entry.n rows.entry.table.now rows.entry.x.now limits.lower limits.limit many row fmax kmax }
 {
     if many == 4 {
-        return look_at_four(rows, row, lower, limit, fmax, kmax);
+        return look_at_four(rows, row, limits, fmax, kmax);
     }
     let value = rows.row_value(row);
-    test_row(row, value, lower, limit, fmax, kmax)
+    limits.test_row(row, value, fmax, kmax)
 }
 
 // How many rows to look at together, of those left and those before the band's end.
@@ -172,13 +174,12 @@ fn scan_rest(
     rows: Rows,
     start: RoundRobin,
     count: usize,
-    lower: f64,
-    limit: f64,
+    limits: Limits,
     peak: f64,
     peak_row: i32,
 ) -> Scan
     requires { RowsLeft rows.n rows.table.now start count }
-    ensures { result ≡ scan_from rows.entry.n rows.entry.table.now rows.entry.x.now lower (Some limit) count start peak peak_row }
+    ensures { result ≡ scan_from rows.entry.n rows.entry.table.now rows.entry.x.now limits.lower (Some limits.limit) count start peak peak_row }
 {
     let mut rr = start;
     let mut fmax = peak;
@@ -189,7 +190,7 @@ fn scan_rest(
         rr = rr.step();
         let row = row_at(rr);
         let many = rows_together(left, band_past(rr) - row);
-        let s = look_at(rows, row, many, lower, limit, fmax, kmax);
+        let s = look_at(rows, row, many, limits, fmax, kmax);
         if s.viol.is_some() {
             return s;
         }
@@ -206,13 +207,22 @@ fn scan_rest(
     }
 }
 
-// The rows of the band in turn, each once at most. The first singly: most scans that break a limit end there.
-pub(crate) fn scan_rows(rows: Rows, start: RoundRobin, lower: f64, upper: Option<f64>) -> Scan
-    requires { Ready rows.n rows.table.now rows.x.now start }
-    ensures { result ≡ scan_of rows.entry.n rows.entry.table.now rows.entry.x.now start lower upper }
+// The rows of the band in turn, each once at most. The first singly: most scans that break a limit end there. n, table and x come one by one: as `Rows` they would
+// go through memory, and a scan that stops at its first row takes 6 to 9 % more.
+pub(crate) fn scan_rows(
+    n: usize,
+    table: &[f64],
+    x: &[f64],
+    start: RoundRobin,
+    lower: f64,
+    upper: Option<f64>,
+) -> Scan
+    requires { Ready n table.now x.now start }
+    ensures { result ≡ scan_of n table.now x.now start lower upper }
 {
-    // infinity, above which no value lies, where there is none
+    let rows = Rows { n, table, x };
     let limit = upper.unwrap_or(f64::INFINITY);
+    let limits = Limits { lower, limit };
     let all = band_past(start) - band_from(start);
     let fmax = f64::NEG_INFINITY;
     if all == 0 {
@@ -226,9 +236,9 @@ pub(crate) fn scan_rows(rows: Rows, start: RoundRobin, lower: f64, upper: Option
     let rr = start.step();
     let row = row_at(rr);
     let value = rows.row_value(row);
-    let s = test_row(row, value, lower, limit, fmax, -1);
+    let s = limits.test_row(row, value, fmax, -1);
     if s.viol.is_some() {
         return s;
     }
-    scan_rest(rows, rr, all - 1, lower, limit, s.fmax, s.kmax)
+    scan_rest(rows, rr, all - 1, limits, s.fmax, s.kmax)
 }

@@ -9,7 +9,7 @@ use crate::round_robin::{RoundRobin, is_band};
 use crate::scan::{Scan, ScanEnd, Swept, scan_rows};
 use crate::table::{Rows, is_rows, table_fits};
 use numbers::arr::is_dimension;
-use numbers::refusal::Refusal;
+use numbers::refusal::{Refusal, ask};
 
 // Whether lo and hi are a band of a table of so many rows.
 fn band_fits(rows: usize, lo: i32, hi: i32) -> bool
@@ -27,7 +27,7 @@ pub(crate) fn scan_cursor(rows: Rows, rr: &mut RoundRobin, lower: f64, upper: Op
     ensures { (result ≡ scan_of rows.entry.n rows.entry.table.now rows.entry.x.now rr.old lower upper) × (rr.new ≡ with_cur rr.old result.last) }
 {
     let c = *rr;
-    let scan = scan_rows(rows, c, lower, upper);
+    let scan = scan_rows(rows.n, rows.table, rows.x, c, lower, upper);
     rr.cur = scan.last;
     scan
 }
@@ -39,13 +39,7 @@ pub(crate) fn scan_lent(rows: Rows, start: RoundRobin, lower: f64, upper: Option
 {
     let mut c = start;
     let scan = scan_cursor(rows, &mut c, lower, upper);
-    // number by number: a copy of the whole would wait for the one that was stored last
-    let cursor = RoundRobin {
-        cur: c.cur,
-        lo: c.lo,
-        hi: c.hi,
-    };
-    Swept { scan, cursor }
+    Swept { scan, cursor: c }
 }
 
 // Refusals 1 to 4 in their order, by what was found of n, the lengths, the bands and the cursors.
@@ -57,22 +51,14 @@ pub(crate) fn first_refusal(
 ) -> Result<(), Refusal>
     ensures { result ≡ unless (first_fault dimension lengths bands cursors) (λ why place. Err why) (Ok tt) }
 {
-    if !dimension {
-        return Err(Refusal::Dimension);
-    }
-    if !lengths {
-        return Err(Refusal::Length);
-    }
-    if !bands {
-        return Err(Refusal::Band);
-    }
-    if !cursors {
-        return Err(Refusal::Cursor);
-    }
-    Ok(())
+    ask(dimension, Refusal::Dimension)?;
+    ask(lengths, Refusal::Length)?;
+    ask(bands, Refusal::Band)?;
+    ask(cursors, Refusal::Cursor)
 }
 
-// `scan_band` with the cursor by value, which stays where it was.
+// `scan_band` with the cursor by value, which stays where it was. Its parameters, and those of the calls below, are `scan_band`'s:
+// a public call takes slices.
 fn scan_by_value(
     n: usize,
     rows: usize,
@@ -87,7 +73,7 @@ fn scan_by_value(
     let lengths = table_fits(n, rows, table.len(), x.len());
     let bands = band_fits(rows, rr.lo, rr.hi);
     first_refusal(is_dimension(n), lengths, bands, rr.is_at())?;
-    Ok(scan_rows(Rows { n, table, x }, rr, lower, upper))
+    Ok(scan_rows(n, table, x, rr, lower, upper))
 }
 
 // The public call: the cursor is lent, and moved unless the call is refused.

@@ -2,20 +2,20 @@
 use mathlib.Core.Path.{◌≡◌, refl, sym, ap, ◌∙◌}
 use mathlib.Core.Bool.{Bool, true, false, not, ◌&&◌, and-eq-true_iff}
 use mathlib.Core.List.{List, [], ◌∷◌}
-use Prim.Native.Nat.{ℕ, zero, suc, ◌≤◌, ◌<◌, ◌+◌, ◌*◌, ◌-◌, min}
+use Prim.Native.Nat.{ℕ, zero, suc, ◌≤◌, ◌<◌, ◌+◌, ◌*◌, min}
 use native.Mathlib.Nat.{mul-le-mul, le_of_suc-le-suc}
 use native.Mathlib.Numerals.{add-one}
 use native.Mathlib.Omega.{arith}
 use borrow.Author.Tests.{ltb-true, eqb-true}
 use lib.Dec.{ltb, eqb}
-use lib.ListN.{length, take, drop, get_or, set, replicate, length-replicate}
+use lib.ListN.{length, take, drop, get_or, set, replicate}
 use lib.Seq.{take_all}
 use lib.Ieee.{Float, nan, neg, of_bits}
 use Rattle.numbers.specs.F64.{◌⊕◌, ◌⊗◌, 0ᶠ}
 use Rattle.numbers.specs.Arr.{is_dimension, dot_from, dot_of, row_of, four_of, tab, mv_of, set_diag, diag_of}
 use Rattle.numbers.specs.declared.arr.Four.{Four}
 use Rattle.numbers.specs.laws.Pick.{says_yes}
-use Rattle.numbers.specs.laws.Arr.{dot_step, dot_end, row_part, tab_get_or, FilledTo, filled_start, filled_turn, filled_done, row_in, dimension_most, four_from, four_row_dots}
+use Rattle.numbers.specs.laws.Arr.{dot_step, dot_end, tab_get_or, FilledTo, filled_start, filled_turn, filled_done, row_in, dimension_most, four_from, four_row_dots}
 
 -- ---- the sum's loop, from its invariant `dot_from s (drop i a) (drop i b) ≡ d`
 
@@ -85,39 +85,26 @@ unfolding mv_of
 multiplied n mat x out e = rw e
 
 -- a matrix of 2 or 3, from the products of its rows
-module _ (n : ℕ) (mat x out : List Float) (long : length out ≡ n) {a b : Float} (p : a ≡ dot_from 0ᶠ (take (n - 0) (drop 0 mat)) x) (q : b ≡ dot_from 0ᶠ (take (2 * n - n) (drop n mat)) x) where
+module _ (n : ℕ) (mat x out : List Float) (long : length out ≡ n) {a b : Float} (p : a ≡ dot_from 0ᶠ (row_of n mat 0) x) (q : b ≡ dot_from 0ᶠ (row_of n mat 1) x) where
   abbrev product : ℕ → Float
   product k = dot_from 0ᶠ (row_of n mat k) x
 
   first_two : 2 ≤ n → FilledTo product out (set (set out 0 a) 1 b) 2
-  first_two h =
-      let one = filled_turn product out out 0 a (filled_start product out) (omega arith) (p ∙ rw (row_part n 0 0 n mat (omega arith) (omega arith))) in
-      filled_turn product out (set out 0 a) 1 b one (omega arith) (q ∙ rw (row_part n 1 n (2 * n) mat (omega arith) (omega arith)))
+  first_two h = filled_turn product out (set out 0 a) 1 b (filled_turn product out out 0 a (filled_start product out) (omega arith) p) (omega arith) q
 
   pub short_all_two : 2 ≤ n → n ≤ 3 → (n ≡ 3 → ⊥) → set (set out 0 a) 1 b ≡ mv_of n mat x
   short_all_two h m k =
       let e : n ≡ 2 = omega (arith, k) in
       filled_done product out _ 2 (first_two h) (omega arith) ∙ multiplied n mat x out long
 
-  pub short_all_three : {c : Float} → n ≡ 3 → c ≡ dot_from 0ᶠ (take (3 * n - 2 * n) (drop (2 * n) mat)) x → set (set (set out 0 a) 1 b) 2 c ≡ mv_of n mat x
+  pub short_all_three : {c : Float} → n ≡ 3 → c ≡ dot_from 0ᶠ (row_of n mat 2) x → set (set (set out 0 a) 1 b) 2 c ≡ mv_of n mat x
   short_all_three {c} e r =
-      filled_done product out _ 3 (filled_turn product out _ 2 c (first_two (omega arith)) (omega arith) (r ∙ rw (row_part n 2 (2 * n) (3 * n) mat refl (omega arith)))) (omega arith)
-      ∙ multiplied n mat x out long
+      filled_done product out _ 3 (filled_turn product out _ 2 c (first_two (omega arith)) (omega arith) r) (omega arith) ∙ multiplied n mat x out long
 
--- four rows, each from its part of the matrix
-pub four_rows : (n i : ℕ) (mat x : List Float) {r : Four}
-    → r ≡ four_from (record { a = 0ᶠ; b = 0ᶠ; c = 0ᶠ; d = 0ᶠ }) (take (i * n + n - i * n) (drop (i * n) mat)) (take (i * n + n + n - (i * n + n)) (drop (i * n + n) mat))
-    (take (i * n + n + n + n - (i * n + n + n)) (drop (i * n + n + n) mat)) (take (i * n + n + n + n + n - (i * n + n + n + n)) (drop (i * n + n + n + n) mat)) x 0
-    → r ≡ four_row_dots n mat x i
-four_rows n i mat x e =
-    let p = row_part n i (i * n) (i * n + n) mat refl refl in
-    let q = row_part n (i + 1) (i * n + n) (i * n + n + n) mat (omega arith) refl in
-    let u = row_part n (i + 2) (i * n + n + n) (i * n + n + n + n) mat (omega arith) refl in
-    let w = row_part n (i + 3) (i * n + n + n + n) (i * n + n + n + n + n) mat (omega arith) refl in
-    e ∙ (λ j. record { a = dot_from 0ᶠ (p j) x; b = dot_from 0ᶠ (q j) x; c = dot_from 0ᶠ (u j) x; d = dot_from 0ᶠ (w j) x })
-
-pub block_in : (n i : ℕ) → i + 4 ≤ n → i * n + 4 * n ≤ n * n
-block_in n i h = let e : (i + 3) * n ≡ i * n + 3 * n = omega arith in omega (arith, e, row_in n (i + 3) n (omega arith))
+-- four rows of the matrix
+pub four_rows : (n i : ℕ) (mat x : List Float) {r : Four} {a b c d : List Float} → r ≡ four_from (record { a = 0ᶠ; b = 0ᶠ; c = 0ᶠ; d = 0ᶠ }) a b c d x 0
+    → a ≡ row_of n mat i → b ≡ row_of n mat (i + 1) → c ≡ row_of n mat (i + 2) → d ≡ row_of n mat (i + 3) → r ≡ four_row_dots n mat x i
+four_rows n i mat x e p q u w = e ∙ (λ j. record { a = dot_from 0ᶠ (p j) x; b = dot_from 0ᶠ (q j) x; c = dot_from 0ᶠ (u j) x; d = dot_from 0ᶠ (w j) x })
 
 pub diagonal_turn : (n i : ℕ) (v mat₀ mat : List Float) → mat ≡ set_diag n v i mat₀ → set mat (i * n + i) (get_or v i nan) ≡ set_diag n v (i + 1) mat₀
 unfolding set_diag
@@ -142,12 +129,6 @@ pub row_small : (n i : ℕ) → n ≤ 32 → i < n → i * n + n ≤ 1024
 row_small n i h k = omega (arith, row_in n i n k, square n h)
 
 -- a conjunction of tests
-pub no_left : (s t : Bool) → s ≡ false → (s && t) ≡ false
-no_left s t h = rw h
-
-pub no_right : (s t : Bool) → s ≡ true → t ≡ false → (s && t) ≡ false
-no_right s t h k = rw (h, k)
-
 pub both : (s t : Bool) → s ≡ true → t ≡ true → (s && t) ≡ true
 both s t h k = rw (h, k)
 
@@ -157,6 +138,3 @@ pub take_replicate {ℓ} : {X : Type ℓ} (n m : ℕ) (v : X) → n ≤ m → ta
 take_replicate zero m v h = refl
 take_replicate (suc n) zero v h = absurd (omega (arith, h))
 take_replicate {X} (suc n) (suc m) v h = ap (λ (l : List X). v ∷ l) (take_replicate n m v (le_of_suc-le-suc h))
-
-pub same_long {ℓ} : {X : Type ℓ} (v : X) (n : ℕ) → n ≤ 32 → n ≡ length (take n (replicate 32 v))
-same_long v n h = sym (length-replicate n v) ∙ ap length (sym (take_replicate n 32 v h))

@@ -8,7 +8,6 @@ use Prim.Native.Nat.{ℕ, zero, suc, ◌≤◌, ◌<◌, ◌+◌, ◌-◌, ◌*�
 use Rattle.std.proofs.Math.Numerals.{add-one}
 use borrow.Author.Tests.{ltb-true, ltb-false, leb-true, leb-false, eqb-true, eqb-false}
 use Rattle.std.proofs.Math.Dec.{eqb}
-use Rattle.std.specs.List.{fold, zip}
 use Rattle.std.specs.Float.{binary64}
 use Rattle.std.specs.Float.Ieee.{nan}
 use Rattle.std.specs.Float.Ieee.Fits.{mul-fits}
@@ -28,16 +27,6 @@ dot_nil : (s : Float) (a : List Float) → dot_from s a [] ≡ s
 unfolding dot_from
 dot_nil s [] = refl
 dot_nil s (x ∷ a) = refl
-
--- the sum as a fold over the pairs
-abbrev pub products_on : Float → List Float → List Float → Float
-products_on s a b = fold (λ (s : Float) (p : Float × Float). s ⊕ p.0 ⊗ p.1) s (zip a b)
-
-pub folded : (s : Float) (a b : List Float) → products_on s a b ≡ dot_from s a b
-unfolding dot_from
-folded s [] b = refl
-folded s (x ∷ a) [] = refl
-folded s (x ∷ a) (y ∷ b) = folded (s ⊕ x ⊗ y) a b
 
 -- one product more
 pub dot_step : (s : Float) (a b : List Float) (i : ℕ) → i < length a → i < length b

@@ -100,6 +100,11 @@ asked_fault t why a b = let p = asked_err t why a b in rw p.1 (failed p.0)
 pub asked_sound : (t : Bool) (why : Refusal) {r : Result ⊤ Refusal} {u : ⊤} → r ≡ asked t why → r ≡ Ok u → Sound ≡ ask_at 0 t why
 asked_sound t why a b = held _ _ (asked_ok t why a b)
 
+-- a chain's answer by its last test, where what that finds is what the chain finds
+pub asked_last : (t : Bool) (why : Refusal) (f : Tests) {r : Result ⊤ Refusal} → r ≡ asked t why → ((g : Tests) → g ≡ ask_at 0 t why → g ≡ f) → r ≡ unless f (λ w place. Err w) (Ok tt)
+asked_last true why f a h = accepts _ _ f (h Sound (held why 0 refl)) (a ∙ is_hit true (Ok tt) (Err why) refl)
+asked_last false why f a h = refuses _ _ f (h (At why 0) (failed refl)) (a ∙ is_skip false (Ok tt) (Err why) refl)
+
 -- where a call goes back by a test's `?`: what it answers, and what else stands beside that, is the chain's refusal
 pub exits {ℓ} : {X : Type 0} {Y : Type ℓ} (made : Result X Refusal → Y) (done : Y) (f : Tests) {r : Result X Refusal} {e : Refusal}
     → IsErrAnd r (λ y. y ≡ e) → At e 0 ≡ f → made r ≡ unless f (λ why place. made (Err why)) done

@@ -5,7 +5,7 @@ use lib.Ieee.{Float, binary64, fits}
 use lib.Ieee.Positive.{positive}
 use Rattle.numbers.specs.Sqrt.{sqrt_of, NearestRoot}
 use Rattle.numbers.specs.laws.Nearest.{sqrt_nearest}
-use Rattle.numbers.proofs.sqrt.Patterns.{nan_root, not_a_nan, negative_root, positive_root, normal_bits, positive_bits, other_root}
+use Rattle.numbers.proofs.sqrt.Patterns.{nan_root, not_a_nan, negative_root, positive_root, other_root}
 use borrow.Author.Rules.{rules}
 use Rattle.numbers.proofs.sqrt.sqrt.Goals as goal
 
@@ -27,7 +27,7 @@ returns-then-bits c =
 pub returns-then-bits-2 : goal.returns-then-bits-2
 returns-then-bits-2 c =
     let f : T (fits binary64 c.args.x) = search rules in
-    let e = positive_root _ f _ c.root_of.ensures in
+    let e = positive_root _ f _ c.root.ensures in
     record { value = e; nearest_root = nearest _ _ f e }
 
 pub returns-then-bits-gt-SIGN : goal.returns-then-bits-gt-SIGN
@@ -44,9 +44,3 @@ returns c =
 
 pub float_to_bits-bits : goal.float_to_bits-bits
 float_to_bits-bits c = not_a_nan _ c.if-x.false
-
-pub guessed_root-requires : goal.guessed_root-requires
-guessed_root-requires c = normal_bits _ c.if-bits.true
-
-pub root_of-requires : goal.root_of-requires
-root_of-requires c = positive_bits _ c.if-bits-2.true

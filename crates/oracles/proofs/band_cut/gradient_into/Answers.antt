@@ -26,7 +26,7 @@ negated n row over table grad' e o = skip over _ _ _ o (rw (row_is n row table) 
 pub returns-then-is_over : goal.returns-then-is_over
 returns-then-is_over c =
     let a = c.args in
-    copied a.rows.n a.row a.is_over a.rows.table.now _ c.copy_from_slice.ensures.after c.if-is_over.true
+    copied a.rows.n a.row a.is_over a.rows.table.now _ c.copy_into.ensures c.if-is_over.true
 
 pub returns-else-is_over : goal.returns-else-is_over
 returns-else-is_over c =

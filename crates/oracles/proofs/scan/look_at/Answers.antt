@@ -15,6 +15,6 @@ one many (inr e) h = absurd (h e)
 pub returns : goal.returns
 returns c =
     let a = c.args in
-    run_one a.rows.n a.rows.table.now a.rows.x.now a.lower a.limit a.row a.fmax a.kmax
-    (as_judged a.rows.n a.rows.table.now a.rows.x.now a.lower a.limit a.fmax refl c.row_value-value.ensures (to_z-of_z c.ranges.kmax) c.test_row.ensures)
-    ∙ ap (λ (m : ℕ). scan_run a.rows.n a.rows.table.now a.rows.x.now a.lower a.limit m a.row a.fmax a.kmax) (sym (one a.many c.requires.0 c.if-many-eq4.false))
+    run_one a.rows.n a.rows.table.now a.rows.x.now a.limits.lower a.limits.limit a.row a.fmax a.kmax
+    (as_judged a.rows.n a.rows.table.now a.rows.x.now a.limits.lower a.limits.limit a.fmax refl c.row_value-value.ensures (to_z-of_z c.ranges.kmax) c.test_row.ensures)
+    ∙ ap (λ (m : ℕ). scan_run a.rows.n a.rows.table.now a.rows.x.now a.limits.lower a.limits.limit m a.row a.fmax a.kmax) (sym (one a.many c.requires.0 c.if-many-eq4.false))

@@ -7,7 +7,7 @@ use Rattle.oracles.proofs.scan.scan_rest.Given as goal
 
 abbrev pub invariant-loop-left : goal.invariant-loop-left
 invariant-loop-left l =
-    RowsLeft l.rows.n l.rows.table.now l.rr l.left × (scan_from l.rows.n l.rows.table.now l.rows.x.now l.lower (Some l.limit) l.left l.rr l.fmax l.kmax ≡ scan_from l.rows.n l.rows.table.now l.rows.x.now l.lower (Some l.limit) l.initial.left l.initial.rr l.initial.fmax l.initial.kmax)
+    RowsLeft l.rows.n l.rows.table.now l.rr l.left × (scan_from l.rows.n l.rows.table.now l.rows.x.now l.limits.lower (Some l.limits.limit) l.left l.rr l.fmax l.kmax ≡ scan_from l.rows.n l.rows.table.now l.rows.x.now l.limits.lower (Some l.limits.limit) l.initial.left l.initial.rr l.initial.fmax l.initial.kmax)
 
 abbrev pub decreases-loop-left : goal.decreases-loop-left
 decreases-loop-left l = l.left

@@ -21,7 +21,7 @@ unfolding Ieee.of_bits
 row_at-row-requires c =
     let a = c.args in
     let R = c.requires in
-    row_there a.rows.x.now a.lower _ −∞ none (starts R c.band_from.ensures c.band_past.ensures) (start_is R c.band_from.ensures c.band_past.ensures a.lower a.upper c.unwrap_or-limit.ensures) (omega (arith, c.if-all-eq0.false)) c.step-rr.ensures
+    row_there a.x.now a.lower _ −∞ none (starts R c.band_from.ensures c.band_past.ensures) (start_is R c.band_from.ensures c.band_past.ensures a.lower a.upper c.unwrap_or-limit.ensures) (omega (arith, c.if-all-eq0.false)) c.step-rr.ensures
 
 pub row_value-value-requires : goal.row_value-value-requires
 unfolding Ieee.of_bits
@@ -34,21 +34,21 @@ unfolding Ieee.of_bits
 test_row-s-requires c =
     let a = c.args in
     let R = c.requires in
-    row_small a.rows.x.now a.lower _ −∞ none (starts R c.band_from.ensures c.band_past.ensures) (start_is R c.band_from.ensures c.band_past.ensures a.lower a.upper c.unwrap_or-limit.ensures) (omega (arith, c.if-all-eq0.false)) c.step-rr.ensures c.row_at-row.ensures
+    row_small a.x.now a.lower _ −∞ none (starts R c.band_from.ensures c.band_past.ensures) (start_is R c.band_from.ensures c.band_past.ensures a.lower a.upper c.unwrap_or-limit.ensures) (omega (arith, c.if-all-eq0.false)) c.step-rr.ensures c.row_at-row.ensures
 
 pub returns-then-is_some : goal.returns-then-is_some
 unfolding Ieee.div Ieee.neg Ieee.of_bits
 returns-then-is_some c =
     let a = c.args in
     first_ends c.requires c.band_from.ensures c.band_past.ensures a.lower a.upper c.unwrap_or-limit.ensures c.if-all-eq0.false c.step-rr.ensures c.row_at-row.ensures
-    (as_judged a.rows.n a.rows.table.now a.rows.x.now a.lower _ −∞ refl c.row_value-value.ensures refl c.test_row-s.ensures) (sym c.is_some.ensures ∙ c.if-is_some.true)
+    (as_judged a.n a.table.now a.x.now a.lower _ −∞ refl c.row_value-value.ensures refl c.test_row-s.ensures) (sym c.is_some.ensures ∙ c.if-is_some.true)
 
 pub scan_rest-requires : goal.scan_rest-requires
 unfolding Ieee.of_bits
 scan_rest-requires c =
     let a = c.args in
     let R = c.requires in
-    left_there a.rows.x.now a.lower _ −∞ none (starts R c.band_from.ensures c.band_past.ensures) (start_is R c.band_from.ensures c.band_past.ensures a.lower a.upper c.unwrap_or-limit.ensures) (omega (arith, c.if-all-eq0.false)) c.step-rr.ensures
+    left_there a.x.now a.lower _ −∞ none (starts R c.band_from.ensures c.band_past.ensures) (start_is R c.band_from.ensures c.band_past.ensures a.lower a.upper c.unwrap_or-limit.ensures) (omega (arith, c.if-all-eq0.false)) c.step-rr.ensures
 
 pub returns : goal.returns
 unfolding Ieee.div Ieee.neg Ieee.of_bits
@@ -56,4 +56,4 @@ returns c =
     let a = c.args in
     rw (to_z-of_z {w = w32} {z = c.test_row-s.result.kmax} (search rules)) at c.scan_rest.ensures
     ∙ first_goes_on c.requires c.band_from.ensures c.band_past.ensures a.lower a.upper c.unwrap_or-limit.ensures c.if-all-eq0.false c.step-rr.ensures c.row_at-row.ensures
-    (as_judged a.rows.n a.rows.table.now a.rows.x.now a.lower _ −∞ refl c.row_value-value.ensures refl c.test_row-s.ensures) (sym c.is_some.ensures ∙ c.if-is_some.false)
+    (as_judged a.n a.table.now a.x.now a.lower _ −∞ refl c.row_value-value.ensures refl c.test_row-s.ensures) (sym c.is_some.ensures ∙ c.if-is_some.false)

@@ -1,22 +1,21 @@
 -- `oracles::scan_band::first_refusal` meets its contract. Assumes nothing.
-use borrow.Author.Tests.{not-true, not-false}
-use mathlib.Core.Path.{refl}
-use Rattle.numbers.specs.laws.Refusal.{failed, held, at_first, at_next, refuses, accepts}
-use Rattle.std.proofs.Math.Path.{ap}
-use Rattle.std.proofs.Math.Bool.{not}
+use Rattle.numbers.specs.laws.Refusal.{at_first, at_next, asked_fault, asked_sound, asked_last, exits}
 use Rattle.oracles.proofs.scan_band.first_refusal.Goals as goal
 
-pub returns-then-not-dimension : goal.returns-then-not-dimension
-returns-then-not-dimension c = refuses _ _ _ (at_first _ (at_first _ (failed (not-true _ (ap not c.if-not-dimension.true))))) refl
+pub returns-in_err-ask : goal.returns-in_err-ask
+returns-in_err-ask c = exits (λ r. r) _ _ c.from_residual.ensures.1 (at_first _ (at_first _ (asked_fault _ _ c.ask.ensures.value c.in_err-ask.was)))
 
-pub returns-then-not-lengths : goal.returns-then-not-lengths
-returns-then-not-lengths c = refuses _ _ _ (at_first _ (at_next (held _ _ (not-false _ (ap not c.if-not-dimension.false))) (failed (not-true _ (ap not c.if-not-lengths.true))))) refl
+pub returns-in_err-ask-2 : goal.returns-in_err-ask-2
+returns-in_err-ask-2 c =
+    let d = asked_sound _ _ c.ask.ensures.value c.in_ok-ask.was in
+    exits (λ r. r) _ _ c.from_residual-in_err-ask-2.ensures.1 (at_first _ (at_next d (asked_fault _ _ c.ask-2.ensures.value c.in_err-ask-2.was)))
 
-pub returns-then-not-bands : goal.returns-then-not-bands
-returns-then-not-bands c = refuses _ _ _ (at_next (at_next (held _ _ (not-false _ (ap not c.if-not-dimension.false))) (held _ _ (not-false _ (ap not c.if-not-lengths.false)))) (at_first _ (failed (not-true _ (ap not c.if-not-bands.true))))) refl
-
-pub returns-then-not-cursors : goal.returns-then-not-cursors
-returns-then-not-cursors c = refuses _ _ _ (at_next (at_next (held _ _ (not-false _ (ap not c.if-not-dimension.false))) (held _ _ (not-false _ (ap not c.if-not-lengths.false)))) (at_next (held _ _ (not-false _ (ap not c.if-not-bands.false))) (failed (not-true _ (ap not c.if-not-cursors.true))))) refl
+pub returns-in_err-ask-3 : goal.returns-in_err-ask-3
+returns-in_err-ask-3 c =
+    let l = at_next (asked_sound _ _ c.ask.ensures.value c.in_ok-ask.was) (asked_sound _ _ c.ask-2.ensures.value c.in_ok-ask-2.was) in
+    exits (λ r. r) _ _ c.from_residual-in_err-ask-3.ensures.1 (at_next l (at_first _ (asked_fault _ _ c.ask-3.ensures.value c.in_err-ask-3.was)))
 
 pub returns : goal.returns
-returns c = accepts _ _ _ (at_next (at_next (held _ _ (not-false _ (ap not c.if-not-dimension.false))) (held _ _ (not-false _ (ap not c.if-not-lengths.false)))) (at_next (held _ _ (not-false _ (ap not c.if-not-bands.false))) (held _ _ (not-false _ (ap not c.if-not-cursors.false))))) refl
+returns c =
+    let l = at_next (asked_sound _ _ c.ask.ensures.value c.in_ok-ask.was) (asked_sound _ _ c.ask-2.ensures.value c.in_ok-ask-2.was) in
+    asked_last _ _ _ c.ask-4.ensures.value (λ g e. at_next l (at_next (asked_sound _ _ c.ask-3.ensures.value c.in_ok-ask-3.was) e))
