@@ -2,6 +2,7 @@
 use Rattle.std.specs.Prelude.{List, ℕ, Option}
 use Rattle.streams.specs.Input.{ReadInto, of_read}
 use Rattle.streams.specs.declared.output.Handed.{Handed}
+use Rattle.streams.specs.declared.sink.Sink.{Ghosts}
 use Rattle.commands.specs.Arguments.{command_of}
 use Rattle.commands.specs.Output.{Written, nothing_written, usage_written, WroteOnly}
 use Rattle.commands.specs.Answer.{answer_written}
@@ -17,9 +18,9 @@ pub data Wrote : Command → Written → Type 0 where
   advised : Wrote Usage usage_written
 
 -- by some arguments, how many, and the first that follows the program's own name; and that is all that is handed over
-pub record JobfileRan {W : Type 0} (contents : W → Option (List ℕ)) (held holds : W) (handed : Handed) : Type 0 where
+pub record JobfileRan {W : Type 0} (sink : Ghosts W) (held holds : W) (handed : Handed) : Type 0 where
   pub count : ℕ
   pub word : List ℕ
   pub written : Written
   pub wrote : Wrote (command_of count word) written
-  pub handed_over : WroteOnly contents held holds handed written
+  pub handed_over : WroteOnly sink held holds handed written

@@ -9,7 +9,7 @@ pub enum Command {
     Usage,
 }
 
-// How many arguments there are, the program's own name among them, and the first that follows it.
+// How many arguments there are, the program's own name among them, and the first that follows it: `count` is theirs and not the length of `word`.
 pub fn command_of(count: usize, word: &[u8]) -> Command
     ensures { result ≡ command_of count word.now }
 {

@@ -1,6 +1,5 @@
 // The program `jobfile`: its arguments, its inputs, and its commands. `JobfileRan` says what is handed over.
 ghost use Rattle.std.specs.Prelude.{◌≡◌, ◌*◌, ◌≤◌, length, take};
-ghost use Rattle.drivers.specs.laws.Job.{JobSound};
 ghost use Rattle.commands.specs.Arguments.{command_of};
 ghost use Rattle.commands.specs.Jobfile.{Wrote, JobfileRan};
 ghost use Rattle.commands.specs.declared.arguments.Command.TheVariants.{Answer, Belongs, Usage};
@@ -9,18 +8,19 @@ ghost use Rattle.commands.specs.laws.Jobfile.{Writing, Judged, JobJudged};
 use crate::answer::answer_job;
 use crate::arguments::{Command, command_of};
 use crate::belongs::judge_answer;
+use crate::sound_job::SoundJob;
 use crate::taking::take_or_refuse;
 use drivers::input::INPUT_ROOM;
-use drivers::job::Job;
 use drivers::trace::Source;
 use runner::buffers::Buffers;
 use std::env::FillError;
 use std::io::{Read, Write};
 use std::rt::{Env, Files};
 use streams::output::{Console, Handed, Stream};
+use streams::sink::Sink;
 
-fn print_usage<W: Write, E: Write>(console: &mut Console<'_, W, E>)
-    ensures { Writing W.contents console.old console.new (Wrote Usage) }
+fn print_usage<W: Sink, E: Write>(console: &mut Console<'_, W, E>)
+    ensures { Writing W.Sink console.old console.new (Wrote Usage) }
 {
     console.hand(
         Stream::Stderr,
@@ -29,8 +29,9 @@ fn print_usage<W: Write, E: Write>(console: &mut Console<'_, W, E>)
 }
 
 // Three functions read and then go on, each with other slices: one function for them would take a closure, and its contract would be longer than their bodies.
-fn run_answer<I: Read, W: Write, E: Write>(input: &mut I, console: &mut Console<'_, W, E>)
-    ensures { Writing W.contents console.old console.new (Wrote Answer) }
+// Their inputs are in fixed memory, since there is no heap.
+fn run_answer<I: Read, W: Sink, E: Write>(input: &mut I, console: &mut Console<'_, W, E>)
+    ensures { Writing W.Sink console.old console.new (Wrote Answer) }
 {
     let mut bytes = [0u8; INPUT_ROOM];
     let read = console.read_all(input, b"standard input", &mut bytes);
@@ -42,49 +43,37 @@ fn run_answer<I: Read, W: Write, E: Write>(input: &mut I, console: &mut Console<
 // ---- belongs
 
 // The answer's file is looked at when the job has been taken.
-fn judge_file<R: Files + Env, W: Write, E: Write>(
+fn judge_file<R: Files + Env, W: Sink, E: Write>(
     rt: &R,
     console: &mut Console<'_, W, E>,
-    job: Job,
+    taken: SoundJob,
     buffers: &mut Buffers,
 )
-    requires { JobSound job × (job.rows * job.n ≤ length buffers.old.table) × (job.n ≤ length buffers.old.xc) }
-    ensures { Writing W.contents console.old console.new (Judged job (take (job.rows * job.n) buffers.old.table) (take job.n buffers.old.xc)) }
+    ensures { Writing W.Sink console.old console.new (let job = taken.job in Judged job (take (job.rows * job.n) buffers.old.table) (take job.n buffers.old.xc)) }
 {
     let mut bytes = [0u8; INPUT_ROOM];
     let read = console.read_argument(rt, 3, &mut bytes);
     if let Some(count) = read {
-        judge_answer(console, job, buffers, &bytes[..count]);
+        judge_answer(console, taken, buffers, &bytes[..count]);
     }
 }
 
-fn belongs_lent<R: Files + Env, W: Write, E: Write>(
-    rt: &R,
-    console: &mut Console<'_, W, E>,
-    bytes: &[u8],
-    buffers: &mut Buffers,
-)
-    ensures { Writing W.contents console.old console.new (JobJudged bytes.now) }
-{
-    let taken = take_or_refuse(console, Source::Job, bytes, buffers);
-    if let Some(job) = taken {
-        judge_file(rt, console, job, buffers);
-    }
-}
-
-fn belongs_job<R: Files + Env, W: Write, E: Write>(
+fn belongs_job<R: Files + Env, W: Sink, E: Write>(
     rt: &R,
     console: &mut Console<'_, W, E>,
     bytes: &[u8],
 )
-    ensures { Writing W.contents console.old console.new (JobJudged bytes.now) }
+    ensures { Writing W.Sink console.old console.new (JobJudged bytes.now) }
 {
     let mut buffers = Buffers::new();
-    belongs_lent(rt, console, bytes, &mut buffers);
+    let taken = take_or_refuse(console, Source::Job, bytes, &mut buffers);
+    if let Some(job) = taken {
+        judge_file(rt, console, job, &mut buffers);
+    }
 }
 
-fn run_belongs<R: Files + Env, W: Write, E: Write>(rt: &R, console: &mut Console<'_, W, E>)
-    ensures { Writing W.contents console.old console.new (Wrote Belongs) }
+fn run_belongs<R: Files + Env, W: Sink, E: Write>(rt: &R, console: &mut Console<'_, W, E>)
+    ensures { Writing W.Sink console.old console.new (Wrote Belongs) }
 {
     let mut bytes = [0u8; INPUT_ROOM];
     let read = console.read_argument(rt, 2, &mut bytes);
@@ -95,14 +84,14 @@ fn run_belongs<R: Files + Env, W: Write, E: Write>(rt: &R, console: &mut Console
 
 // ---- the program
 
-fn run_command<R: Files + Env, I: Read, W: Write, E: Write>(
+fn run_command<R: Files + Env, I: Read, W: Sink, E: Write>(
     rt: &R,
     input: &mut I,
     console: &mut Console<'_, W, E>,
     count: usize,
     word: &[u8],
 )
-    ensures { Writing W.contents console.old console.new (Wrote (command_of count word.now)) }
+    ensures { Writing W.Sink console.old console.new (Wrote (command_of count word.now)) }
 {
     match command_of(count, word) {
         Command::Answer => run_answer(input, console),
@@ -111,7 +100,7 @@ fn run_command<R: Files + Env, I: Read, W: Write, E: Write>(
     }
 }
 
-// How many arguments there are, the program's own name among them.
+// How many arguments there are, the program's own name among them. Whether one is there is asked with no room for it.
 fn count_arguments<R: Env>(rt: &R) -> usize {
     let mut none = [0u8; 0];
     for i in 0..usize::MAX {
@@ -122,14 +111,14 @@ fn count_arguments<R: Env>(rt: &R) -> usize {
     usize::MAX
 }
 
-// A command's name has at most 16 bytes; a longer word is none.
-pub fn run_arguments<R: Files + Env, I: Read, W: Write, E: Write>(
+// A command's name has at most 16 bytes, in fixed memory; a longer word is no command.
+pub fn run_arguments<R: Files + Env, I: Read, W: Sink, E: Write>(
     rt: &R,
     input: &mut I,
     output: &mut W,
     errors: &mut E,
 ) -> Handed
-    ensures { JobfileRan W.contents output.old output.new result }
+    ensures { JobfileRan W.Sink output.old output.new result }
 {
     let mut word = [0u8; 16];
     let length = rt.arg(1, &mut word).unwrap_or(0);

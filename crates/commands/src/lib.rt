@@ -5,4 +5,5 @@ pub mod answer;
 pub mod arguments;
 pub mod belongs;
 pub mod jobfile;
+mod sound_job;
 mod taking;

@@ -1,2 +1,1 @@
-mod Checks
 pub mod Left

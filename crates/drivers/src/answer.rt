@@ -14,9 +14,10 @@ use crate::record::{
 use crate::rules::{ANSWER, FOUND, FOUND_TAG, OUTCOME, OUTCOME_TAG, STEPS, STEPS_TAG, TAGS};
 use crate::text::Writer;
 use numbers::arr::{dimension, lengths};
-use numbers::refusal::{Fault, Refusal};
+use numbers::refusal::{Fault, Refusal, ask};
 
 // What a run answers, and a record keeps, beside the point: whether there is one, and the steps.
+// `found` is a flag: the steps count either way, and the point stands in a lent slice, so that an Option would have nothing to hold.
 #[derive(Clone, Copy)]
 pub struct Answer {
     pub found: bool,
@@ -27,10 +28,7 @@ pub struct Answer {
 fn outcome_byte(found: bool) -> u64
     ensures { result ≡ outcome_byte «found» }
 {
-    if found {
-        return 1;
-    }
-    0
+    found as u64
 }
 
 // Refusal 12, at tag 20: the outcome is not that of a record with, or without, tag 22.
@@ -97,6 +95,7 @@ fn fill_answer(n: usize, bytes: &[u8], places: &[usize; TAGS], point: &mut [f64]
 pub fn read_answer(n: usize, bytes: &[u8], point: &mut [f64]) -> Result<Answer, Fault>
     ensures { (result, point.new) ≡ read_answer_answer n bytes.now point.old }
 {
+    // fixed memory, since there is no heap
     let mut places = [0usize; TAGS];
     answer_fault(n, bytes, &mut places, point.len())?;
     Ok(fill_answer(n, bytes, &places, point))
@@ -142,8 +141,6 @@ pub fn write_answer(
 {
     dimension(n)?;
     lengths(point.len() == n)?;
-    if out.len() < answer_size(n, answer.found) {
-        return Err(Refusal::Room);
-    }
+    ask(answer_size(n, answer.found) <= out.len(), Refusal::Room)?;
     Ok(put_answer(out, answer, point))
 }

@@ -13,10 +13,8 @@ use oracles::lowpass_oracle::Cut;
 fn belonging_of(verdict: Result<Option<Cut>, Refusal>, found: bool) -> Result<bool, Refusal>
     ensures { result ≡ belonging_of verdict «found» }
 {
-    match verdict {
-        Err(why) => Err(why),
-        Ok(broken) => Ok(broken.is_none() == found),
-    }
+    let broken = verdict?;
+    Ok(broken.is_none() == found)
 }
 
 // An answer belongs to a job when its point is feasible for that job, or, having none, when the job's own point x isn't. grad is scratch.

@@ -1,11 +1,13 @@
 // What both drivers (cutting_plane.rs) share: their options, their tests, the best point, and whether a run goes on.
-ghost use Rattle.std.specs.Prelude.{◌≡◌, Ok, Err};
+// The slices that a run moves go one by one through its functions. Tried as a struct: lent by `&mut`, a field that is read while another is written is not covered by the borrow checker,
+// also after a `let` or a pattern (two that are lent `&mut` at once are); by value, each return puts it together again, and `feas_step` grows from 32 lines to 61.
+ghost use Rattle.std.specs.Prelude.{◌≡◌, true, length, Ok, Err};
 ghost use Rattle.numbers.specs.Refusal.{◌⨾◌, unless};
 ghost use Rattle.drivers.specs.CuttingPlane.{default_options, check_of, room_test, kept, proceeds};
 
 use numbers::arr::{dimension, lengths};
 use numbers::cut::CutStatus;
-use numbers::refusal::Refusal;
+use numbers::refusal::{Refusal, ask};
 use oracles::lowpass_oracle::LowpassOracle;
 use oracles::table::table_fits;
 
@@ -37,43 +39,41 @@ impl Options {
     }
 }
 
-// The tests of a run, by the lengths of its slices: refusals 1 to 4, then 11, where the output has not the room that is needed.
+// The tests of a run: refusals 1 to 4, then 11, where the output has not the room that is needed.
 pub(crate) fn check(
     oracle: LowpassOracle,
     n: usize,
     rows: usize,
-    table: usize,
-    mq: usize,
-    xc: usize,
-    grad: usize,
-    grad_t: usize,
+    table: &[f64],
+    mq: &[f64],
+    xc: &[f64],
+    grad: &[f64],
+    grad_t: &[f64],
     room: usize,
     needed: usize,
 ) -> Result<(), Refusal>
-    ensures { result ≡ unless (check_of oracle n rows table mq xc grad grad_t ⨾ room_test needed room) (λ why place. Err why) (Ok tt) }
+    ensures { result ≡ unless (check_of oracle n rows (length table.now) (length mq.now) (length xc.now) (length grad.now) (length grad_t.now) ⨾ room_test needed room)
+        (λ why place. Err why) (Ok tt) }
 {
     dimension(n)?;
-    lengths(table_fits(n, rows, table, xc) & (mq == n * n) & (grad == n) & (grad_t == n))?;
-    if !oracle.bands_fit(rows) {
-        return Err(Refusal::Band);
-    }
-    if !oracle.cursors_fit() {
-        return Err(Refusal::Cursor);
-    }
-    if room < needed {
-        return Err(Refusal::Room);
-    }
-    Ok(())
+    lengths(
+        table_fits(n, rows, table.len(), xc.len())
+            & (mq.len() == n * n)
+            & (grad.len() == n)
+            & (grad_t.len() == n),
+    )?;
+    ask(oracle.bands_fit(rows), Refusal::Band)?;
+    ask(oracle.cursors_fit(), Refusal::Cursor)?;
+    ask(needed <= room, Refusal::Room)
 }
 
-// Copies the centre to the front of x_best, if it is to be kept and there is room.
-pub(crate) fn keep(is_kept: bool, xc: &[f64], x_best: &mut [f64])
-    ensures { x_best.new ≡ kept is_kept xc.now x_best.old }
+// Copies the centre to the front of x_best, if there is room.
+pub(crate) fn keep(xc: &[f64], x_best: &mut [f64])
+    ensures { x_best.new ≡ kept true xc.now x_best.old }
 {
-    if !(is_kept & (xc.len() <= x_best.len())) {
-        return;
+    if xc.len() <= x_best.len() {
+        x_best[..xc.len()].copy_from_slice(xc);
     }
-    x_best[..xc.len()].copy_from_slice(xc);
 }
 
 // Whether the run goes on after an update.

@@ -24,6 +24,7 @@ pub fn optim_number(answer: &Result<Answer, OptimStop>) -> u8
     }
 }
 
+// `found`, whether there is a best point so far, is a flag: that point stands in the lent x_best, and the run goes on either way.
 #[derive(Clone, Copy)]
 struct OptimStep {
     oracle: LowpassOracle,
@@ -40,7 +41,7 @@ pub enum OptimStop {
     Refused(Refusal),
 }
 
-// Document 01's number.
+// Document 01's number. A match: a halt has the number of a refusal that it does not hold, so that no discriminant or derive gives it.
 impl From<OptimStop> for u8 {
     ghost from_gives = { λ stop n. n ≡ stop_number stop };
 
@@ -61,7 +62,7 @@ pub struct OptimRun {
     pub answer: Result<Answer, OptimStop>,
 }
 
-// A step that ends with this update.
+// A step that ends with this update. The parameters go one by one, as in `run_feas`; so in the functions below.
 fn optim_stepped(
     oracle: LowpassOracle,
     ell: Ell,
@@ -81,6 +82,7 @@ fn optim_stepped(
 }
 
 // One step: a feasible centre is kept as the best point and cut centrally, any other is cut off. A refusal by 6 changes nothing.
+// The match is on the verdict, and each of its three ways has its own numbers.
 fn optim_step(
     oracle: LowpassOracle,
     ell: Ell,
@@ -112,7 +114,7 @@ fn optim_step(
         },
         Ok(said) => match said {
             OptimVerdict::Improved(beta) => {
-                keep(true, xc, x_best);
+                keep(xc, x_best);
                 let change = ell.change(CutStrategy::CentralCut, grad, beta, mq, xc, grad_t);
                 optim_stepped(after, ell, change, offer, true)
             }
@@ -128,10 +130,7 @@ fn optim_step(
 fn optim_goes_on(answer: Result<CutStatus, Refusal>, tsq: f64, tolerance: f64) -> bool
     ensures { result ≡ optim_goes_on answer tsq tolerance }
 {
-    match answer {
-        Ok(status) => proceeds(status, tsq, tolerance),
-        Err(_) => false,
-    }
+    answer.is_ok_and(|status| proceeds(status, tsq, tolerance))
 }
 
 // What a run answers that ends with this update, or is halted there.
@@ -168,7 +167,7 @@ fn run_of(
     }
 }
 
-// The steps, with nothing left to refuse but 6.
+// The steps, with nothing left to refuse but 6. The parameters are those of the public call, as in `run_feas`.
 fn run_optim(
     oracle: LowpassOracle,
     ell: Ell,
@@ -210,8 +209,9 @@ fn run_optim(
     run_of(oracle, space, offer, Ok(ended))
 }
 
-// The Rust has two drivers, too: this one keeps a best point and an offer, and may be halted.
-// Cuts the ellipsoid at each feasible centre by its largest stop value, which becomes the next offer; the last such centre is at the front of x_best. grad and grad_t are scratch. A refused call gives everything back as it came.
+// Keeps a best point and an offer, and may be halted.
+// Cuts the ellipsoid at each feasible centre by its largest stop value, which becomes the next offer; the last such centre is at the front of x_best.
+// grad and grad_t are scratch. A refused call gives everything back as it came.
 pub fn cutting_plane_optim(
     oracle: LowpassOracle,
     ell: Ell,
@@ -237,11 +237,11 @@ pub fn cutting_plane_optim(
         oracle,
         n,
         rows,
-        table.len(),
-        mq.len(),
-        xc.len(),
-        grad.len(),
-        grad_t.len(),
+        table,
+        mq,
+        xc,
+        grad,
+        grad_t,
         x_best.len(),
         n,
     );

@@ -28,6 +28,7 @@ pub fn take_job(
         return Err(refused_line(source, Refusal::Room, LONGEST, out));
     }
     let read = read_job(bytes, table, xc, mq);
+    // By hand, as in run.rt's `open_job`.
     match read {
         Ok(job) => Ok(job),
         Err(fault) => Err(refused_line(source, fault.why, fault.place, out)),
@@ -35,6 +36,7 @@ pub fn take_job(
 }
 
 // Reads an answer to a job of dimension n; a point goes to the front of `point`. Or writes the line that refuses it to the front of `out`.
+// Beside `take_job`: each reads another record into other slices, and what they share is a test and a line.
 pub fn take_answer(
     n: usize,
     bytes: &[u8],
@@ -48,6 +50,7 @@ pub fn take_answer(
         return Err(refused_line(source, Refusal::Room, LONGEST, out));
     }
     let read = read_answer(n, bytes, point);
+    // By hand, as in run.rt's `open_job`.
     match read {
         Ok(answer) => Ok(answer),
         Err(fault) => Err(refused_line(source, fault.why, fault.place, out)),

@@ -9,7 +9,7 @@ ghost use Rattle.drivers.specs.laws.Job.{oracle_fault, content_fault};
 
 use crate::cutting_plane::Options;
 use crate::record::{
-    content_at, count_rows, half_at, is_row, lengths_fault, next_field, number_at, numbers_into,
+    Fields, content_at, count_rows, half_at, is_row, lengths_fault, number_at, numbers_into,
     record_fault, size_fault, start_of,
 };
 use crate::rules::{BANDS, CURSORS, JOB, KAPPA, LIMITS, MATRIX, N, POINT, SETTINGS, TAGS};
@@ -71,13 +71,7 @@ fn part(w: u64, k: usize) -> usize
     requires { k < 3 }
     ensures { result ≡ part_of w k }
 {
-    if k == 0 {
-        return (w % 65536) as usize;
-    }
-    if k == 1 {
-        return (w / 65536 % 65536) as usize;
-    }
-    (w / 4294967296 % 65536) as usize
+    (w / 65536u64.pow(k as u32) % 65536) as usize
 }
 
 // A 16-bit number as a signed one.
@@ -85,10 +79,7 @@ fn signed(h: usize) -> i32
     requires { h < 65536 }
     ensures { result ≡ signed h }
 {
-    if h < 32768 {
-        return h as i32;
-    }
-    h as i32 - 65536
+    (h as u16).cast_signed() as i32
 }
 
 // The step limit, and the tolerance two bytes on.
@@ -181,9 +172,9 @@ fn has_room(job: Job, table: usize, xc: usize, mq: usize) -> bool
 
 // ---- the reader
 
-// A field's numbers from table[k] on, if it is a row; where the next row is to stand.
+// A field's numbers from table[k] on, if it is a row; where the next row is to stand. The table is lent whole, since k is behind its last number where nothing follows.
 fn fill_row(bytes: &[u8], at: usize, n: usize, k: usize, table: &mut [f64]) -> usize
-    requires { (at < length bytes.now) × (n ≤ 1024) × (k + rows_in bytes.now at * n ≤ length table.old) }
+    requires { (n ≤ 1024) × (k + rows_in bytes.now at * n ≤ length table.old) }
     ensures { (result, table.new) ≡ row_filled bytes.now at n k table.old }
 {
     if !is_row(bytes, at) {
@@ -194,20 +185,18 @@ fn fill_row(bytes: &[u8], at: usize, n: usize, k: usize, table: &mut [f64]) -> u
     end
 }
 
-// The rows, in the order of arrival, to the front of the table. By hand, since two places move: that of the field and that of the row.
+// The rows, in the order of arrival, to the front of the table.
 fn fill_table(bytes: &[u8], n: usize, table: &mut [f64])
     requires { (n ≤ 1024) × (row_count bytes.now (fields_of bytes.now) * n ≤ length table.old) }
     ensures { table.new ≡ fronted (rows_of n bytes.now (fields_of bytes.now)) table.old }
 {
-    let mut at = 0;
     let mut k = 0;
-    while at < bytes.len() {
+    for at in Fields::of(bytes) {
         k = fill_row(bytes, at, n, k, table);
-        at = next_field(bytes, at);
     }
 }
 
-// The rows, the point and the matrix to the fronts of the three slices.
+// The rows, the point and the matrix to the fronts of the three slices, which go as in `read_job`, whose caller lends them.
 fn fill_job(
     bytes: &[u8],
     places: &[usize; TAGS],
@@ -256,6 +245,7 @@ pub fn read_job(
 ) -> Result<Job, Fault>
     ensures { (result, table.new, xc.new, mq.new) ≡ read_job_answer bytes.now table.old xc.old mq.old }
 {
+    // fixed memory, since there is no heap
     let mut places = [0usize; TAGS];
     job_fault(bytes, &mut places)?;
     read_sound(bytes, &places, table, xc, mq)

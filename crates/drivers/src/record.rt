@@ -1,17 +1,19 @@
 // Records: fields of a one-byte tag, a two-byte length and content, in any order. What a job and an answer share: the walk over the fields, by the table of rules.
-ghost use Rattle.std.specs.Prelude.{◌≡◌, ◌≤◌, ◌<◌, length};
+ghost use Rattle.std.specs.Prelude.{◌≡◌, ◌≤◌, ◌<◌, ◌+◌, ◌*◌, length, Ok};
+ghost use Rattle.numbers.specs.Refusal.{unless, At};
 ghost use Rattle.std.specs.Iterator.{YieldsFirst, item_count};
 ghost use Rattle.drivers.specs.laws.Record.{fields_after};
-ghost use Rattle.drivers.specs.Record.{byte_at, length_at, half_at, number_at, numbers_at, start_of, content_of, is_row, rows_in, after, field_fault, first_place, fields_of, walk_of, missing_fault, record_fault, size_fault, lengths_fault, row_count};
+ghost use Rattle.drivers.specs.Record.{byte_at, length_at, index_at, half_at, number_at, numbers_at, start_of, content_of, is_row, rows_in, after, field_fault, first_place, fields_of, walk_of, missing_fault, record_fault, size_fault, lengths_fault, row_count};
 
-use crate::rules::{Form, ROW, TAGS, is_of, rule_at, rule_index, rule_length};
+use crate::rules::{Form, ROW_TAG, TAGS, is_of, rule_at, rule_index, rule_length};
+use crate::text::has_room;
 use numbers::bits::{of_bits, word_at};
 use numbers::refusal::{Fault, Refusal};
 
 // A tag, and two bytes of length.
 pub(crate) const HEADER: usize = 3;
 
-// ---- a field's header, and numbers in its content; bytes past the end count as 0
+// ---- a field's header, and numbers in its content. A place goes beside the bytes, and no slice from it: it may lie past the end, where bytes count as 0.
 
 pub(crate) fn byte_at(bytes: &[u8], at: usize) -> u64
     ensures { result ≡ byte_at bytes.now at }
@@ -42,11 +44,26 @@ pub(crate) fn number_at(bytes: &[u8], p: usize, k: usize) -> f64
     of_bits(word_at(&bytes[p..], 8 * k))
 }
 
+// The numbers of a content that begins at p and stands whole in the record: a load each, with no test of its place.
+fn whole_numbers_into(bytes: &[u8], p: usize, out: &mut [f64])
+    requires { p + 8 * length out.old ≤ length bytes.now }
+    ensures { out.new ≡ numbers_at bytes.now p (length out.old) }
+{
+    for k in 0..out.len() {
+        let at = p + 8 * k;
+        let end = at + 8;
+        out[k] = of_bits(word_at(&bytes[at..end], 0));
+    }
+}
+
 // The numbers of the content that begins at p, as many as `out` takes.
 pub(crate) fn numbers_into(bytes: &[u8], p: usize, out: &mut [f64])
     requires { length out.old ≤ 32768 }
     ensures { out.new ≡ numbers_at bytes.now p (length out.old) }
 {
+    if has_room(bytes.len(), p, 8 * out.len()) {
+        return whole_numbers_into(bytes, p, out);
+    }
     for (k, number) in out.iter_mut().enumerate() {
         *number = number_at(bytes, p, k);
     }
@@ -64,31 +81,29 @@ pub(crate) fn start_of(p: usize) -> usize
 
 // Where a field's content begins; the end where its header is cut short.
 pub(crate) fn content_at(bytes: &[u8], at: usize) -> usize
-    requires { at < length bytes.now }
     ensures { result ≡ content_of bytes.now at }
 {
-    if bytes.len() - at < HEADER {
+    if !has_room(bytes.len(), at, HEADER) {
         return bytes.len();
     }
     at + HEADER
 }
 
-// Whether the field is a row of the table.
+// Whether the field is a row of the table: by its tag, since a search of the rules costs more.
 pub(crate) fn is_row(bytes: &[u8], at: usize) -> bool
     ensures { result ≡ is_row bytes.now at }
 {
-    rule_index(byte_at(bytes, at)) == ROW
+    byte_at(bytes, at) == ROW_TAG as u64
 }
 
-// ---- the walk, front to back
+// ---- the walk, front to back. A field is the place where it begins, which a refusal says, and not a slice.
 
 // Where the next field begins; the end where this one is cut short.
 pub(crate) fn next_field(bytes: &[u8], at: usize) -> usize
-    requires { at < length bytes.now }
     ensures { result ≡ after bytes.now at }
 {
     let whole = HEADER + length_at(bytes, at);
-    if bytes.len() - at < whole {
+    if !has_room(bytes.len(), at, whole) {
         return bytes.len();
     }
     at + whole
@@ -126,12 +141,11 @@ impl<'a> Fields<'a> {
     }
 }
 
-// The tests of one field, in document 01's order.
-fn field_fault(bytes: &[u8], form: Form, places: &[usize; TAGS], at: usize) -> Result<(), Fault>
-    requires { at < length bytes.now }
-    ensures { result ≡ field_fault bytes.now form places.now at }
+// The tests of one field, in document 01's order; its tag's place in the table.
+fn field_index(bytes: &[u8], form: Form, places: &[usize; TAGS], at: usize) -> Result<usize, Fault>
+    ensures { result ≡ unless (field_fault bytes.now form places.now at) (λ why place. At why place) (Ok (index_at bytes.now at)) }
 {
-    if bytes.len() - at < HEADER {
+    if !has_room(bytes.len(), at, HEADER) {
         return Err(Fault {
             why: Refusal::CutShort,
             place: at,
@@ -151,13 +165,13 @@ fn field_fault(bytes: &[u8], form: Form, places: &[usize; TAGS], at: usize) -> R
             place: at,
         });
     }
-    if bytes.len() - at - HEADER < length_at(bytes, at) {
+    if !has_room(bytes.len(), at, HEADER + length_at(bytes, at)) {
         return Err(Fault {
             why: Refusal::CutShort,
             place: at,
         });
     }
-    Ok(())
+    Ok(i)
 }
 
 // A tag's place when one more field of it is met. Where it has none the place is 0, which is no content's, since a header stands before it. No Option: whoever reads at a place takes any number.
@@ -175,8 +189,7 @@ fn walk(bytes: &[u8], form: Form, places: &mut [usize; TAGS]) -> Result<(), Faul
     ensures { (result, places.new) ≡ walk_of bytes.now form (fields_of bytes.now) places.old }
 {
     for at in Fields::of(bytes) {
-        field_fault(bytes, form, places, at)?;
-        let i = rule_index(byte_at(bytes, at));
+        let i = field_index(bytes, form, places, at)?;
         places[i] = first_place(places[i], content_at(bytes, at));
     }
     Ok(())
@@ -251,10 +264,7 @@ pub(crate) fn lengths_fault(bytes: &[u8], n: usize) -> Result<(), Fault>
 fn rows_in(bytes: &[u8], at: usize) -> usize
     ensures { result ≡ rows_in bytes.now at }
 {
-    if is_row(bytes, at) {
-        return 1;
-    }
-    0
+    is_row(bytes, at) as usize
 }
 
 // How many rows a record has. `filter` and `count` would say it in a line; their proof over these fields did not close.

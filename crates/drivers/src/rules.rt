@@ -33,7 +33,9 @@ pub(crate) struct Rule {
     pub(crate) often: Often,
 }
 
-// The tags that are written, too.
+// A row's tag, and those that are written: bytes of a record, and so numbers.
+pub(crate) const ROW_TAG: u8 = 0x04;
+
 pub(crate) const OUTCOME_TAG: u8 = 0x20;
 
 pub(crate) const STEPS_TAG: u8 = 0x21;
@@ -100,7 +102,7 @@ const RULES: [Rule; TAGS] = [
         ..OF_JOB
     },
     Rule {
-        tag: 0x04,
+        tag: ROW_TAG,
         often: Often::Many,
         ..NUMBERS
     },
@@ -148,13 +150,12 @@ const RULES: [Rule; TAGS] = [
 ];
 
 // Its rows by name, which are also the places of their tags, and how many there are. They index arrays, so they are numbers: an enum would be turned into one at each use.
+// None has 3, the place of the rows, which are known by their tag.
 pub(crate) const N: usize = 0;
 
 pub(crate) const BANDS: usize = 1;
 
 pub(crate) const LIMITS: usize = 2;
-
-pub(crate) const ROW: usize = 3;
 
 pub(crate) const POINT: usize = 4;
 
@@ -207,24 +208,12 @@ pub(crate) fn rule_index(tag: u64) -> usize
     place_in(&RULES, tag).unwrap_or(TAGS)
 }
 
-fn power(n: usize, k: usize) -> usize
-    requires { (n ≤ 32) × (k ≤ 2) }
-    ensures { result ≡ n ^ k }
-{
-    if k == 0 {
-        return 1;
-    }
-    if k == 1 {
-        return n;
-    }
-    n * n
-}
-
-// The bytes that a field's content must have.
+// The bytes that a field's content must have. n ≤ 32 is asked here and by seven functions of job.rt, answer.rt and record.rt: each has it from a test just before, and a struct for n that
+// held it would be made at five places and opened wherever n is used.
 pub(crate) fn rule_length(i: usize, n: usize) -> usize
     requires { n ≤ 32 }
     ensures { result ≡ rule_length i n }
 {
     let rule = rule_at(i);
-    rule.base as usize + rule.factor as usize * power(n, rule.power as usize)
+    rule.base as usize + rule.factor as usize * n.pow(rule.power as u32)
 }

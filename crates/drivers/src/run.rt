@@ -9,7 +9,8 @@ use crate::cutting_plane::{Options, check};
 use crate::cutting_plane_feas::{feas_ended, feas_step, goes_on};
 use crate::input::take_job;
 use crate::job::Job;
-use crate::trace::{ROOM, Source, Text, put_ended, put_last, put_step, refused_line};
+use crate::text::Writer;
+use crate::trace::{ROOM, Source, Text, refused_line};
 use numbers::refusal::Refusal;
 use oracles::ell::Ell;
 use oracles::lowpass_oracle::LowpassOracle;
@@ -25,6 +26,7 @@ pub struct Run {
 }
 
 // The run after a step, its text, and whether there is more to come.
+// `more` is a flag: the run is promised after the last step and after a refusal too, so that an Option would lose it, and an enum would hold it in both variants.
 #[derive(Clone, Copy)]
 pub struct Printed {
     pub run: Run,
@@ -86,7 +88,7 @@ impl Run {
         }
     }
 
-    // A step, with its text, and the answer's where it is the last.
+    // A step, with its text, and the answer's where it is the last. The slices go one by one, as in cutting_plane.rt.
     fn step(
         self,
         table: &[f64],
@@ -105,20 +107,24 @@ impl Run {
         let options = self.options;
         let step = feas_step(oracle, ell, self.rows, table, mq, xc, grad, grad_t);
         let after = step.oracle;
-        let space = step.ell;
+        let mut space = ell;
+        space.kappa = step.kappa;
+        space.tsq = step.tsq;
         let answer = step.answer;
-        let at = put_step(out, self.niter, answer);
+        let mut text = Writer::new(out, 0);
+        text.put_step(self.niter, answer);
         if goes_on(answer, space.tsq, options.tolerance) {
             return Printed {
                 run: self.after_step(after, space, self.niter + 1),
                 more: true,
-                text: Ok(at),
+                text: Ok(text.end()),
             };
         }
+        text.put_ended(feas_ended(answer, self.niter));
         Printed {
             run: self.after_step(after, space, self.niter),
             more: false,
-            text: Ok(put_ended(out, at, feas_ended(answer, self.niter))),
+            text: Ok(text.end()),
         }
     }
 
@@ -144,11 +150,11 @@ impl Run {
             oracle,
             n,
             rows,
-            table.len(),
-            mq.len(),
-            xc.len(),
-            grad.len(),
-            grad_t.len(),
+            table,
+            mq,
+            xc,
+            grad,
+            grad_t,
             out.len(),
             ROOM,
         );
@@ -162,10 +168,12 @@ impl Run {
                     found: false,
                     steps: self.niter,
                 };
+                let mut text = Writer::new(out, 0);
+                text.put_last(none);
                 Printed {
                     run: self,
                     more: false,
-                    text: Ok(put_last(out, 0, none)),
+                    text: Ok(text.end()),
                 }
             }
         }
@@ -178,6 +186,7 @@ fn open_job(job: Job, out: &mut [u8]) -> Result<Run, Text>
     ensures { (result, out.new) ≡ opened_job job out.old }
 {
     let run = Run::new(job);
+    // By hand: of an `out` that `map_err`'s closure writes to, nothing is known afterwards. So in input.rt.
     match run {
         Ok(made) => Ok(made),
         Err(why) => Err(refused_line(Source::Only, why, 0, out)),
@@ -196,8 +205,5 @@ pub fn open(
         ≡ open_answer bytes.now table.old xc.old mq.old out.old }
 {
     let taken = take_job(Source::Only, bytes, table, xc, mq, out);
-    match taken {
-        Ok(job) => open_job(job, out),
-        Err(text) => Err(text),
-    }
+    open_job(taken?, out)
 }

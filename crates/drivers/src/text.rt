@@ -1,7 +1,7 @@
-// Text into a lent slice, piece by piece. A piece that does not fit is not written, and the place stays: no piece asks anything of its caller. Digits are not left to `write!`: std's writers into a slice promise nothing of its bytes, and would write a part of what does not fit.
+// Text into a lent slice, piece by piece. A piece that does not fit is not written, and the place stays: no piece asks anything of its caller.
+// Digits are not left to `write!`: std's writers into a slice promise nothing of its bytes, and would write a part of what does not fit.
 ghost use Rattle.std.specs.Prelude.{◌≡◌, ◌+◌, ◌≤◌, ◌<◌, leb, [], ◌∷◌};
 ghost use Rattle.drivers.specs.Text.{digit_char, digits_of, digit_count, decimal, hex};
-ghost use Rattle.drivers.specs.laws.Text.{put};
 ghost use Rattle.drivers.specs.laws.Writer.{Puts};
 
 // A digit to a base up to 16, in upper case.
@@ -33,20 +33,44 @@ impl<'a> Writer<'a> {
     pub(crate) fn put_text(&mut self, text: &[u8])
         ensures { Puts self.old self.new (text.now ∷ []) }
     {
-        self.at = put_text(self.out, self.at, text);
+        if !has_room(self.out.len(), self.at, text.len()) {
+            return;
+        }
+        let at = self.at;
+        let end = at + text.len();
+        self.out[at..end].copy_from_slice(text);
+        self.at = end;
+    }
+
+    // The count lowest digits of w to the base, the highest first.
+    fn put_digits(&mut self, w: u64, base: u64, count: usize)
+        requires { (2 ≤ base) × (base ≤ 16) }
+        ensures { Puts self.old self.new (digits_of base count w ∷ []) }
+    {
+        if !has_room(self.out.len(), self.at, count) {
+            return;
+        }
+        let at = self.at;
+        let end = at + count;
+        let mut rest = w;
+        for i in (at..end).rev() {
+            self.out[i] = digit_char(rest % base);
+            rest /= base;
+        }
+        self.at = end;
     }
 
     pub(crate) fn put_decimal(&mut self, w: u64)
         ensures { Puts self.old self.new (decimal w ∷ []) }
     {
-        self.at = put_digits(self.out, self.at, w, 10, digit_count(w));
+        self.put_digits(w, 10, digit_count(w));
     }
 
     // Sixteen digits.
     pub(crate) fn put_hex(&mut self, w: u64)
         ensures { Puts self.old self.new (hex w ∷ []) }
     {
-        self.at = put_digits(self.out, self.at, w, 16, 16);
+        self.put_digits(w, 16, 16);
     }
 
     // Where the last piece ended.
@@ -69,41 +93,13 @@ pub(crate) fn has_room(bytes: usize, at: usize, size: usize) -> bool
     size <= bytes - at
 }
 
-// A copy of the text from out[at] on; where the next piece begins.
-fn put_text(out: &mut [u8], at: usize, text: &[u8]) -> usize
-    ensures { (result, out.new) ≡ put out.old at text.now }
-{
-    if !has_room(out.len(), at, text.len()) {
-        return at;
-    }
-    let end = at + text.len();
-    out[at..end].copy_from_slice(text);
-    end
-}
-
-// The count lowest digits of w to the base, the highest first.
-fn put_digits(out: &mut [u8], at: usize, w: u64, base: u64, count: usize) -> usize
-    requires { (2 ≤ base) × (base ≤ 16) }
-    ensures { (result, out.new) ≡ put out.old at (digits_of base count w) }
-{
-    if !has_room(out.len(), at, count) {
-        return at;
-    }
-    let end = at + count;
-    let mut rest = w;
-    for i in (at..end).rev() {
-        out[i] = digit_char(rest % base);
-        rest /= base;
-    }
-    end
-}
-
 // How many decimal digits w has; 0 has one.
 fn digit_count(w: u64) -> usize
     ensures { result ≡ digit_count w }
 {
     let mut rest = w;
     let mut count = 1;
+    // A `while`, since how often it turns is what it counts.
     while 10 <= rest {
         rest /= 10;
         count += 1;

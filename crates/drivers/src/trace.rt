@@ -1,7 +1,6 @@
 // The text of a run, as `filterrun` prints it: a line for each cut, then the answer; or one line that says why a job is refused.
 ghost use Rattle.std.specs.Prelude.{◌≡◌, [], ◌∷◌, if◌then◌else◌};
 ghost use Rattle.drivers.specs.Trace.{group_word, row_text, beta_pieces, status_word, cut_pieces, answer_pieces, last_pieces, ended_pieces, source_word, refused_pieces, refused_line_answer};
-ghost use Rattle.drivers.specs.laws.Text.{put_all};
 ghost use Rattle.drivers.specs.laws.Writer.{Puts};
 
 use crate::answer::Answer;
@@ -9,7 +8,7 @@ use crate::cutting_plane_feas::StepAnswer;
 use crate::text::Writer;
 use numbers::bits::to_bits;
 use numbers::cut::{CutChoice, CutStatus};
-use numbers::refusal::Refusal;
+use numbers::refusal::{Refusal, ask};
 use oracles::lowpass_oracle::Group;
 
 // The count of bytes written to the front of the lent slice, or why nothing was written.
@@ -26,28 +25,50 @@ pub enum Source {
 // The longest text of a step, its cut and the answer, fits.
 pub const ROOM: usize = 128;
 
-// ---- a cut
+// ---- the words, matched by hand where Rust would write Display, since `write!` promises nothing of the bytes
 
-// A word for each variant, where Rust would write Display: the words are matched by hand, since `write!` promises nothing of the bytes.
-impl Writer<'_> {
-    fn put_group(&mut self, group: Group)
-        ensures { Puts self.old self.new (group_word group ∷ []) }
-    {
-        match group {
-            Group::Pass(_, _) => self.put_text(b" pass "),
-            Group::Stop(_, _) => self.put_text(b" stop "),
-            Group::Middle(_) => self.put_text(b" middle "),
-            Group::Sign => self.put_text(b" sign "),
-        }
+fn group_word(group: Group) -> &'static [u8]
+    ensures { result.now ≡ group_word group }
+{
+    match group {
+        Group::Pass(_, _) => b" pass ",
+        Group::Stop(_, _) => b" stop ",
+        Group::Middle(_) => b" middle ",
+        Group::Sign => b" sign ",
     }
+}
 
+fn status_word(status: CutStatus) -> &'static [u8]
+    ensures { result.now ≡ status_word status }
+{
+    match status {
+        CutStatus::Success => b" Success\n",
+        CutStatus::NoSoln => b" NoSoln\n",
+        CutStatus::NoEffect => b" NoEffect\n",
+    }
+}
+
+fn source_word(source: Source) -> &'static [u8]
+    ensures { result.now ≡ source_word source }
+{
+    match source {
+        Source::Only => b"\n",
+        Source::Job => b" job\n",
+        Source::Answer => b" answer\n",
+    }
+}
+
+// ---- the lines
+
+impl Writer<'_> {
+    // Three groups have a row, which is a number, and the sign has none.
     fn put_row(&mut self, group: Group)
         ensures { Puts self.old self.new (row_text group ∷ []) }
     {
         match group {
-            Group::Pass(row, _) => self.put_decimal(row as u64),
-            Group::Stop(row, _) => self.put_decimal(row as u64),
-            Group::Middle(row) => self.put_decimal(row as u64),
+            Group::Pass(row, _) | Group::Stop(row, _) | Group::Middle(row) => {
+                self.put_decimal(row as u64)
+            }
             Group::Sign => self.put_text(b"-"),
         }
     }
@@ -79,29 +100,31 @@ impl Writer<'_> {
         }
     }
 
-    fn put_status(&mut self, status: CutStatus)
-        ensures { Puts self.old self.new (status_word status ∷ []) }
-    {
-        match status {
-            CutStatus::Success => self.put_text(b" Success\n"),
-            CutStatus::NoSoln => self.put_text(b" NoSoln\n"),
-            CutStatus::NoEffect => self.put_text(b" NoEffect\n"),
-        }
-    }
-
-    // The line of a cut.
     fn put_cut(&mut self, step: u16, group: Group, beta: CutChoice, status: CutStatus)
         ensures { Puts self.old self.new (cut_pieces step group beta status) }
     {
         self.put_decimal(step as u64);
-        self.put_group(group);
+        self.put_text(group_word(group));
         self.put_row(group);
         self.put_either(group.is_over(), b" over ", b" under ");
         self.put_betas(beta);
-        self.put_status(status);
+        self.put_text(status_word(status));
     }
 
-    fn put_last(&mut self, answer: Answer)
+    // What a step prints of itself: nothing, or its cut.
+    pub(crate) fn put_step(&mut self, step: u16, answer: StepAnswer)
+        ensures { Puts self.old self.new (answer_pieces step answer) }
+    {
+        if let Ok(made) = answer {
+            if let Some(made) = made {
+                let cut = made.cut;
+                self.put_cut(step, cut.group, cut.beta, made.status);
+            }
+        }
+    }
+
+    // The last line.
+    pub(crate) fn put_last(&mut self, answer: Answer)
         ensures { Puts self.old self.new (last_pieces answer) }
     {
         self.put_either(answer.found, b"found ", b"none ");
@@ -109,13 +132,12 @@ impl Writer<'_> {
         self.put_text(b"\n");
     }
 
-    fn put_source(&mut self, source: Source)
-        ensures { Puts self.old self.new (source_word source ∷ []) }
+    // The last line of a run that a step ends.
+    pub(crate) fn put_ended(&mut self, answer: Result<Answer, Refusal>)
+        ensures { Puts self.old self.new (ended_pieces answer) }
     {
-        match source {
-            Source::Only => self.put_text(b"\n"),
-            Source::Job => self.put_text(b" job\n"),
-            Source::Answer => self.put_text(b" answer\n"),
+        if let Ok(ended) = answer {
+            self.put_last(ended);
         }
     }
 
@@ -126,69 +148,16 @@ impl Writer<'_> {
         self.put_decimal(u8::from(why) as u64);
         self.put_text(b" ");
         self.put_decimal(place as u64);
-        self.put_source(source);
+        self.put_text(source_word(source));
     }
-}
-
-// What a step prints of itself: nothing, or its cut.
-pub(crate) fn put_step(out: &mut [u8], step: u16, answer: StepAnswer) -> usize
-    ensures { (result, out.new) ≡ put_all out.old 0 (answer_pieces step answer) }
-{
-    match answer {
-        Err(_) => 0,
-        Ok(made) => match made {
-            None => 0,
-            Some(made) => {
-                let cut = made.cut;
-                put_cut(out, step, cut.group, cut.beta, made.status)
-            }
-        },
-    }
-}
-
-fn put_cut(out: &mut [u8], step: u16, group: Group, beta: CutChoice, status: CutStatus) -> usize
-    ensures { (result, out.new) ≡ put_all out.old 0 (cut_pieces step group beta status) }
-{
-    let mut line = Writer::new(out, 0);
-    line.put_cut(step, group, beta, status);
-    line.end()
-}
-
-// ---- the last line
-
-pub(crate) fn put_last(out: &mut [u8], at: usize, answer: Answer) -> usize
-    ensures { (result, out.new) ≡ put_all out.old at (last_pieces answer) }
-{
-    let mut line = Writer::new(out, at);
-    line.put_last(answer);
-    line.end()
-}
-
-pub(crate) fn put_ended(out: &mut [u8], at: usize, answer: Result<Answer, Refusal>) -> usize
-    ensures { (result, out.new) ≡ put_all out.old at (ended_pieces answer) }
-{
-    match answer {
-        Ok(ended) => put_last(out, at, ended),
-        Err(_) => at,
-    }
-}
-
-// ---- a refusal
-
-fn put_refused(out: &mut [u8], source: Source, why: Refusal, place: usize) -> usize
-    ensures { (result, out.new) ≡ put_all out.old 0 (refused_pieces source why place) }
-{
-    let mut line = Writer::new(out, 0);
-    line.put_refused(source, why, place);
-    line.end()
 }
 
 // The one line of a record that is refused.
 pub(crate) fn refused_line(source: Source, why: Refusal, place: usize, out: &mut [u8]) -> Text
     ensures { (result, out.new) ≡ refused_line_answer source why place out.old }
 {
-    if out.len() < ROOM {
-        return Err(Refusal::Room);
-    }
-    Ok(put_refused(out, source, why, place))
+    ask(ROOM <= out.len(), Refusal::Room)?;
+    let mut line = Writer::new(out, 0);
+    line.put_refused(source, why, place);
+    Ok(line.end())
 }

@@ -1,4 +1,4 @@
-// The fixed memory of a job: no program has a heap.
+// The fixed memory of a job: no program has a heap. Scratch and inputs are arrays where they are used: as fields here they would have to be cleared before each use.
 ghost use Rattle.std.specs.Prelude.{◌≡◌, replicate};
 ghost use Rattle.numbers.specs.F64.{0ᶠ};
 

@@ -17,9 +17,10 @@ use drivers::input::INPUT_ROOM;
 use drivers::run::{Printed, Run, open};
 use std::io::{Read, Write};
 use streams::output::{Console, Handed, Stream};
+use streams::sink::Sink;
 
-// The next step, whose text is handed over.
-fn step<W: Write, E: Write>(
+// The next step, whose text is handed over. The slices go one by one, as in drivers' cutting_plane.rt.
+fn step<W: Sink, E: Write>(
     console: &mut Console<'_, W, E>,
     run: Run,
     table: &[f64],
@@ -31,7 +32,7 @@ fn step<W: Write, E: Write>(
 ) -> Printed
     ensures out_after { (result, ell_buffers mq.new xc.new grad_t.new, grad.new, out.new)
         ≡ next_answer run table.now (ell_buffers mq.old xc.old grad_t.old) grad.old out.old }
-    ensures handed { Hands W.contents console.old console.new Stdout (text_in result.text out.new) }
+    ensures handed { Hands W.Sink console.old console.new Stdout (text_in result.text out.new) }
 {
     let printed = run.next(table, mq, xc, grad, grad_t, out);
     hand_text(console, Stream::Stdout, out, printed.text);
@@ -39,7 +40,7 @@ fn step<W: Write, E: Write>(
 }
 
 // Takes steps until there is no more to come, each text handed over; what the last one left.
-fn run_all<W: Write, E: Write>(
+fn run_all<W: Sink, E: Write>(
     console: &mut Console<'_, W, E>,
     first: Run,
     table: &[f64],
@@ -51,10 +52,11 @@ fn run_all<W: Write, E: Write>(
 ) -> Printed
     ensures out_after { (result, ell_buffers mq.new xc.new grad_t.new, grad.new, out.new)
         ≡ run_all_answer first table.now (ell_buffers mq.old xc.old grad_t.old) grad.old out.old }
-    ensures handed { Hands W.contents console.old console.new Stdout
+    ensures handed { Hands W.Sink console.old console.new Stdout
         (run_all_text first table.now (ell_buffers mq.old xc.old grad_t.old) grad.old out.old) }
 {
     let mut printed = step(console, first, table, mq, xc, grad, grad_t, out);
+    // no `for`: the step says whether there is more
     while printed.more {
         let run = printed.run;
         printed = step(console, run, table, mq, xc, grad, grad_t, out);
@@ -63,15 +65,16 @@ fn run_all<W: Write, E: Write>(
 }
 
 // The run on the fronts of the arrays that its job fills, rows × n, n × n and n numbers, and scratch of zeros. Beside `jobfile`'s, which runs the whole driver, this one takes its steps.
-fn run_sized<W: Write, E: Write>(console: &mut Console<'_, W, E>, run: Run, buffers: &mut Buffers)
+fn run_sized<W: Sink, E: Write>(console: &mut Console<'_, W, E>, run: Run, buffers: &mut Buffers)
     requires { RunHeld run buffers.old.table buffers.old.xc buffers.old.mq }
-    ensures { Hands W.contents console.old console.new Stdout
+    ensures { Hands W.Sink console.old console.new Stdout
         (let n = run.ell.ndim in run_all_text run (take (run.rows * n) buffers.old.table)
         (ell_buffers (take (n * n) buffers.old.mq) (take n buffers.old.xc) (replicate n 0ᶠ)) (replicate n 0ᶠ) buffers.old.out) }
 {
     let n = run.n();
     let numbers = run.rows() * n;
     let square = n * n;
+    // fixed memory (buffers.rt)
     let mut grad = [0.0f64; MAX_N];
     let mut grad_t = [0.0f64; MAX_N];
     let mq = &mut buffers.mq[..];
@@ -88,14 +91,11 @@ fn run_sized<W: Write, E: Write>(console: &mut Console<'_, W, E>, run: Run, buff
     );
 }
 
-// A job's run, in arrays that are long enough for every job.
-fn run_lent<W: Write, E: Write>(
-    console: &mut Console<'_, W, E>,
-    bytes: &[u8],
-    buffers: &mut Buffers,
-)
-    ensures { Hands W.contents console.old console.new Stdout (program_text bytes.now) }
+// Runs the job that these bytes record, in arrays that are long enough for every job: the program's text of them is what is handed over.
+fn run_bytes<W: Sink, E: Write>(console: &mut Console<'_, W, E>, bytes: &[u8])
+    ensures { Hands W.Sink console.old console.new Stdout (program_text bytes.now) }
 {
+    let mut buffers = Buffers::new();
     let opened = open(
         bytes,
         &mut buffers.table,
@@ -104,21 +104,13 @@ fn run_lent<W: Write, E: Write>(
         &mut buffers.out,
     );
     match opened {
-        Ok(run) => run_sized(console, run, buffers),
+        Ok(run) => run_sized(console, run, &mut buffers),
         Err(text) => hand_text(console, Stream::Stdout, &buffers.out, text),
     }
 }
 
-// Runs the job that these bytes record: the program's text of them is what is handed over.
-fn run_bytes<W: Write, E: Write>(console: &mut Console<'_, W, E>, bytes: &[u8])
-    ensures { Hands W.contents console.old console.new Stdout (program_text bytes.now) }
-{
-    let mut buffers = Buffers::new();
-    run_lent(console, bytes, &mut buffers);
-}
-
-pub fn run_input<W: Write, E: Write>(output: &mut W, errors: &mut E, bytes: &[u8]) -> Handed
-    ensures { HandedOver W.contents output.old output.new result Stdout (program_text bytes.now) }
+pub fn run_input<W: Sink, E: Write>(output: &mut W, errors: &mut E, bytes: &[u8]) -> Handed
+    ensures { HandedOver W.Sink output.old output.new result Stdout (program_text bytes.now) }
 {
     let mut console = Console::new(output, errors);
     run_bytes(&mut console, bytes);
@@ -126,14 +118,15 @@ pub fn run_input<W: Write, E: Write>(output: &mut W, errors: &mut E, bytes: &[u8
 }
 
 // Runs the job that stands on standard input.
-pub fn run_stdin<R: Read, W: Write, E: Write>(
+pub fn run_stdin<R: Read, W: Sink, E: Write>(
     input: &mut R,
     output: &mut W,
     errors: &mut E,
 ) -> Handed
-    ensures { Ran W.contents output.old output.new result }
+    ensures { Ran W.Sink output.old output.new result }
 {
     let mut console = Console::new(output, errors);
+    // fixed memory (buffers.rt)
     let mut bytes = [0u8; INPUT_ROOM];
     let read = console.read_all(input, b"standard input", &mut bytes);
     if let Some(count) = read {

@@ -12,10 +12,10 @@ fn put<D: Display + Drop>(text: &mut [u8], value: D) -> usize
     let mut cursor = Cursor::new(&mut *text);
     let _ = write!(cursor, "{value}");
     let end = cursor.position() as usize;
-    if end < text.len() { end } else { text.len() }
+    end.min(text.len())
 }
 
-// The system's reason stands in an error's text before its number.
+// The system's reason stands in an error's text before its number. Fixed arrays here and below: the project has no heap, and a text that is longer is cut.
 fn put_reason(text: &mut [u8], error: Error) -> usize
     ensures { result ≤ length text.new }
 {

@@ -88,7 +88,7 @@ fn reason(error: FillError) -> Error {
     }
 }
 
-// Reads the file that argument i names.
+// Reads the file that argument i names. The name is read into a fixed array, of Linux's longest name: the project has no heap.
 pub fn read_argument<R: Files + Env, E: Write>(
     rt: &R,
     errors: &mut E,

@@ -5,3 +5,4 @@ mod failure;
 pub mod input;
 pub mod mark;
 pub mod output;
+pub mod sink;

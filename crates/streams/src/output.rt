@@ -1,4 +1,5 @@
-// Handing texts over. Where the contents of standard output's writer are known, they are promised; of the system's nothing can be said, so each byte that is handed over is also taken into a number, the mark, which contracts name.
+// Handing texts over. Of standard output the writes are promised, and where its writer's contents are known, these. Each byte that is handed over is also taken into a number,
+// the mark, which contracts name: of standard error it is all that is promised.
 // The programs have no exit status of their own: a write to standard output that fails is said on standard error.
 ghost use Rattle.std.specs.Prelude.{◌≡◌, false, [], length};
 ghost use Rattle.streams.specs.Input.{Within};
@@ -8,6 +9,7 @@ ghost use Rattle.streams.specs.declared.output.Stream.TheVariants.{Stdout};
 use crate::failure::tell;
 use crate::input::{read_all, read_argument};
 use crate::mark::mark_on;
+use crate::sink::Sink;
 use std::io::{Read, Write};
 use std::rt::{Env, Files};
 
@@ -38,7 +40,7 @@ pub struct Console<'a, W, E> {
     handed: Handed,
 }
 
-impl<'a, W: Write, E: Write> Console<'a, W, E> {
+impl<'a, W: Sink, E: Write> Console<'a, W, E> {
     pub fn new(output: &'a mut W, errors: &'a mut E) -> Console<'a, W, E>
         ensures handed { result.handed ≡ record { marks = no_marks; has_failed = false } }
         ensures same { result.output.ghost_name ≡ output.entry.ghost_name }
@@ -66,7 +68,7 @@ impl<'a, W: Write, E: Write> Console<'a, W, E> {
     ) -> Option<usize>
         ensures within { Within result (length bytes.old) }
         ensures kept { Keeps self.old self.new }
-        ensures told { Hands W.contents self.old self.new Stdout [] }
+        ensures told { Hands W.Sink self.old self.new Stdout [] }
     {
         read_all(input, self.errors, name, bytes)
     }
@@ -80,20 +82,20 @@ impl<'a, W: Write, E: Write> Console<'a, W, E> {
     ) -> Option<usize>
         ensures within { Within result (length bytes.old) }
         ensures kept { Keeps self.old self.new }
-        ensures told { Hands W.contents self.old self.new Stdout [] }
+        ensures told { Hands W.Sink self.old self.new Stdout [] }
     {
         read_argument(rt, self.errors, i, bytes)
     }
 
     // Hands a text to standard output, unless a write has failed before, so that what arrives is the front of the whole.
     fn print(&mut self, text: &[u8])
-        ensures { Hands W.contents self.old self.new Stdout text.now }
+        ensures { Hands W.Sink self.old self.new Stdout text.now }
     {
         self.handed.marks.stdout = mark_on(self.handed.marks.stdout, text);
         if self.handed.has_failed {
             return;
         }
-        if let Err(error) = self.output.write_all(text) {
+        if let Err(error) = self.output.put(text) {
             self.handed.has_failed = true;
             tell(self.errors, b"standard output", error);
         }
@@ -101,7 +103,7 @@ impl<'a, W: Write, E: Write> Console<'a, W, E> {
 
     // Hands a text over, after those before it. What cannot be written to standard error can be told nowhere.
     pub fn hand(&mut self, to: Stream, text: &[u8])
-        ensures { Hands W.contents self.old self.new to text.now }
+        ensures { Hands W.Sink self.old self.new to text.now }
     {
         match to {
             Stream::Stdout => self.print(text),

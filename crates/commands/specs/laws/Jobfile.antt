@@ -4,6 +4,7 @@ use Rattle.std.proofs.Common.{sym, ◌∙◌, subst}
 use Rattle.streams.specs.Input.{ReadInto, of_read}
 use Rattle.streams.specs.laws.Input.{input_room, read_none}
 use Rattle.streams.specs.declared.output.Console.{Console}
+use Rattle.streams.specs.declared.sink.Sink.{Ghosts}
 use Rattle.drivers.specs.Job.{full_job_at, job_walk, full_job}
 use Rattle.drivers.specs.laws.JobRuns.{full_long, front_is}
 use Rattle.drivers.specs.declared.job.Job.{Job}
@@ -15,10 +16,10 @@ use Rattle.commands.specs.declared.arguments.Command.TheVariants.{Belongs}
 use Rattle.commands.specs.laws.Taken.{JobIs, goes_on}
 
 -- a console hands over one text of those that P allows
-pub record Writing {W E : Type 0} (contents : W → Option (List ℕ)) (before after : Console W E) (P : Written → Type 0) : Type 0 where
+pub record Writing {W E : Type 0} (sink : Ghosts W) (before after : Console W E) (P : Written → Type 0) : Type 0 where
   pub written : Written
   pub is_one : P written
-  pub writes : Writes contents before after written
+  pub writes : Writes sink before after written
 
 -- what is written of a job that was read ..
 pub data Judged (j : Job) (table x : List Float) : Written → Type 0 where

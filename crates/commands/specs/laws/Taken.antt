@@ -1,8 +1,9 @@
 -- What `take_job` and `take_answer` took, where the slices hold every job and every line: the record, or the line of its own first fault. Assumes nothing.
-use Rattle.std.specs.Prelude.{ℕ, ◌≤◌, length, Option, Some, None, Err, Ok, Result}
+use Rattle.std.specs.Prelude.{ℕ, ◌*◌, ◌≤◌, length, Option, Some, None, Err, Ok, Result}
 use Rattle.std.proofs.Math.Path.{◌≡◌, refl, ap, subst}
 use Rattle.std.proofs.Common.{sym, ◌∙◌, arith, le-leb}
 use mathlib.Core.List.{List, []}
+use native.Mathlib.Nat.{mul-le-mul}
 use Rattle.std.specs.Float.Ieee.{Float}
 use Rattle.numbers.specs.Refusal.{◌⨾◌, unless, Sound, Tests}
 use Rattle.numbers.specs.laws.Arr.{length_tab}
@@ -12,6 +13,7 @@ use Rattle.numbers.specs.declared.refusal.Refusal.TheVariants.{Room}
 use Rattle.streams.specs.Output.{Hands}
 use Rattle.streams.specs.declared.output.Stream.TheVariants.{Stdout, Stderr}
 use Rattle.streams.specs.declared.output.Console.{Console}
+use Rattle.streams.specs.declared.sink.Sink.{Ghosts}
 use Rattle.drivers.specs.Record.{fronted, numbers_at, number_at, place}
 use Rattle.drivers.specs.Rules.{found_place}
 use Rattle.drivers.specs.Job.{full_job, job_fault}
@@ -19,7 +21,7 @@ use Rattle.drivers.specs.Answer.{answer_at, point_at, has_point, answer_walk, an
 use Rattle.drivers.specs.Trace.{refused_text, printed, refused_line_answer, Text}
 use Rattle.drivers.specs.Input.{input_tests, with_slices, job_refused, take_job_tests, take_job_answer, answer_refused, take_answer_tests, take_answer_answer}
 use Rattle.drivers.specs.laws.Input.{own_faults, last_held}
-use Rattle.drivers.specs.laws.Job.{JobSound}
+use Rattle.drivers.specs.laws.Job.{JobSound, n_to, rows_to}
 use Rattle.drivers.specs.laws.JobRuns.{JobHeld, tests_held}
 use Rattle.drivers.specs.laws.Trace.{text_in}
 use Rattle.drivers.specs.laws.Program.{printed_front}
@@ -28,6 +30,7 @@ use Rattle.drivers.specs.declared.job.Job.{Job}
 use Rattle.drivers.specs.declared.trace.Source.{Source}
 use Rattle.drivers.specs.declared.trace.Source.TheVariants.{Answer as OfAnswer}
 use Rattle.runner.specs.declared.buffers.Buffers.{Buffers}
+use Rattle.commands.specs.declared.sound_job.SoundJob.{SoundJob}
 use Rattle.commands.specs.Output.{Written, refusal_written, Writes}
 
 -- ---- a job
@@ -94,6 +97,13 @@ pub taken_held : (source : Source) (bytes : List ℕ) (table xc mq : List Float)
 taken_held source bytes table xc mq out j table' xc' mq' out' is =
     rw (is.job_is, is.table_is, is.xc_is, is.mq_is) (tests_held bytes table xc mq (both_sound (input_tests bytes) _ is.tests).1)
 
+-- so do the arrays of every program hold it
+pub sound_held : (j : Job) → JobSound j → (table xc mq : List Float) → length table ≡ 32768 → length xc ≡ 32 → length mq ≡ 1024 → JobHeld j table xc mq
+sound_held j h table xc mq t x m =
+    let a : j.rows * j.n ≤ 1024 * 32 = mul-le-mul (rows_to j h) (n_to j h) in
+    let b : j.n * j.n ≤ 32 * 32 = mul-le-mul (n_to j h) (n_to j h) in
+    record { table_long = omega (arith, t); xc_long = omega (arith, x, n_to j h); mq_long = omega (arith, m) }
+
 -- ---- an answer, with room for every point
 
 module _ (n : ℕ) (bytes : List ℕ) (point : List Float) (out : List ℕ) where
@@ -158,7 +168,7 @@ as_answer {point = point} {out = out} e h = ap (λ (t : (Result Answer Text)). (
 -- ---- a job, or its refusal
 
 -- a job, and nothing is handed over; or the line that refuses it, whatever a command would have done
-abbrev pub Took : {W E : Type 0} → (W → Option (List ℕ)) → Console W E → Console W E → Source → List ℕ → Buffers → Buffers → Option Job → Type 0
-Took contents before after source bytes b b' (Some j) = Hands contents before after Stdout [] × JobIs source bytes b.table b.xc b.mq b.out j b'.table b'.xc b'.mq b'.out
+abbrev pub Took : {W E : Type 0} → Ghosts W → Console W E → Console W E → Source → List ℕ → Buffers → Buffers → Option SoundJob → Type 0
+Took sink before after source bytes b b' (Some taken) = Hands sink before after Stdout [] × JobIs source bytes b.table b.xc b.mq b.out taken.job b'.table b'.xc b'.mq b'.out
     × (length b.table ≡ 32768) × (length b.xc ≡ 32) × (length b.mq ≡ 1024)
-Took contents before after source bytes b b' None = (done : Written) → Writes contents before after (unless (input_tests bytes ⨾ job_fault bytes) (refusal_written source) done)
+Took sink before after source bytes b b' None = (done : Written) → Writes sink before after (unless (input_tests bytes ⨾ job_fault bytes) (refusal_written source) done)

@@ -6,8 +6,8 @@ use mathlib.Core.Bool.{Bool, true, false}
 use lib.Dec.{ltb}
 use lib.IntN.{pos, ◌-ℤ◌}
 use mir.Syntax.{w32}
-use mir.Val.{SFits, to_z, of_z}
-use mir.Facts.{to_z_pos, to_z-of_z}
+use mir.Val.{SFits, to_z}
+use mir.Facts.{to_z_pos}
 use Rattle.drivers.specs.Job.{part_of, signed}
 use Rattle.numbers.specs.laws.Pick.{by_test}
 
@@ -30,9 +30,6 @@ signed_fits h l = by_test (SFits w32) (ltb h 32768) (pos h) (pos h -ℤ pos 6553
 -- what the machine reads
 pub reads_half : (h : ℕ) → h < 65536 → to_z w32 h ≡ pos h
 reads_half h l = to_z_pos w32 (omega arith)
-
-pub reads_less : (h k : ℕ) → h < 65536 → k ≤ 65536 → to_z w32 (of_z w32 (to_z w32 h -ℤ pos k)) ≡ pos h -ℤ pos k
-reads_less h k l b = rw (reads_half h l) (to_z-of_z (less_fits h k l b))
 
 pub part_small : (w k : ℕ) → part_of w k < 65536
 part_small w k = omega arith

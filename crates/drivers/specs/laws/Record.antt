@@ -1,7 +1,8 @@
 -- Laws of records: the fields that a walk has left. Assumes nothing.
-use Rattle.std.specs.Prelude.{◌≡◌, ltb, length, drop, take, Float}
+use Rattle.std.specs.Prelude.{◌≡◌, Bool, true, false, leb, ltb, length, drop, take, Float}
 use Rattle.std.proofs.Math.Path.{refl, sym, ap}
-use Rattle.std.proofs.Common.{◌∙◌, arith, ltb-true, lt-ltb, le-ltb}
+use Rattle.std.proofs.Common.{◌∙◌, arith, ltb-true, lt-ltb, le-ltb, leb-true}
+use Rattle.std.proofs.lemmas.Bool.{leb-false}
 use mathlib.Core.List.{List, [], ◌∷◌, ◌++◌}
 use Prim.Native.Nat.{ℕ, zero, suc, ◌≤◌, ◌<◌, ◌+◌, ◌-◌}
 use Rattle.numbers.specs.Pick.{pick}
@@ -13,10 +14,12 @@ use Rattle.drivers.specs.Record.{length_at, overruns, after, fields_from, fields
 abbrev pub fields_after : List ℕ → ℕ → List ℕ
 fields_after bytes at = fields_from (length bytes) bytes at
 
--- all of these are places within the bytes
-abbrev pub AllWithin : List ℕ → List ℕ → Type 0
-AllWithin bytes [] = Unit {0}
-AllWithin bytes (at ∷ fields) = (at < length bytes) × AllWithin bytes fields
+-- the code's test for room, as the definitions have it
+pub has_none : {t : Bool} (bytes at size : ℕ) → t ≡ leb (at + size) bytes → t ≡ false → 1 ≤ size → bytes - at < size
+has_none bytes at size e f h = omega (arith, leb-false (at + size) bytes (sym e ∙ f), h)
+
+pub has_some : {t : Bool} (bytes at size : ℕ) → t ≡ leb (at + size) bytes → t ≡ true → at + size ≤ bytes
+has_some bytes at size e f = leb-true (at + size) bytes (sym e ∙ f)
 
 module _ (bytes : List ℕ) where
   -- the next field begins further on, and at most at the end
@@ -61,17 +64,6 @@ module _ (bytes : List ℕ) where
   few_from (suc fuel) at =
       by_test (λ (l : List ℕ). length l ≤ length bytes - at) (ltb at (length bytes)) (at ∷ fields_from fuel bytes (after bytes at)) []
       (λ e. let h = ltb-true at (length bytes) e in omega (arith, few_from fuel (after bytes at), after_past at h)) (λ _. omega arith)
-
-  -- each begins within them
-  within_from : (fuel at : ℕ) → AllWithin bytes (fields_from fuel bytes at)
-  unfolding fields_from
-  within_from zero at = tt
-  within_from (suc fuel) at =
-      by_test (AllWithin bytes) (ltb at (length bytes)) (at ∷ fields_from fuel bytes (after bytes at)) [] (λ e. (ltb-true at (length bytes) e, within_from fuel (after bytes at))) (λ _. tt)
-
-  pub fields_within : AllWithin bytes (fields_of bytes)
-  unfolding fields_of
-  fields_within = within_from (length bytes) 0
 
   pub fields_few : (at : ℕ) → length (fields_after bytes at) ≤ length bytes
   fields_few at = omega (arith, few_from (length bytes) at)

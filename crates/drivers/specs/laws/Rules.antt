@@ -1,18 +1,19 @@
 -- Laws of the table of tags. Assumes nothing.
-use Rattle.std.specs.Prelude.{◌≡◌, refl, Bool, true, false, ◌&&◌, List, [], ◌∷◌, ℕ, zero, suc, ◌≤◌, ◌<◌, ◌+◌, leb, ltb, eqb, drop, get_or, position, cond, not, nat_lt, Some, None}
+use Rattle.std.specs.Prelude.{◌≡◌, refl, Bool, true, false, ◌&&◌, List, [], ◌∷◌, ℕ, zero, suc, ◌≤◌, ◌<◌, ◌+◌, leb, ltb, eqb, get_or, position, cond, not, nat_lt, Some, None, drop}
 use Rattle.std.specs.List.{position_or_len}
 use Rattle.std.proofs.lemmas.List.Recursion.{is_position_or_len}
 use Rattle.std.proofs.lemmas.List.Sums.{prefix_len-le-length}
 use Rattle.std.specs.Option.{unwrap_or}
-use Rattle.std.proofs.Common.{sym, ap, ◌∙◌, true≢false, add-one, ltb-true, ltb-false, leb-true, eq-eqb, ne_eqb, drop-cons}
+use Rattle.std.proofs.Common.{sym, ap, ◌∙◌, true≢false, ltb-true, ltb-false, leb-true, ne_eqb, drop-cons, add-one, eq-eqb}
 use Rattle.std.proofs.Math.Bool.{and-eq-true_iff}
+use Rattle.std.proofs.lemmas.Bool.{eqb-true, eqb-false}
 use native.Mathlib.Omega.{arith}
 use Rattle.std.proofs.Math.ListN.{get_or-eq_default}
 use Rattle.numbers.specs.Pick.{pick}
-use Rattle.numbers.specs.laws.Pick.{is_hit, is_skip}
+use Rattle.numbers.specs.laws.Pick.{by_test, is_hit, is_skip}
 use Rattle.drivers.specs.declared.rules.Rule.{Rule}
 use Rattle.drivers.specs.declared.rules.Form.{Form}
-use Rattle.drivers.specs.Rules.{no_rule, tags, has_tag, is_of, rules, rule_at, index_in, index_of}
+use Rattle.drivers.specs.Rules.{no_rule, row_place, tags, has_tag, is_of, rules, rule_at, index_in, index_of}
 
 -- a test that every rule of a list passes, and the one past its end
 holds_of_all : (Rule → Bool) → List Rule → Bool
@@ -73,6 +74,21 @@ module _ (tag : ℕ) where
     where
       none : (i : ℕ) → i ≡ 12 → index_in (drop i rules) tag ≡ 0
       none i e = rw e
+
+-- a row is known by its tag alone
+pub row_is : (tag : ℕ) → eqb tag 4 ≡ eqb (index_of tag) row_place
+unfolding index_of rules index_in
+row_is tag =
+    by_test Same (eqb 1 tag) _ _ (λ e. rw (← eqb-true 1 tag e) refl) (λ _.
+    by_test (λ i. Same (suc i)) (eqb 2 tag) _ _ (λ e. rw (← eqb-true 2 tag e) refl) (λ _.
+    by_test (λ i. Same (suc (suc i))) (eqb 3 tag) _ _ (λ e. rw (← eqb-true 3 tag e) refl) (λ _.
+    by_test (λ i. Same (suc (suc (suc i)))) (eqb 4 tag) _ _ (λ e. rw (← eqb-true 4 tag e) refl) (λ e. past (eqb-false 4 tag e) _))))
+  where
+    Same : ℕ → Type 0
+    Same i = eqb tag 4 ≡ eqb i 3
+
+    past : (4 ≡ tag → ⊥) → (i : ℕ) → Same (suc (suc (suc (suc i))))
+    past h i = ne_eqb tag 4 (λ d. h (sym d)) ∙ sym (ne_eqb (suc (suc (suc (suc i)))) 3 (λ d. omega (arith, d)))
 
 -- a tag that a form has is in the table
 pub is_of_listed : (form : Form) (i : ℕ) → is_of form i ≡ true → i < tags

@@ -21,6 +21,9 @@ puts_on {a} {b} {c} {xs} {ys} p q = record { is = put_on a.out.now a.at (b.at, b
 pub puts_same : {a b : Writer} {xs ys : List (List ℕ)} → Puts a b xs → xs ≡ ys → Puts a b ys
 puts_same {a} {b} p e = subst (Puts a b) e p
 
+pub puts_word : {a b : Writer} {word other : List ℕ} → Puts a b (word ∷ []) → word ≡ other → Puts a b (other ∷ [])
+puts_word p e = puts_same p (ap (λ (w : List ℕ). w ∷ []) e)
+
 -- one of two words
 pub puts_side : {a b : Writer} (t u : Bool) → Puts a b (cond t (bytes_of " over ") (bytes_of " under ") ∷ []) → t ≡ u → Puts a b (side_word u ∷ [])
 puts_side t u p e = puts_same p (side t ∙ ap (λ (v : Bool). side_word v ∷ []) e)

@@ -11,8 +11,8 @@ returns-in-Some g c =
     let r = c.read_all-read in record {
       written = _;
       is_one = answered r.result r.new.bytes (read_into _ _ r.auto.bytes r.ensures.within);
-      writes = of_some (Writes g.W.Write.contents c.args.console.now c.answer_job.new.console) r.result r.new.bytes answer_written nothing_written c.in-Some.count c.in-Some.is
-          (hands_after g.W.Write.contents _ _ _ _ _ r.ensures.told c.answer_job.ensures);
+      writes = of_some (Writes g.W.Sink c.args.console.now c.answer_job.new.console) r.result r.new.bytes answer_written nothing_written c.in-Some.count c.in-Some.is
+          (hands_after g.W.Sink _ _ _ _ _ r.ensures.told c.answer_job.ensures);
     }
 
 pub returns-in_default : goal.returns-in_default
@@ -20,5 +20,5 @@ returns-in_default g c =
     let r = c.read_all-read in record {
       written = _;
       is_one = answered r.result r.new.bytes (read_into _ _ r.auto.bytes r.ensures.within);
-      writes = of_none (Writes g.W.Write.contents c.args.console.now r.new.self) r.result r.new.bytes answer_written nothing_written c.in_default.is r.ensures.told;
+      writes = of_none (Writes g.W.Sink c.args.console.now r.new.self) r.result r.new.bytes answer_written nothing_written c.in_default.is r.ensures.told;
     }

@@ -11,7 +11,7 @@ returns-in-Some g c =
     let b = c.belongs_job.ensures in record {
       written = b.written;
       is_one = of_job_file r.result r.new.bytes (read_into _ _ r.auto.bytes r.ensures.within) c.in-Some.count c.in-Some.is b.written b.is_one;
-      writes = hands_after g.W.Write.contents _ _ _ _ _ r.ensures.told b.writes;
+      writes = hands_after g.W.Sink _ _ _ _ _ r.ensures.told b.writes;
     }
 
 pub returns-in_default : goal.returns-in_default

@@ -5,7 +5,7 @@ use mathlib.Core.List.{List, [], ◌++◌}
 use Prim.Native.Nat.{ℕ, ◌≤◌}
 use native.Mathlib.Omega.{arith}
 use borrow.Author.Tests.{eq-eqb, ne_eqb}
-use lib.ListN.{length, take, drop, length-append, length-drop}
+use lib.ListN.{length, take, drop}
 use lib.Seq.{length-take-le}
 use lib.Ieee.{Float}
 use Rattle.numbers.specs.laws.Arr.{length_tab}
@@ -37,10 +37,6 @@ module _ (n : ℕ) (bytes places : List ℕ) (point : List Float) (h : ℕ) (e :
       let r : point_at n bytes places ≡ xs = is_hit (has_point places) (numbers_at bytes (place places found_place) n) [] p ∙ sym y in
       let m : length xs ≡ n = ap length y ∙ length_tab (λ k. number_at bytes (place places found_place) k) n in
       ((λ i. record { found = sym p i; steps = e i }), rw r (ap (λ (k : ℕ). xs ++ drop k point) (sym m) ∙ sym (over_front point xs)))
-
--- a front that was lent and came back
-rejoined : (n : ℕ) (xs point : List Float) → length xs ≡ length (take n point) → n ≤ length point → length (xs ++ drop n point) ≡ length point
-rejoined n xs point e l = length-append xs (drop n point) ∙ omega (arith, e, length-take-le n point l, length-drop n point)
 
 -- a point that is there has room
 roomy : (places : List ℕ) {n : ℕ} {l : ℕ} → (has_point places ≡ true → n ≤ l) → (place places found_place ≡ 0 → ⊥) → n ≤ l

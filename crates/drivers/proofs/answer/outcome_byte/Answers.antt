@@ -1,10 +1,15 @@
 -- `drivers::answer::outcome_byte` meets its contract. Assumes nothing.
-use mathlib.Core.Path.{refl}
-use Rattle.numbers.specs.laws.Pick.{hit, skip}
+use mathlib.Core.Path.{◌≡◌, refl}
+use mathlib.Core.Bool.{Bool, true, false}
+use mir.Val.{bool_byte}
+use Rattle.numbers.specs.Pick.{pick}
+use Rattle.drivers.specs.Answer.{outcome_byte}
 use Rattle.drivers.proofs.answer.outcome_byte.Goals as goal
 
-pub returns-then-found : goal.returns-then-found
-returns-then-found c = hit _ _ _ _ c.if-found.true refl
+byte_is : (found : Bool) → bool_byte found ≡ outcome_byte found
+unfolding pick
+byte_is true = refl
+byte_is false = refl
 
 pub returns : goal.returns
-returns c = skip _ _ _ _ c.if-found.false refl
+returns c = byte_is c.args.found

@@ -17,10 +17,9 @@ pub returns-in-Some : goal.returns-in-Some
 returns-in-Some c =
     let u = c.change-change in
     let a = c.args in
-    rw c.changed.ensures
-    (step_cut a.rows a.table.now (state_of a.oracle a.ell a.mq.now a.xc.now a.grad.now a.grad_t.now)
+    step_cut a.rows a.table.now (state_of a.oracle a.ell a.mq.now a.xc.now a.grad.now a.grad_t.now)
     c.assess_feas-assessed.result _ c.assess_feas-assessed.ensures.grad_after _ (c.in-Ok.is ∙ ap Ok c.in-Some.is) (ell_changed a.ell u.result) _ u.ensures
-    c.cut_answer.result c.cut_answer.ensures)
+    c.cut_answer.result c.cut_answer.ensures
 
 pub returns-in-Err : goal.returns-in-Err
 returns-in-Err c =

@@ -42,9 +42,9 @@ returns-then-not-is_row c = skip _ _ _ _ (says_no _ _ c.is_row.ensures (ap not c
 
 pub slice_bounds-numbers_into-end : goal.slice_bounds-numbers_into-end
 slice_bounds-numbers_into-end c =
-    let h = room _ _ c.args.n c.args.k _ c.is_row.ensures (ap not c.if-not-is_row.false) _ c.requires.2 in
+    let h = room _ _ c.args.n c.args.k _ c.is_row.ensures (ap not c.if-not-is_row.false) _ c.requires.1 in
     search rules
 
 pub returns : goal.returns
 returns c =
-    filled _ _ _ _ _ c.is_row.ensures (ap not c.if-not-is_row.false) _ _ _ c.content_at.ensures c.numbers_into.ensures c.requires.2
+    filled _ _ _ _ _ c.is_row.ensures (ap not c.if-not-is_row.false) _ _ _ c.content_at.ensures c.numbers_into.ensures c.requires.1

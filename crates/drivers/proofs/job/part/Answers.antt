@@ -1,24 +1,27 @@
 -- `drivers::job::part` meets its contract. Assumes nothing.
 use mathlib.Core.Path.{◌≡◌}
-use Prim.Native.Nat.{ℕ, ◌/◌, ◌%◌}
+use Prim.Native.Nat.{ℕ, ◌≤◌, ◌<◌, ◌^◌}
+use native.Mathlib.Nat.{pow-le-pow_right}
 use native.Mathlib.Omega.{arith}
-use Rattle.drivers.specs.Job.{part_of}
 use Rattle.drivers.proofs.job.part.Goals as goal
 
-low : (w k : ℕ) → k ≡ 0 → w % 65536 ≡ part_of w k
-low w k e = rw e (omega arith)
+-- a power of 65536 below the third
+small : (k : ℕ) → k < 3 → 65536 ^ k < 18446744073709551616
+small k l =
+    let one : 1 ≤ 65536 = omega arith in
+    let two : k ≤ 2 = omega arith in
+    let q : 65536 ^ k ≤ 65536 ^ 2 = pow-le-pow_right one two in
+    omega arith
 
-middle : (w k : ℕ) → k ≡ 1 → w / 65536 % 65536 ≡ part_of w k
-middle w k e = rw e
+some : (k p : ℕ) → p ≡ 65536 ^ k → 0 < p
+some k p e =
+    let one : 1 ≤ 65536 = omega arith in
+    let none : 0 ≤ k = omega arith in
+    let q : 65536 ^ 0 ≤ 65536 ^ k = pow-le-pow_right one none in
+    omega (arith, e)
 
-high : (w k : ℕ) → k ≡ 2 → w / 4294967296 % 65536 ≡ part_of w k
-high w k e = rw e
+pub pow-requires : goal.pow-requires
+pow-requires c = small c.args.k c.requires
 
-pub returns-then-k-eq0 : goal.returns-then-k-eq0
-returns-then-k-eq0 c = low _ _ c.if-k-eq0.true
-
-pub returns-then-k-eq1 : goal.returns-then-k-eq1
-returns-then-k-eq1 c = middle _ _ c.if-k-eq1.true
-
-pub returns : goal.returns
-returns c = high _ c.args.k (omega arith)
+pub nonzero_div-result : goal.nonzero_div-result
+nonzero_div-result c = some c.args.k _ c.pow.ensures

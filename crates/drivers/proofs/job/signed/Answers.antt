@@ -1,35 +1,36 @@
 -- `drivers::job::signed` meets its contract. Assumes nothing.
-use mathlib.Core.Path.{◌≡◌}
-use Prim.Native.Nat.{ℕ, ◌<◌, ◌≤◌}
+use mathlib.Core.Path.{◌≡◌, ap, ◌∙◌}
+use Prim.Native.Nat.{ℕ, suc, ◌<◌, ◌≤◌, ◌-◌}
 use native.Mathlib.Omega.{arith}
-use borrow.Author.Tests.{lt-ltb, le-ltb}
-use lib.IntN.{pos, ◌-ℤ◌}
-use mir.Syntax.{w32}
-use mir.Val.{to_z, of_z}
+use lib.IntN.{ℤ, pos, negsuc, ◌-ℤ◌}
+use lib.Dec.{ltb}
+use borrow.Author.Tests.{lt-ltb, ltb-true, ltb-false}
+use mir.Syntax.{w16, w32}
+use mir.Val.{Fits, to_z, of_z}
+use mir.Facts.{to_z_pos, to_z-neg, to_z-of_z, of_z-to_z}
 use Rattle.drivers.specs.Job.{signed}
-use Rattle.drivers.proofs.job.Signs.{half_fits, less_fits, reads_half, reads_less}
-use Rattle.numbers.specs.laws.Pick.{hit, skip}
+use Rattle.drivers.proofs.job.Signs.{signed_fits}
 use Rattle.drivers.proofs.job.signed.Goals as goal
+use Rattle.numbers.specs.laws.Pick.{by_test}
 
-low : (h : ℕ) → h < 65536 → h < 32768 → to_z w32 h ≡ signed h
+less : (h : ℕ) → h < 65536 → negsuc (65535 - h) ≡ pos h -ℤ pos 65536
+less h l = rw (lt-ltb h 65536 l) (ap negsuc (omega arith))
+
+-- what the machine reads of 16 bits
+high : (h : ℕ) → h < 65536 → 32768 ≤ h → to_z w16 h ≡ pos h -ℤ pos 65536
+high h l b =
+    let e : to_z w16 h ≡ to_z w16 (65536 - suc (65535 - h)) = ap (to_z w16) (omega arith) in
+    e ∙ to_z-neg w16 (65535 - h) (omega arith) ∙ less h l
+
+reads : (h : ℕ) → h < 65536 → to_z w16 h ≡ signed h
 unfolding signed
-low h l b = hit _ _ _ _ (lt-ltb h 32768 b) (reads_half h l)
+reads h l = by_test (λ z. to_z w16 h ≡ z) (ltb h 32768) (pos h) (pos h -ℤ pos 65536) (λ t. to_z_pos w16 (omega (arith, ltb-true h 32768 t))) (λ t. high h l (ltb-false h 32768 t))
 
-high : (h : ℕ) → h < 65536 → 32768 ≤ h → to_z w32 (of_z w32 (to_z w32 h -ℤ pos 65536)) ≡ signed h
-unfolding signed
-high h l b = skip _ _ _ _ (le-ltb h 32768 b) (reads_less h 65536 l (omega arith))
-
-pub overflow_cast-result : goal.overflow_cast-result
-overflow_cast-result c = half_fits _ c.requires
-
-pub returns-then-h-lt32768 : goal.returns-then-h-lt32768
-returns-then-h-lt32768 c = low _ c.requires c.if-h-lt32768.true
-
-pub overflow_cast-result-2 : goal.overflow_cast-result-2
-overflow_cast-result-2 c = half_fits _ c.requires
-
-pub overflow_sub-result : goal.overflow_sub-result
-overflow_sub-result c = rw (reads_half _ c.requires) (less_fits _ 65536 c.requires (omega arith))
+is : (h : ℕ) (z : ℤ) → h < 65536 → z ≡ to_z w16 h → to_z w32 (of_z w32 (to_z w16 (of_z w16 z))) ≡ signed h
+is h z l e =
+    let f : Fits w16 h = record { fits = omega arith } in
+    let d : to_z w16 (of_z w16 z) ≡ signed h = ap (λ (y : ℤ). to_z w16 (of_z w16 y)) e ∙ ap (to_z w16) (of_z-to_z f) ∙ reads h l in
+    ap (λ (y : ℤ). to_z w32 (of_z w32 y)) d ∙ to_z-of_z (signed_fits h l)
 
 pub returns : goal.returns
-returns c = high _ c.requires c.if-h-lt32768.false
+returns c = is _ _ c.requires c.cast_signed.ensures

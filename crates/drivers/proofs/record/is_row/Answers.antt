@@ -2,8 +2,8 @@
 use mathlib.Core.Path.{ap, ◌∙◌}
 use Prim.Native.Nat.{ℕ}
 use lib.Dec.{eqb}
-use Rattle.drivers.specs.Rules.{row_place, index_of}
+use Rattle.drivers.specs.laws.Rules.{row_is}
 use Rattle.drivers.proofs.record.is_row.Goals as goal
 
 pub returns : goal.returns
-returns c = ap (λ (i : ℕ). eqb i row_place) (c.rule_index.ensures ∙ ap index_of c.byte_at.ensures)
+returns c = ap (λ (b : ℕ). eqb b 4) c.byte_at.ensures ∙ row_is _

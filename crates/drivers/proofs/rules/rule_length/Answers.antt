@@ -6,17 +6,20 @@ use native.Mathlib.Omega.{arith}
 use Rattle.drivers.specs.declared.rules.Rule.{Rule}
 use Rattle.drivers.specs.Rules.{rule_at, rule_length}
 use Rattle.drivers.specs.laws.Rules.{rule_small}
-use borrow.Author.Rules.{rules}
 use Rattle.drivers.proofs.rules.rule_length.Goals as goal
 
 small : (i : ℕ) (r : Rule) → r ≡ rule_at i → (r.base ≤ 24) × (r.factor ≤ 8) × (r.power ≤ 2)
 small i r e = rw e (rule_small i)
 
-product : (f p n k : ℕ) → p ≡ n ^ k → f ≤ 8 → n ≤ 32 → k ≤ 2 → f * p ≤ 8192
-product f p n k e a b d =
+power : (n k : ℕ) → n ≤ 32 → k ≤ 2 → n ^ k ≤ 1024
+power n k b d =
     let q : n ^ k ≤ 32 ^ k = pow-le-pow_left b k in
     let r : 32 ^ k ≤ 32 ^ 2 = pow-le-pow_right (omega arith) d in
-    let t : p ≤ 1024 = omega arith in
+    omega arith
+
+product : (f p n k : ℕ) → p ≡ n ^ k → f ≤ 8 → n ≤ 32 → k ≤ 2 → f * p ≤ 8192
+product f p n k e a b d =
+    let t : p ≤ 1024 = omega (arith, e, power n k b d) in
     let s : f * p ≤ 8 * 1024 = mul-le-mul a t in
     omega arith
 
@@ -27,18 +30,18 @@ is i n p r e d = rw (d, e)
 pub overflow_mul-result : goal.overflow_mul-result
 overflow_mul-result c =
     let s = small _ _ c.rule_at-rule.ensures in
-    let p = product c.rule_at-rule.result.factor c.power.result c.args.n c.rule_at-rule.result.power c.power.ensures s.1 c.requires s.2 in
+    let p = product c.rule_at-rule.result.factor c.pow.result c.args.n c.rule_at-rule.result.power c.pow.ensures s.1 c.requires s.2 in
     record { fits = omega arith }
 
 pub overflow_add-result : goal.overflow_add-result
 overflow_add-result c =
     let s = small _ _ c.rule_at-rule.ensures in
-    let p = product c.rule_at-rule.result.factor c.power.result c.args.n c.rule_at-rule.result.power c.power.ensures s.1 c.requires s.2 in
+    let p = product c.rule_at-rule.result.factor c.pow.result c.args.n c.rule_at-rule.result.power c.pow.ensures s.1 c.requires s.2 in
     record { fits = omega arith }
 
 pub returns : goal.returns
 returns c =
-    is _ _ _ _ c.rule_at-rule.ensures c.power.ensures
+    is _ _ _ _ c.rule_at-rule.ensures c.pow.ensures
 
-pub power-requires : goal.power-requires
-power-requires c = (search rules, (small _ _ c.rule_at-rule.ensures).2)
+pub pow-requires : goal.pow-requires
+pow-requires c = omega (arith, power _ _ c.requires (small _ _ c.rule_at-rule.ensures).2)

@@ -15,7 +15,7 @@ loop-printed-smaller g c =
 
 pub loop-printed-preserved : goal.loop-printed-preserved
 loop-printed-preserved g c =
-    let k = g.W.Write.contents in
+    let k = g.W.Sink in
     let l = c.loop-printed in
     let table = c.args.table.now in
     let f = c.step-printed-in-loop-printed in
@@ -38,7 +38,7 @@ returns-clause-out_after g c =
 
 pub returns-clause-handed : goal.returns-clause-handed
 returns-clause-handed g c =
-    let k = g.W.Write.contents in
+    let k = g.W.Sink in
     let l = c.loop-printed in
     let table = c.args.table.now in
     let f = c.step-printed in

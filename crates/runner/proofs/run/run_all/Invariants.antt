@@ -15,7 +15,7 @@ last_after table r = last_of (calls_after r.0) table r
 
 abbrev pub invariant-loop-printed : goal.invariant-loop-printed
 invariant-loop-printed g l =
-    let k = g.W.Write.contents in
+    let k = g.W.Sink in
     let r = left_by l.mq l.xc l.grad l.grad_t l.out l.printed in
     let r₀ = left_by l.initial.mq l.initial.xc l.initial.grad l.initial.grad_t l.initial.out l.initial.printed in
     (last_after l.table r ≡ last_after l.table r₀)

@@ -16,6 +16,6 @@ returns g c =
     let n = run.ell.ndim in
     let in-32 : n ≤ 32 = omega (arith, c.requires.xc_long) in
     let text : ℕ → ℕ → List Float → List ℕ = λ rows n zeros. run_all_text run (take (rows * n) b.table) (ell_buffers (take (n * n) b.mq) (take n b.xc) zeros) zeros b.out in
-    subst (Hands g.W.Write.contents c.args.console.now c.run_all.new.console Stdout)
+    subst (Hands g.W.Sink c.args.console.now c.run_all.new.console Stdout)
     ((λ i. text (c.rows.ensures i) (c.n-n.ensures i) (take (c.n-n.ensures i) (replicate 32 0ᶠ))) ∙ ap (text run.rows n) (zeros_front n 32 in-32))
     c.run_all.ensures.handed

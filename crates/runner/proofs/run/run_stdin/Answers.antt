@@ -11,7 +11,7 @@ use Rattle.runner.proofs.run.run_stdin.Goals.{in-Some, in_default}
 
 pub returns : goal.returns
 returns g c =
-    let k = g.W.Write.contents in
+    let k = g.W.Sink in
     let start = c.new-console.result in
     let r = c.read_all-read in
     let told = r.ensures.told in

@@ -1,5 +1,10 @@
 -- `drivers::run::Run::next` meets its contract. Assumes nothing.
-use mathlib.Core.Path.{sym}
+use Rattle.std.specs.Prelude.{Ok, false}
+use borrow.Author.Rules.{rules}
+use Rattle.drivers.specs.Run.{next_answer}
+use Rattle.drivers.specs.Trace.{last_pieces}
+use Rattle.drivers.specs.laws.Text.{put_all}
+use mathlib.Core.Path.{◌≡◌, sym}
 use Rattle.numbers.specs.laws.Refusal.{unless_err, unless_ok}
 use Rattle.oracles.specs.Ell.{ell_buffers}
 use Rattle.drivers.proofs.run.Steps.{roomy, next_faulty, next_step, next_limit}
@@ -20,4 +25,9 @@ returns-in-Err c =
 
 pub returns-else-self-options : goal.returns-else-self-options
 returns-else-self-options c =
-    next_limit _ _ _ _ _ (sym (unless_ok _ c.check-tested.ensures c.in-Ok.is)) _ c.if-self-options.false c.put_last.ensures
+    let a = c.args in
+    let text = c.put_last.new.self in
+    let put : (text.at, text.out.now) ≡ put_all a.out.now 0 (last_pieces (record { found = false; steps = a.self.niter })) = rw (← c.new-text.ensures.place, ← c.new-text.ensures.holds) c.put_last.ensures.is in
+    let all : (record { run = a.self; more = false; text = Ok text.at }, _, _, text.out.now) ≡ next_answer a.self a.table.now (ell_buffers a.mq.now a.xc.now a.grad_t.now) a.grad.now a.out.now =
+    next_limit _ _ _ _ _ (sym (unless_ok _ c.check-tested.ensures c.in-Ok.is)) _ c.if-self-options.false put in
+    search rules

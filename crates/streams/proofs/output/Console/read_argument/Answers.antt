@@ -4,4 +4,4 @@ use Rattle.streams.specs.laws.Output.{hands_kept}
 use Rattle.streams.proofs.output.Console.read_argument.Goals as goal
 
 pub returns-clause-told : goal.returns-clause-told
-returns-clause-told g c = hands_kept g.W.Write.contents _ _ refl refl
+returns-clause-told g c = hands_kept g.W.Sink _ _ refl refl

@@ -1,21 +1,13 @@
--- `commands::jobfile::belongs_lent` meets its contract.
+-- `commands::jobfile::belongs_job` meets its contract.
 use Rattle.streams.specs.Input.{of_read}
 use Rattle.streams.specs.laws.Input.{input_room, read_none}
 use Rattle.streams.specs.laws.Output.{hands_after}
 use Rattle.std.specs.Prelude.{None}
 use Rattle.drivers.specs.Job.{full_job}
-use Rattle.drivers.specs.declared.trace.Source.TheVariants.{Job as TheJob}
 use Rattle.commands.specs.Output.{nothing_written}
 use Rattle.commands.specs.Belongs.{judged_written, belongs_written}
-use Rattle.commands.specs.laws.Taken.{taken_held}
 use Rattle.commands.specs.laws.Jobfile.{of_both, of_judged, fronts_judged}
-use Rattle.commands.proofs.jobfile.belongs_lent.Goals as goal
-
-pub judge_file-requires : goal.judge_file-requires
-judge_file-requires g c =
-    let t = c.in-Some.ensures in
-    let h = taken_held TheJob _ _ _ _ _ _ _ _ _ _ t.1 in
-    (h.0, h.1.table_long, h.1.xc_long)
+use Rattle.commands.proofs.jobfile.belongs_job.Goals as goal
 
 pub returns-in-Some : goal.returns-in-Some
 returns-in-Some g c =
@@ -23,7 +15,7 @@ returns-in-Some g c =
     let f = c.judge_file.ensures in record {
       written = f.written;
       is_one = of_judged c.args.bytes.now _ _ _ (fronts_judged _ _ _ _ _ _ _ _ _ _ t.2 t.3 t.4 t.1) f.written f.is_one;
-      writes = hands_after g.W.Write.contents _ _ _ _ _ t.0 f.writes;
+      writes = hands_after g.W.Sink _ _ _ _ _ t.0 f.writes;
     }
 
 -- the line of a job that was refused is the same whatever the answer

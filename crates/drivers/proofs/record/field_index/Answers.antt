@@ -1,6 +1,7 @@
--- `drivers::record::field_fault` meets its contract, a test at a time. Assumes nothing.
+-- `drivers::record::field_index` meets its contract, a test at a time. Assumes nothing.
+use Rattle.std.specs.Prelude.{Ok}
 use Rattle.numbers.specs.Refusal.{At, Sound}
-use mathlib.Core.Path.{◌≡◌, sym, ap, ◌∙◌}
+use mathlib.Core.Path.{◌≡◌, refl, sym, ap, ◌∙◌}
 use mathlib.Core.Bool.{Bool, true, false, not, ◌&&◌}
 use mathlib.Core.List.{List}
 use Prim.Native.Nat.{ℕ, ◌<◌, ◌≤◌, ◌+◌, ◌-◌}
@@ -8,14 +9,15 @@ use native.Mathlib.Omega.{arith}
 use borrow.Author.Tests.{lt-ltb, le-ltb, lt-leb, le-leb, not-true, not-false}
 use lib.Dec.{eqb}
 use lib.ListN.{length}
-use Rattle.numbers.specs.laws.Refusal.{failed, held, at_first, at_next}
+use Rattle.numbers.specs.laws.Refusal.{failed, held, at_first, at_next, refuses, accepts}
 use Rattle.numbers.specs.declared.refusal.Refusal.TheVariants.{CutShort, ForeignTag, RepeatedTag}
 use Rattle.drivers.specs.Record.{index_at, length_at, place, field_fault}
 use Rattle.drivers.specs.declared.rules.Rule.{Rule}
 use Rattle.drivers.specs.declared.rules.Form.{Form}
 use Rattle.drivers.specs.Rules.{has_tag, is_many, rule_at, is_of, index_of}
 use Rattle.drivers.specs.laws.Rules.{is_of_listed}
-use Rattle.drivers.proofs.record.field_fault.Goals as goal
+use Rattle.drivers.specs.laws.Record.{has_none, has_some}
+use Rattle.drivers.proofs.record.field_index.Goals as goal
 
 -- a tag by its rule: whether it is of the form, and that it is then in the table
 module _ (bytes : List ℕ) (form : Form) (at i : ℕ) (e : i ≡ index_at bytes at) (r : Rule) (d : r ≡ rule_at i) (t : Bool) (q : t ≡ has_tag form r) where
@@ -62,7 +64,7 @@ module _ (bytes : List ℕ) (form : Form) (places : List ℕ) (at : ℕ) where
 
 pub returns-then-not-is_of : goal.returns-then-not-is_of
 returns-then-not-is_of c =
-    foreign _ _ _ _ c.if-bytes-at-lt-HEADER.false _ (c.rule_index-i.ensures ∙ ap index_of c.byte_at.ensures) _ c.rule_at-rule.ensures _ c.is_of.ensures (ap not c.if-not-is_of.true)
+    refuses _ _ _ (foreign _ _ _ _ (omega (arith, has_some _ _ _ c.has_room.ensures c.if-not-has_room.false)) _ (c.rule_index-i.ensures ∙ ap index_of c.byte_at.ensures) _ c.rule_at-rule.ensures _ c.is_of.ensures (ap not c.if-not-is_of.true)) refl
 
 pub bounds-places-i : goal.bounds-places-i
 bounds-places-i c =
@@ -70,20 +72,20 @@ bounds-places-i c =
 
 pub returns-then-places-i : goal.returns-then-places-i
 returns-then-places-i c =
-    again _ _ _ _ c.if-bytes-at-lt-HEADER.false _ (c.rule_index-i.ensures ∙ ap index_of c.byte_at.ensures) _ c.rule_at-rule.ensures _ c.is_of.ensures (ap not c.if-not-is_of.false) _ c.repeats.ensures c.if-places-i.true
+    refuses _ _ _ (again _ _ _ _ (omega (arith, has_some _ _ _ c.has_room.ensures c.if-not-has_room.false)) _ (c.rule_index-i.ensures ∙ ap index_of c.byte_at.ensures) _ c.rule_at-rule.ensures _ c.is_of.ensures (ap not c.if-not-is_of.false) _ c.repeats.ensures c.if-places-i.true) refl
 
-pub returns-then-bytes-at : goal.returns-then-bytes-at
-returns-then-bytes-at c =
-    no_content _ _ _ _ c.if-bytes-at-lt-HEADER.false _ (c.rule_index-i.ensures ∙ ap index_of c.byte_at.ensures) _ c.rule_at-rule.ensures _ c.is_of.ensures (ap not c.if-not-is_of.false)
-    _ c.repeats.ensures c.if-places-i.false _ c.length_at.ensures c.if-bytes-at.true
+pub returns-then-not-has_room-2 : goal.returns-then-not-has_room-2
+returns-then-not-has_room-2 c =
+    refuses _ _ _ (no_content _ _ _ _ (omega (arith, has_some _ _ _ c.has_room.ensures c.if-not-has_room.false)) _ (c.rule_index-i.ensures ∙ ap index_of c.byte_at.ensures) _ c.rule_at-rule.ensures _ c.is_of.ensures (ap not c.if-not-is_of.false)
+    _ c.repeats.ensures c.if-places-i.false _ c.length_at.ensures (omega (arith, has_none _ _ _ c.has_room-2.ensures c.if-not-has_room-2.true (omega arith), has_some _ _ _ c.has_room.ensures c.if-not-has_room.false))) refl
 
 pub returns : goal.returns
 returns c =
-    sound _ _ _ _ c.if-bytes-at-lt-HEADER.false _ (c.rule_index-i.ensures ∙ ap index_of c.byte_at.ensures) _ c.rule_at-rule.ensures _ c.is_of.ensures (ap not c.if-not-is_of.false)
-    _ c.repeats.ensures c.if-places-i.false _ c.length_at.ensures c.if-bytes-at.false
+    accepts _ _ _ (sound _ _ _ _ (omega (arith, has_some _ _ _ c.has_room.ensures c.if-not-has_room.false)) _ (c.rule_index-i.ensures ∙ ap index_of c.byte_at.ensures) _ c.rule_at-rule.ensures _ c.is_of.ensures (ap not c.if-not-is_of.false)
+    _ c.repeats.ensures c.if-places-i.false _ c.length_at.ensures (omega (arith, has_some _ _ _ c.has_room-2.ensures c.if-not-has_room-2.false))) (ap Ok (c.rule_index-i.ensures ∙ ap index_of c.byte_at.ensures))
 
-pub returns-then-bytes-at-lt-HEADER : goal.returns-then-bytes-at-lt-HEADER
-returns-then-bytes-at-lt-HEADER c = no_header _ _ _ _ c.if-bytes-at-lt-HEADER.true
+pub returns-then-not-has_room : goal.returns-then-not-has_room
+returns-then-not-has_room c = refuses _ _ _ (no_header _ _ _ _ (has_none _ _ _ c.has_room.ensures c.if-not-has_room.true (omega arith))) refl
 
 pub offset_bounds-places-i : goal.offset_bounds-places-i
 offset_bounds-places-i c = record { fits = omega (arith, listed _ _ _ _ (c.rule_index-i.ensures ∙ ap index_of c.byte_at.ensures) _ c.rule_at-rule.ensures _ c.is_of.ensures (ap not c.if-not-is_of.false)) }
