@@ -11,22 +11,24 @@ use lists::tally::Unreplayed;
 use oracles::lowpass_oracle::LowpassOracle;
 use oracles::round_robin::RoundRobin;
 
-fn is_over(rr: RoundRobin, lo: i32, hi: i32) -> bool {
+// Whether the cursor's band is lo .. hi − 1, as the oracle's own private test says it.
+// The public `bands_fit` asks more: by it wrong bands that a job can have would become −1 too, and never reach the call.
+fn has_band(rr: RoundRobin, lo: i32, hi: i32) -> bool {
     (rr.lo == lo) & (rr.hi == hi)
 }
 
 // A case can tell cursors of other bands than its groups', which no job has: −1, which is refused by the same number, stands for them. Wrong bands that a job can have stay.
 fn nwpass_of(inputs: &Inputs<'_>, any: LowpassOracle) -> i32 {
-    let first = is_over(any.rr1, 0, any.nwpass);
-    let second = is_over(any.rr2, any.nwpass, any.nwstop);
-    let third = is_over(any.rr3, any.nwstop, inputs.signed(1));
+    let first = has_band(any.rr1, 0, any.nwpass);
+    let second = has_band(any.rr2, any.nwpass, any.nwstop);
+    let third = has_band(any.rr3, any.nwstop, inputs.signed(1));
     if first & second & third {
         return any.nwpass;
     }
     -1
 }
 
-// A job with its numbers in words 0, 1 and 6 on; kappa and the options are not asked for.
+// A job with its numbers in words 0, 1 and 6 on; kappa and the options are not asked for. Field by field, since an oracle is another type, whose cursors a job has by other names.
 fn job_of(inputs: &Inputs<'_>, any: LowpassOracle) -> Job {
     Job {
         n: inputs.size(0),

@@ -44,6 +44,7 @@ impl Replay for Drivers {
     }
 }
 
+// Each program is a crate, whose main names its layer; `replay_list` is all that they do.
 fn main(rt: HostRuntime) {
     let mut report = Report::new(rt.stdout());
     replay_list(&mut rt.stdin(), &mut report, &Drivers);

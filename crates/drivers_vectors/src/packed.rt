@@ -14,6 +14,7 @@ pub(crate) fn bytes_at<'a>(inputs: &Inputs<'a>, k: usize, len: usize) -> &'a [u8
 }
 
 // Writes the bytes from byte `at` on, if they all fit, as an answer's words are written; where the next ones begin.
+// The place is the caller's, since `Got` counts words and a text may end within one.
 pub(crate) fn put_bytes(got: &mut Got, at: usize, bytes: &[u8]) -> usize {
     let room = part_mut(&mut got.bytes, at, bytes.len());
     if room.len() == bytes.len() {

@@ -1,7 +1,8 @@
 // The outcome of a run of either driver, and its words in an answer.
 use crate::places::{Places, is_optim};
 use drivers::answer::Answer;
-use drivers::cutting_plane_optim::OptimStop;
+use drivers::cutting_plane_feas::FeasRun;
+use drivers::cutting_plane_optim::{OptimRun, OptimStop};
 use lists::inputs::Inputs;
 use lists::pushes::Got;
 use lists::rooms::{Rooms, front};
@@ -24,7 +25,33 @@ fn put_steps(got: &mut Got, answer: Answer) {
     got.word(answer.steps as u64);
 }
 
-// The number where it is given or an optimizing run has ended, then the answer. Of runs that are halted the number is 6.
+// The two runs have other types, and the one that only looks for a point has no gamma.
+impl From<FeasRun> for Outcome {
+    fn from(run: FeasRun) -> Outcome {
+        Outcome {
+            answer: run.answer.map_err(OptimStop::Refused),
+            gamma: 0.0,
+            oracle: run.oracle,
+            kappa: run.ell.kappa,
+            tsq: run.ell.tsq,
+        }
+    }
+}
+
+impl From<OptimRun> for Outcome {
+    fn from(run: OptimRun) -> Outcome {
+        Outcome {
+            answer: run.answer,
+            gamma: run.gamma,
+            oracle: run.oracle,
+            kappa: run.ell.kappa,
+            tsq: run.ell.tsq,
+        }
+    }
+}
+
+// The refusal's number, then the answer. An answer without a refusal has a number, 0, only where lengths are any or the run optimizes; a run that is halted has 6.
+// Each variant writes other words, so that the match is what is to be said.
 fn put_answer(inputs: &Inputs<'_>, outcome: Outcome, got: &mut Got) -> Result<(), Unreplayed> {
     let any = inputs.is_any();
     match outcome.answer {

@@ -22,27 +22,13 @@ fn run(inputs: &Inputs<'_>, p: Places, ell: Ell, options: Options, rooms: &mut R
     let best = front(&mut rooms.e, p.best.len);
     if is_optim(inputs) {
         let gamma = inputs.float(p.gamma);
-        let done = cutting_plane_optim(
+        return Outcome::from(cutting_plane_optim(
             oracle, ell, gamma, options, rows, table, mq, xc, grad, grad_t, best,
-        );
-        return Outcome {
-            answer: done.answer,
-            gamma: done.gamma,
-            oracle: done.oracle,
-            kappa: done.ell.kappa,
-            tsq: done.ell.tsq,
-        };
+        ));
     }
-    let done = cutting_plane_feas(
+    Outcome::from(cutting_plane_feas(
         oracle, ell, options, rows, table, mq, xc, grad, grad_t, best,
-    );
-    Outcome {
-        answer: done.answer.map_err(OptimStop::Refused),
-        gamma: 0.0,
-        oracle: done.oracle,
-        kappa: done.ell.kappa,
-        tsq: done.ell.tsq,
-    }
+    ))
 }
 
 // Where n is refused there is no ellipsoid, and its numbers are 0.

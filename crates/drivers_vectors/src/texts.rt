@@ -7,7 +7,7 @@ use lists::pushes::Got;
 use lists::rooms::{Rooms, front, part, plus, times};
 use lists::tally::Unreplayed;
 
-// The text at the front of `out`; none where the call is refused.
+// The text at the front of `out`, to byte `at` of the answer, as `put_bytes` has it; none where the call is refused.
 fn put_text(got: &mut Got, at: usize, out: &[u8], text: Text) -> usize {
     match text {
         Ok(count) => put_bytes(got, at, part(out, 0, count)),
@@ -23,6 +23,7 @@ fn put_run(got: &mut Got, started: Run, rooms: &mut Rooms) -> usize {
     let mq = front(&mut rooms.c, times(n, n));
     let grad = front(&mut rooms.d, n);
     let grad_t = front(&mut rooms.e, n);
+    // A fixed array, here and below: the project has no heap, and no text is longer.
     let mut out = [0u8; 128];
     let mut run = started;
     let mut at = 8;

@@ -40,7 +40,8 @@ fn read_some<R: Read>(input: &mut R, part: &mut [u8]) -> usize
     input.read(part).unwrap_or(0)
 }
 
-// Reads until the slice is full, the input ends or a read fails; how many bytes came. It goes on by what a read gave, and `read_exact` does not say how many bytes came before the end, which tells a list's end from a case that is cut short.
+// Reads until the slice is full, the input ends or a read fails; how many bytes came, which tells a list's end from a case that is cut short, and which `read_exact` does not say.
+// streams' `fill` is nearly this loop, but a read that fails is an error there and loses the count; here the list ends there. The replays use only the layers that they test.
 fn read_full<R: Read>(input: &mut R, bytes: &mut [u8]) -> usize
     ensures { result ≤ length bytes.old }
 {
@@ -67,7 +68,7 @@ fn read_words<R: Read>(input: &mut R, bytes: &mut [u8], n: usize) -> Result<(), 
     Ok(())
 }
 
-// Reads a count of words.
+// Reads a count of words. Arrays of a fixed length here and below: the project has no heap.
 fn read_count<R: Read>(input: &mut R) -> Result<u64, Damage> {
     let mut count = [0u8; 8];
     read_words(input, &mut count, 1)?;

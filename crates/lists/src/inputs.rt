@@ -63,7 +63,7 @@ impl Inputs<'_> {
     pub fn size(&self, k: usize) -> usize
         ensures { result ≡ word_of self.now.bytes.now k }
     {
-        word(self.bytes, k) as usize
+        self.word(k) as usize
     }
 
     pub fn float(&self, k: usize) -> f64

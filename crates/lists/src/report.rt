@@ -27,7 +27,7 @@ impl fmt::Display for Shown {
     }
 }
 
-// Place k of an answer.
+// Place k of an answer, which may lie past the end (words.rt).
 fn place_of(bytes: &[u8], replayed: Replayed, k: usize) -> Shown {
     match replayed {
         Ok(n) if k < n => Shown::Word(word(bytes, k)),

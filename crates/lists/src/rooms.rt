@@ -1,4 +1,5 @@
-// Slices by their lengths, the ones that a call writes at the front of a room. What does not fit is an empty slice, so that no index needs a proof; a call is made only where all slices of its case fit.
+// Slices by their lengths, the ones that a call writes at the front of a room.
+// What does not fit is an empty slice, so that no index needs a proof; a call is made only where all slices of its case fit.
 ghost use Rattle.std.specs.Prelude.{◌≡◌};
 ghost use Rattle.lists.specs.Rooms.{plus_of, times_of, part_of, filled_of};
 
@@ -64,7 +65,7 @@ pub fn front<T>(s: &mut [T], len: usize) -> &mut [T]
     part_mut(s, 0, len)
 }
 
-// The floats from word `at` on; zeros where the case does not say them.
+// The floats from word `at` on; zeros where the case does not say them. The words may lie past the end (words.rt); `Inputs::fill` is this with a `Span`.
 pub fn fill(s: &mut [f64], inputs: &[u8], given: bool, at: usize, len: usize)
     ensures { s.new ≡ filled_of s.old inputs.now given at len }
 {

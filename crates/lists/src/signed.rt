@@ -19,6 +19,7 @@ pub fn signed(w: u64) -> i32
     i32::try_from(w.cast_signed()).unwrap_or(0)
 }
 
+// Words are told by their places, here and below, which may lie past the end (words.rt).
 pub fn signed_at(inputs: &[u8], k: usize) -> i32
     ensures { result ≡ signed_value (word_of inputs.now k) }
 {

@@ -15,17 +15,6 @@ pub enum Unreplayed {
     Unknown,
 }
 
-impl Unreplayed {
-    fn verdict(self) -> Verdict
-        ensures { result ≡ wordless_verdict self }
-    {
-        match self {
-            Unreplayed::Refused(_) | Unreplayed::Unfit => Verdict::Differs(0),
-            Unreplayed::Unknown => Verdict::Unknown,
-        }
-    }
-}
-
 impl From<Refusal> for Unreplayed {
     ghost from_gives = { λ why r. r ≡ Refused why };
 
@@ -55,6 +44,19 @@ pub enum Verdict {
     Unknown,
 }
 
+// The match is the conversion: which refusals of a replay count as a difference is said here and nowhere else, and no call of core has it.
+impl From<Unreplayed> for Verdict {
+    ghost from_gives = { λ why r. r ≡ wordless_verdict why };
+
+    fn from(why: Unreplayed) -> Verdict {
+        match why {
+            Unreplayed::Refused(_) | Unreplayed::Unfit => Verdict::Differs(0),
+            Unreplayed::Unknown => Verdict::Unknown,
+        }
+    }
+}
+
+// The buffers hold any case, so that the count of words stands beside them: a slice of that length would be a fact to prove in each caller.
 // `outs` words are expected, at the front of a buffer for any case; where words differ, or one side has more, the first such place.
 pub fn compare(outs: usize, expected: &[u8], replayed: Replayed, got: &[u8]) -> Verdict
     ensures { result ≡ verdict_of outs expected.now replayed got.now }
@@ -68,7 +70,7 @@ pub fn compare(outs: usize, expected: &[u8], replayed: Replayed, got: &[u8]) -> 
                 None => Verdict::Differs(both),
             }
         }
-        Err(why) => why.verdict(),
+        Err(why) => Verdict::from(why),
     }
 }
 
@@ -132,6 +134,7 @@ impl Tally {
             return;
         }
         let at = op as usize;
+        // Each verdict adds to other counts: a match on the variants, with no step to choose.
         match v {
             Verdict::Agrees => {
                 self.ops[at] = self.ops[at].agrees();

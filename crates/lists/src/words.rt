@@ -1,4 +1,5 @@
-// Words and floats in a run of bytes, by their place: word k stands from byte 8 k on. A place may lie past the end, so that no caller has to prove an index; a slice that begins there would need that.
+// Words and floats in a run of bytes, by their place: word k stands from byte 8 k on.
+// A place may lie past the end, so that no caller has to prove an index; a slice that begins there would need that.
 ghost use Rattle.std.specs.Prelude.{◌≡◌, length};
 ghost use Rattle.lists.specs.Words.{word_of, float_at, holds, floats_at, put_word_at, floats_put, first_diff};
 

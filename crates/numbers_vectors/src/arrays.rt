@@ -30,6 +30,7 @@ fn square(n: usize) -> usize {
     if n < 256 { n * n } else { 0 }
 }
 
+// By the list's own numbers, here and below: an enum of them would be made by the same match.
 fn places_of(inputs: &Inputs<'_>) -> Places {
     let n = inputs.size(0);
     let l1 = inputs.size(1);

@@ -28,7 +28,7 @@ fn put_core(got: &mut Got, c: EllCalcCore) {
     got.float(c.cst2);
 }
 
-// How many input words an operation of a calculator takes, as docs/LISTS.md has it.
+// How many input words an operation of a calculator takes. By the list's own numbers, here and below, so that it reads as the table in docs/LISTS.md: an enum of them would be made by the same match.
 fn inputs_of(op: u64) -> usize {
     match op {
         10 => 1,

@@ -35,6 +35,7 @@ impl Replay for Numbers {
     }
 }
 
+// Each program is a crate, whose main names its layer; `replay_list` is all that they do.
 fn main(rt: HostRuntime) {
     let mut report = Report::new(rt.stdout());
     replay_list(&mut rt.stdin(), &mut report, &Numbers);

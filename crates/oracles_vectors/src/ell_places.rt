@@ -89,7 +89,7 @@ fn places_stable(inputs: &Inputs<'_>) -> Places {
     }
 }
 
-// Operation 60 has one word more before kappa and tsq.
+// Operation 60 has one word more before kappa and tsq. By the list's own numbers: an enum of them would be made by the same match.
 pub(crate) fn places_of(inputs: &Inputs<'_>) -> Places {
     match inputs.op {
         60 => places_legal(inputs, 5, 3),

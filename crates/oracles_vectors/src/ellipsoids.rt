@@ -18,7 +18,7 @@ struct Outcome {
     tsq: f64,
 }
 
-// The kind of cut: bias 0, central 1, q 2.
+// The kind of cut: bias 0, central 1, q 2. No `TryFrom` beside the enum: the numbers are the lists' own, and so is it that no other counts, where C takes each other one for q.
 fn strategy(how: u64) -> Result<CutStrategy, Unreplayed> {
     match how {
         0 => Ok(CutStrategy::BiasCut),

@@ -21,6 +21,7 @@ fn slices_from(at: usize, first: usize, second: usize) -> Places {
     }
 }
 
+// By the list's own numbers, here and below: an enum of them would be made by the same match.
 fn places_of(inputs: &Inputs<'_>) -> Places {
     let m = inputs.size(0);
     let size = times(m, m);

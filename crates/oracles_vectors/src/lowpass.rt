@@ -129,6 +129,7 @@ fn put_gamma(got: &mut Got, any: bool, gamma: f64, grad: &[f64]) {
     }
 }
 
+// The four stay apart, here and in `replay_optim`: a struct with them would be put together for this one call and be taken apart in it.
 fn replay_feas(
     inputs: &Inputs<'_>,
     p: Places,

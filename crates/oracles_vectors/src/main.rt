@@ -51,6 +51,7 @@ impl Replay for Oracles {
     }
 }
 
+// Each program is a crate, whose main names its layer; `replay_list` is all that they do.
 fn main(rt: HostRuntime) {
     let mut report = Report::new(rt.stdout());
     replay_list(&mut rt.stdin(), &mut report, &Oracles);

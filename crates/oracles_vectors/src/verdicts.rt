@@ -11,11 +11,12 @@ use numbers::refusal::Refusal;
 use oracles::lowpass_oracle::{Group, LowpassOracle, OptimVerdict};
 use oracles::round_robin::RoundRobin;
 
-// A group's number, 4 for feasible, or 16 and a refusal's number; the largest stop value where there is one.
+// What is compared of an assessment: of a feasible point the largest stop value, if there is one; of another its group's number, but no row.
 #[derive(Clone, Copy, PartialEq)]
-struct Seen {
-    verdict: u64,
-    peak: Option<f64>,
+enum Seen {
+    Feasible(Option<f64>),
+    Broken(u8),
+    Refused(Refusal),
 }
 
 // Of both assessments.
@@ -36,22 +37,19 @@ impl Seen {
     // Refusal 6 counts as feasible, without a peak.
     fn of(answer: Result<Option<Group>, Refusal>, peak: f64) -> Seen {
         match answer {
-            Ok(None) => Seen {
-                verdict: 4,
-                peak: Some(peak),
-            },
-            Ok(Some(group)) => Seen {
-                verdict: group.number() as u64,
-                peak: None,
-            },
-            Err(Refusal::NoStopValue) => Seen {
-                verdict: 4,
-                peak: None,
-            },
-            Err(why) => Seen {
-                verdict: 16 + u8::from(why) as u64,
-                peak: None,
-            },
+            Ok(None) => Seen::Feasible(Some(peak)),
+            Ok(Some(group)) => Seen::Broken(group.number()),
+            Err(Refusal::NoStopValue) => Seen::Feasible(None),
+            Err(why) => Seen::Refused(why),
+        }
+    }
+
+    // The list's word: a group's number, 4 for feasible, or 16 and a refusal's number.
+    fn word(self) -> u64 {
+        match self {
+            Seen::Broken(group) => group as u64,
+            Seen::Feasible(_) => 4,
+            Seen::Refused(why) => 16 + u8::from(why) as u64,
         }
     }
 }
@@ -143,6 +141,7 @@ fn both_at(inputs: &Inputs<'_>, p: Places, position: u64, grad: &mut [f64]) -> B
 }
 
 // The count of positions, and of each verdict at the first one in how many positions it is the same.
+// The four parameters stay apart: a struct with them would be put together for this one call and be taken apart in it.
 fn put_verdicts(
     inputs: &Inputs<'_>,
     p: Places,
@@ -150,7 +149,7 @@ fn put_verdicts(
     got: &mut Got,
 ) -> Result<(), Unreplayed> {
     let first = both_at(inputs, p, 0, grad);
-    fit(first.feas.verdict <= 16)?;
+    fit(!matches!(first.feas, Seen::Refused(_)))?;
     let count = positions(inputs);
     let mut feas = 0u64;
     let mut optim = 0u64;
@@ -159,7 +158,7 @@ fn put_verdicts(
         feas = feas.wrapping_add(u64::from(here.feas == first.feas));
         optim = optim.wrapping_add(u64::from(here.optim == first.optim));
     }
-    got.words(&[count, first.feas.verdict, feas, first.optim.verdict, optim]);
+    got.words(&[count, first.feas.word(), feas, first.optim.word(), optim]);
     Ok(())
 }
 

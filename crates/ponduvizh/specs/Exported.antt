@@ -6,6 +6,7 @@ use Rattle.oracles.specs.declared.ell.Ell.{Ell}
 use Rattle.numbers.specs.declared.cut.CutStatus.{CutStatus}
 use Rattle.numbers.specs.declared.refusal.Refusal.{Refusal}
 use Rattle.std.specs.Prelude.{Some, ℕ, Bool, List, eqb, Float, Err, Ok, Result, ⊤, None, Option}
+use Rattle.std.specs.Result.{result_unwrap_or}
 use Rattle.numbers.specs.Pick.{pick}
 use Rattle.numbers.specs.Refusal.{refusal_number, number_of}
 use Rattle.numbers.specs.Cut.{status_number}
@@ -18,13 +19,9 @@ use Rattle.oracles.specs.declared.ell_common.CutStrategy.TheVariants.{BiasCut, C
 
 -- ---- the first layer, and the factorization
 
--- the number that is found
-abbrev pub value_or : Result Float Refusal → Float → Float
-value_or (Ok x) old = x
-value_or (Err why) old = old
-
+-- the number that is found, or what was there
 abbrev pub number_exported : Result Float Refusal → Float → ℕ × Float
-number_exported a old = (number_of a, value_or a old)
+number_exported a old = (number_of a, result_unwrap_or a old)
 
 abbrev pub written_exported : Result ⊤ Refusal × List Float → ℕ × List Float
 written_exported a = (number_of a.0, a.1)

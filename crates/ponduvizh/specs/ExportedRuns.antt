@@ -2,8 +2,7 @@
 use Rattle.drivers.specs.declared.cutting_plane_optim.OptimStop.{OptimStop}
 use Rattle.numbers.specs.declared.refusal.Fault.{Fault}
 use Rattle.numbers.specs.declared.refusal.Refusal.{Refusal}
-use Rattle.std.specs.Prelude.{ℕ, Bool, false, List, [], ◌∷◌, ℤ, Float, Err, Ok, Result}
-use Rattle.numbers.specs.Pick.{pick}
+use Rattle.std.specs.Prelude.{ℕ, false, cond, List, [], ◌∷◌, ℤ, Float, Err, Ok, Result}
 use Rattle.numbers.specs.Refusal.{refusal_number, number_at}
 use Rattle.oracles.specs.Ell.{EllBuffers}
 use Rattle.oracles.specs.declared.ell.Ell.{Ell}
@@ -25,12 +24,9 @@ marks_of o = o.rr1.cur ∷ o.rr2.cur ∷ o.rr3.cur ∷ o.idx1 ∷ o.idx2 ∷ o.i
 unfoldable pub values_of : LowpassOracle → Ell → List Float
 values_of o e = o.sp_sq ∷ o.fmax ∷ e.kappa ∷ e.tsq ∷ []
 
-abbrev pub flag_of : Bool → ℕ
-flag_of b = pick b 1 0
-
 -- found, the steps, and the oracle's more_alt
 unfoldable pub answer_of : Answer → LowpassOracle → List ℕ
-answer_of a o = flag_of a.found ∷ a.steps ∷ flag_of o.more_alt ∷ []
+answer_of a o = cond a.found 1 0 ∷ a.steps ∷ cond o.more_alt 1 0 ∷ []
 
 -- what a run tells in numbers: `answer_of`, `marks_of`, `values_of`
 pub record RunNumbers : Type 0 where

@@ -1,5 +1,5 @@
-// The updates of both ellipsoids. `strategy` is 0 for a bias cut, 1 for a central one, any other number the q form; `beta1` counts where `parallel` is true. `status` becomes 0 for Success, 1 for NoSoln, 2 for
-// NoEffect, `kappa` and `tsq` those of the ellipsoid after the update.
+// The updates of both ellipsoids. `strategy` is 0 for a bias cut, 1 for a central one, any other number the q form; `beta1` counts where `parallel` is true.
+// `status` becomes 0 for Success, 1 for NoSoln, 2 for NoEffect, `kappa` and `tsq` those of the ellipsoid after the update.
 ghost use Rattle.std.specs.Prelude.{◌≡◌};
 ghost use Rattle.oracles.specs.Ell.{ell_buffers, new_ell_answer};
 ghost use Rattle.oracles.specs.EllStable.{stable_buffers, new_ell_stable_answer};
@@ -36,10 +36,7 @@ fn beta_of(parallel: bool, beta0: f64, beta1: f64) -> CutChoice
 fn status_or(answer: Result<CutStatus, Refusal>, old: u64) -> u64
     ensures { result ≡ status_or answer old }
 {
-    match answer {
-        Ok(status) => u8::from(status) as u64,
-        Err(_) => old,
-    }
+    answer.map_or(old, |status| u8::from(status) as u64)
 }
 
 // What an update says beside the slices.

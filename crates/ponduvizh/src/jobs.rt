@@ -1,4 +1,5 @@
-// The reading of a job. `sizes` becomes n, the rows and the step limit, `bands` nwpass and nwstop, `marks` the cursors of pass, middle and stop, idx1 to idx3 and kmax, `numbers` lp_sq, up_sq, sp_sq, kappa and the tolerance; or `place` where the record is refused.
+// The reading of a job. `sizes` becomes n, the rows and the step limit, `bands` nwpass and nwstop, `marks` the cursors of pass, middle and stop, idx1 to idx3 and kmax,
+// `numbers` lp_sq, up_sq, sp_sq, kappa and the tolerance; or `place` becomes the place where the record is refused.
 ghost use Rattle.std.specs.Prelude.{◌≡◌, ℕ};
 ghost use Rattle.drivers.specs.Job.{read_job_answer};
 ghost use Rattle.ponduvizh.specs.ExportedRuns.{JobNumbers, bands_of, numbers_of, numbers_read, job_numbers, place_or, job_numbers_or, read_exported};

@@ -5,38 +5,24 @@ ghost use Rattle.numbers.specs.Refusal.{refusal_number};
 ghost use Rattle.std.specs.Float.Ieee.Positive.{positive};
 ghost use Rattle.numbers.specs.Sqrt.{sqrt_of, NearestRoot};
 ghost use Rattle.oracles.specs.LdltMgr.{factor_answer};
-ghost use Rattle.ponduvizh.specs.Exported.{value_or, number_exported, written_exported, factored_end, factored_exported};
+ghost use Rattle.ponduvizh.specs.Exported.{number_exported, written_exported, factored_end, factored_exported};
 
 use numbers::arr::{dot, dot_mv_into};
 use numbers::refusal::{Refusal, number};
 use numbers::sqrt::sqrt;
 use oracles::ldlt_mgr::{Pos, factor};
 
+// A refusal's number in C's 64 bits: std's `From`, named once for the four calls that make an ellipsoid first.
 pub(crate) fn code(why: Refusal) -> u64
     ensures { result ≡ refusal_number why }
 {
     u8::from(why) as u64
 }
 
-fn value_or(answer: Result<f64, Refusal>, old: f64) -> f64
-    ensures { result ≡ value_or answer old }
-{
-    match answer {
-        Ok(value) => value,
-        Err(_) => old,
-    }
-}
-
 fn factored_end(answer: Result<Option<Pos>, Refusal>, old: usize) -> usize
     ensures { result ≡ factored_end answer old }
 {
-    match answer {
-        Err(_) => old,
-        Ok(stopped) => match stopped {
-            None => 0,
-            Some(pos) => pos.end,
-        },
-    }
+    answer.map_or(old, |stopped| stopped.map_or(0, |pos| pos.end))
 }
 
 #[unsafe(no_mangle)]
@@ -53,7 +39,7 @@ pub extern "C" fn ponduvizh_dot(n: usize, a: &[f64], b: &[f64], out: &mut f64) -
     ensures { (result, out.new) ≡ number_exported (dot_answer n a.now b.now) out.old }
 {
     let answer = dot(n, a, b);
-    *out = value_or(answer, *out);
+    *out = answer.unwrap_or(*out);
     number(&answer) as u64
 }
 

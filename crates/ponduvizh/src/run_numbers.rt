@@ -1,6 +1,6 @@
 // What a run says in numbers: `answer` is found, the steps and the oracle's more_alt; `marks` the cursors of pass, middle and stop, idx1 to idx3 and kmax; `values` sp_sq, fmax, kappa and tsq.
 ghost use Rattle.std.specs.Prelude.{◌≡◌};
-ghost use Rattle.ponduvizh.specs.ExportedRuns.{marks_of, values_of, flag_of, answer_of, run_numbers, numbers_after, as_optim, numbers_by};
+ghost use Rattle.ponduvizh.specs.ExportedRuns.{marks_of, values_of, answer_of, run_numbers, numbers_after, as_optim, numbers_by};
 
 use drivers::answer::Answer;
 use drivers::cutting_plane_optim::OptimStop;
@@ -31,19 +31,14 @@ fn put_values(oracle: LowpassOracle, ell: Ell, values: &mut [f64; 4])
     *values = [oracle.sp_sq, oracle.fmax, ell.kappa, ell.tsq];
 }
 
-fn flag(b: bool) -> u64
-    ensures { result ≡ flag_of b }
-{
-    if b {
-        return 1;
-    }
-    0
-}
-
 fn put_answer(ended: Answer, oracle: LowpassOracle, answer: &mut [u64; 3])
     ensures { answer.new ≡ answer_of ended oracle }
 {
-    *answer = [flag(ended.found), ended.steps as u64, flag(oracle.more_alt)];
+    *answer = [
+        ended.found as u64,
+        ended.steps as u64,
+        oracle.more_alt as u64,
+    ];
 }
 
 // What a run that began says.
@@ -86,8 +81,5 @@ pub(crate) fn put_run(
 pub(crate) fn as_optim(ended: Result<Answer, Refusal>) -> Result<Answer, OptimStop>
     ensures { result ≡ as_optim ended }
 {
-    match ended {
-        Ok(answer) => Ok(answer),
-        Err(why) => Err(OptimStop::Refused(why)),
-    }
+    ended.map_err(OptimStop::Refused)
 }

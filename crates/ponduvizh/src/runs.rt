@@ -14,7 +14,7 @@ use drivers::cutting_plane_optim::{cutting_plane_optim, optim_number};
 use oracles::ell::Ell;
 use oracles::lowpass_oracle::LowpassOracle;
 
-// C gives both runs their slices one by one; they differ in gamma, and in what is left of a run that is halted.
+// C gives both runs their slices one by one. The two are no twins: they differ in gamma, and in what is left of a run that is halted.
 // The run over an ellipsoid that was made.
 fn feas_made(
     oracle: LowpassOracle,

@@ -1,5 +1,5 @@
-// The scan of a band. `found` becomes 0 and 0 where nothing is broken, else 1 for a value below its limit or 2 for one above, and the row; `values` the broken row's value, or 0, and the largest value before it;
-// kmax the row of that; cur where the scan ended.
+// The scan of a band. `found` becomes 0 and 0 where nothing is broken, else 1 for a value below its limit or 2 for one above, and the row;
+// `values` the broken row's value, or 0, and the largest value before it; kmax the row of that; cur where the scan ended.
 ghost use Rattle.std.specs.Prelude.{◌≡◌};
 ghost use Rattle.oracles.specs.Scan.{scan_band_answer};
 ghost use Rattle.ponduvizh.specs.ExportedScan.{upper_of, side_of, row_of, value_of, numbers_found, scan_numbers, scan_numbers_or, scan_end};
@@ -32,19 +32,13 @@ fn side_of(viol: Option<Violation>) -> usize
 fn row_of(viol: Option<Violation>) -> usize
     ensures { result ≡ row_of viol }
 {
-    match viol {
-        None => 0,
-        Some(broken) => broken.row,
-    }
+    viol.map_or(0, |broken| broken.row)
 }
 
 fn value_of(viol: Option<Violation>) -> f64
     ensures { result ≡ value_of viol }
 {
-    match viol {
-        None => 0.0,
-        Some(broken) => broken.value,
-    }
+    viol.map_or(0.0, |broken| broken.value)
 }
 
 fn put_scan(scan: Scan, found: &mut [usize; 2], values: &mut [f64; 2], kmax: &mut i32)

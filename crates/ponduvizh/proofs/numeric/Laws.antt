@@ -7,9 +7,10 @@ use mathlib.Core.Path.{◌≡◌, refl}
 use mathlib.Core.List.{List}
 use Prim.Native.Nat.{ℕ}
 use lib.Ieee.{Float}
-use Rattle.ponduvizh.specs.Exported.{value_or, number_exported, written_exported, factored_end, factored_exported}
+use Rattle.std.specs.Result.{result_unwrap_or}
+use Rattle.ponduvizh.specs.Exported.{number_exported, written_exported, factored_end, factored_exported}
 
-pub number_law : (a b : (Result Float Refusal)) (old v : Float) (r : ℕ) → a ≡ b → r ≡ number_of a → v ≡ value_or a old → (r, v) ≡ number_exported b old
+pub number_law : (a b : (Result Float Refusal)) (old v : Float) (r : ℕ) → a ≡ b → r ≡ number_of a → v ≡ result_unwrap_or a old → (r, v) ≡ number_exported b old
 number_law a b old v r d e f = rw (e, f, d) refl
 
 pub written_law : (a : (Result ⊤ Refusal)) (out : List Float) (b : Result ⊤ Refusal × List Float) (r : ℕ) → (a, out) ≡ b → r ≡ number_of a → (r, out) ≡ written_exported b

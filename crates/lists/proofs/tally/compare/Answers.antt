@@ -12,4 +12,4 @@ pub returns-in-None-2 : goal.returns-in-None-2
 returns-in-None-2 c = count_differs c.args.outs _ _ _ _ _ _ c.in-Ok.is c.min-both.ensures c.first_difference.ensures c.in-None.is c.if-n-outs.false
 
 pub returns-in-Err : goal.returns-in-Err
-returns-in-Err c = no_words _ _ _ _ _ _ c.in-Err.is c.verdict.ensures
+returns-in-Err c = no_words _ _ _ _ _ _ c.in-Err.is c.from.ensures
