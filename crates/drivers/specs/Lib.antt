@@ -7,6 +7,7 @@ pub mod CuttingPlaneOptim
 pub mod Job
 pub mod Text
 pub mod Fields
+pub mod WriteJob
 pub mod Answer
 pub mod Belongs
 pub mod Trace

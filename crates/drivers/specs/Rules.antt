@@ -7,7 +7,34 @@ use Rattle.drivers.specs.declared.rules.Form.TheVariants.{Job, Answer}
 use Rattle.drivers.specs.declared.rules.Often.{Often}
 use Rattle.drivers.specs.declared.rules.Often.TheVariants.{Once, Many, Maybe}
 
--- the tags of an answer, which are written too
+-- the tags of a job, and of an answer
+abbrev pub n_tag : ℕ
+n_tag = 0x01
+
+abbrev pub bands_tag : ℕ
+bands_tag = 0x02
+
+abbrev pub limits_tag : ℕ
+limits_tag = 0x03
+
+abbrev pub row_tag : ℕ
+row_tag = 0x04
+
+abbrev pub point_tag : ℕ
+point_tag = 0x05
+
+abbrev pub cursors_tag : ℕ
+cursors_tag = 0x06
+
+abbrev pub kappa_tag : ℕ
+kappa_tag = 0x07
+
+abbrev pub matrix_tag : ℕ
+matrix_tag = 0x08
+
+abbrev pub settings_tag : ℕ
+settings_tag = 0x09
+
 abbrev pub outcome_tag : ℕ
 outcome_tag = 0x20
 
@@ -24,15 +51,15 @@ rule tag form base factor power often = record { tag = tag; form = Some form; ba
 -- document 01's table
 unfoldable pub rules : List Rule
 rules =
-    rule 0x01 Job 2 0 0 Once
-    ∷ rule 0x02 Job 4 0 0 Once
-    ∷ rule 0x03 Job 24 0 0 Once
-    ∷ rule 0x04 Job 0 8 1 Many
-    ∷ rule 0x05 Job 0 8 1 Once
-    ∷ rule 0x06 Job 6 0 0 Once
-    ∷ rule 0x07 Job 8 0 0 Once
-    ∷ rule 0x08 Job 0 8 2 Once
-    ∷ rule 0x09 Job 10 0 0 Once
+    rule n_tag Job 2 0 0 Once
+    ∷ rule bands_tag Job 4 0 0 Once
+    ∷ rule limits_tag Job 24 0 0 Once
+    ∷ rule row_tag Job 0 8 1 Many
+    ∷ rule point_tag Job 0 8 1 Once
+    ∷ rule cursors_tag Job 6 0 0 Once
+    ∷ rule kappa_tag Job 8 0 0 Once
+    ∷ rule matrix_tag Job 0 8 2 Once
+    ∷ rule settings_tag Job 10 0 0 Once
     ∷ rule outcome_tag Answer 1 0 0 Once
     ∷ rule steps_tag Answer 2 0 0 Once
     ∷ rule found_tag Answer 0 8 1 Maybe

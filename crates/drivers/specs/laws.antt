@@ -22,3 +22,11 @@ pub mod FoundFeasible
 pub mod Worked
 pub mod Program
 pub mod Writer
+pub mod JobBytes
+pub mod Written
+pub mod Shorts
+pub mod Typed
+pub mod JobFields
+pub mod JobAgain
+pub mod RecordLong
+pub mod Filed

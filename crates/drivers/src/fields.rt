@@ -1,16 +1,27 @@
 // A record's fields, as pieces: what does not fit is not written, and the place stays.
-ghost use Rattle.std.specs.Prelude.{◌+◌, ◌*◌, ◌<◌, [], ◌∷◌, length};
+ghost use Rattle.std.specs.Prelude.{◌≡◌, ◌+◌, ◌*◌, ◌<◌, [], ◌∷◌, length};
 ghost use Rattle.numbers.specs.Bits.{le_bytes};
-ghost use Rattle.drivers.specs.Fields.{header, field_bytes, number_pieces, number_bytes};
+ghost use Rattle.drivers.specs.Fields.{header, field_bytes, number_pieces, number_bytes, short_of, short_pieces, short_bytes};
 ghost use Rattle.drivers.specs.laws.Writer.{Puts};
 
 use crate::record::HEADER;
 use crate::text::{Writer, has_room};
 use numbers::bits::{put_bytes, to_bits};
 
+// A whole number from −32,768 to 65,535 as 16 bits: its own, or those of 65,536 more where it is below zero.
+fn short_of(z: i32) -> u64
+    ensures { result ≡ short_of z }
+{
+    let size = z.unsigned_abs() as u64;
+    if z < 0 {
+        return 65536u64.saturating_sub(size);
+    }
+    size
+}
+
 impl Writer<'_> {
     // The k lowest bytes of w.
-    fn put_integer(&mut self, k: usize, w: u64)
+    pub(crate) fn put_integer(&mut self, k: usize, w: u64)
         ensures { Puts self.old self.new (le_bytes k w ∷ []) }
     {
         if !has_room(self.out.len(), self.at, k) {
@@ -21,7 +32,7 @@ impl Writer<'_> {
     }
 
     // A field's header, for a content of so many bytes.
-    fn put_header(&mut self, tag: u8, size: usize)
+    pub(crate) fn put_header(&mut self, tag: u8, size: usize)
         requires { size < 65536 }
         ensures { Puts self.old self.new (header tag size ∷ []) }
     {
@@ -34,6 +45,15 @@ impl Writer<'_> {
     {
         for x in xs {
             self.put_integer(8, to_bits(*x));
+        }
+    }
+
+    // Whole numbers, two bytes each.
+    fn put_shorts(&mut self, zs: &[i32])
+        ensures { Puts self.old self.new (short_pieces zs.now) }
+    {
+        for z in zs {
+            self.put_integer(2, short_of(*z));
         }
     }
 
@@ -60,5 +80,18 @@ impl Writer<'_> {
         }
         self.put_header(tag, size);
         self.put_numbers(xs);
+    }
+
+    // A field whose content is whole numbers of two bytes. It differs from `put_numbers_field` in the numbers' type and size: one function for both would take a trait with a law of its own.
+    pub(crate) fn put_shorts_field(&mut self, tag: u8, zs: &[i32])
+        requires { 2 * length zs.now < 65536 }
+        ensures { Puts self.old self.new (field_bytes (tag, short_bytes zs.now) ∷ []) }
+    {
+        let size = 2 * zs.len();
+        if !has_room(self.out.len(), self.at, HEADER + size) {
+            return;
+        }
+        self.put_header(tag, size);
+        self.put_shorts(zs);
     }
 }

@@ -14,3 +14,4 @@ pub mod rules;
 pub mod run;
 pub mod text;
 pub mod trace;
+pub mod write_job;

@@ -33,8 +33,24 @@ pub(crate) struct Rule {
     pub(crate) often: Often,
 }
 
-// A row's tag, and those that are written: bytes of a record, and so numbers.
+// The tags: bytes of a record, and so numbers.
+pub(crate) const N_TAG: u8 = 0x01;
+
+pub(crate) const BANDS_TAG: u8 = 0x02;
+
+pub(crate) const LIMITS_TAG: u8 = 0x03;
+
 pub(crate) const ROW_TAG: u8 = 0x04;
+
+pub(crate) const POINT_TAG: u8 = 0x05;
+
+pub(crate) const CURSORS_TAG: u8 = 0x06;
+
+pub(crate) const KAPPA_TAG: u8 = 0x07;
+
+pub(crate) const MATRIX_TAG: u8 = 0x08;
+
+pub(crate) const SETTINGS_TAG: u8 = 0x09;
 
 pub(crate) const OUTCOME_TAG: u8 = 0x20;
 
@@ -87,17 +103,17 @@ const NUMBERS: Rule = Rule {
 // Document 01's table.
 const RULES: [Rule; TAGS] = [
     Rule {
-        tag: 0x01,
+        tag: N_TAG,
         base: 2,
         ..OF_JOB
     },
     Rule {
-        tag: 0x02,
+        tag: BANDS_TAG,
         base: 4,
         ..OF_JOB
     },
     Rule {
-        tag: 0x03,
+        tag: LIMITS_TAG,
         base: 24,
         ..OF_JOB
     },
@@ -107,26 +123,26 @@ const RULES: [Rule; TAGS] = [
         ..NUMBERS
     },
     Rule {
-        tag: 0x05,
+        tag: POINT_TAG,
         ..NUMBERS
     },
     Rule {
-        tag: 0x06,
+        tag: CURSORS_TAG,
         base: 6,
         ..OF_JOB
     },
     Rule {
-        tag: 0x07,
+        tag: KAPPA_TAG,
         base: 8,
         ..OF_JOB
     },
     Rule {
-        tag: 0x08,
+        tag: MATRIX_TAG,
         power: 2,
         ..NUMBERS
     },
     Rule {
-        tag: 0x09,
+        tag: SETTINGS_TAG,
         base: 10,
         ..OF_JOB
     },
@@ -150,7 +166,7 @@ const RULES: [Rule; TAGS] = [
 ];
 
 // Its rows by name, which are also the places of their tags, and how many there are. They index arrays, so they are numbers: an enum would be turned into one at each use.
-// None has 3, the place of the rows, which are known by their tag.
+// There is none for 3, the place of the rows, which are known by their tag.
 pub(crate) const N: usize = 0;
 
 pub(crate) const BANDS: usize = 1;

@@ -1,22 +1,23 @@
 -- What the writers of fields have put. Assumes nothing.
-use Prim.Native.Nat.{ℕ, ◌+◌, ◌*◌, ◌≤◌, ◌<◌}
-use mathlib.Core.Path.{◌≡◌, sym, ap, ◌∙◌}
+use Prim.Native.Nat.{ℕ, ◌+◌, ◌≤◌, ◌<◌}
+use mathlib.Core.Path.{◌≡◌, refl, sym, ap, ◌∙◌}
 use mathlib.Core.Bool.{Bool, true, false, not}
-use mathlib.Core.List.{List, [], ◌∷◌, ◌++◌, append-nil}
+use mathlib.Core.List.{List, [], ◌∷◌, ◌++◌, map, append-nil}
 use native.Mathlib.Numerals.{add-one}
 use native.Mathlib.Omega.{arith}
 use borrow.Author.Tests.{leb-true, leb-false}
 use lib.Dec.{leb}
 use lib.ListN.{length, drop, get_or, drop_of_length-le}
 use lib.Seq.{drop-cons}
-use lib.Ieee.{Float, nan}
-use Rattle.numbers.specs.Bits.{bits_of, le_bytes, put_bytes}
+use Rattle.numbers.specs.Bits.{le_bytes, put_bytes}
 use Rattle.numbers.specs.laws.Bits.{length_bytes, put_fits}
 use Rattle.numbers.specs.laws.Pick.{says_no, says_yes}
 use Rattle.drivers.specs.Text.{joined}
-use Rattle.drivers.specs.laws.Text.{put_fits as piece_fits, put_not, put_joined, put, put_all}
-use Rattle.drivers.specs.Fields.{header, field_bytes, number_pieces, number_bytes}
-use Rattle.drivers.specs.laws.OneField.{length_numbers, length_field}
+use Rattle.drivers.specs.laws.Text.{put_fits as piece_fits, put_not, put_one, put_joined, put, put_all}
+use Rattle.drivers.specs.laws.Writer.{Puts}
+use Rattle.drivers.specs.declared.text.Writer.{Writer}
+use Rattle.drivers.specs.Fields.{header, field_bytes}
+use Rattle.drivers.specs.laws.OneField.{length_field}
 
 -- a piece of so many bytes, by the test of its room
 module _ (out : List ℕ) (at : ℕ) (text : List ℕ) (size : ℕ) (long : length text ≡ size) (r : Bool) (e : r ≡ leb (at + size) (length out)) where
@@ -39,22 +40,30 @@ integer_put out at k w r o e h p =
     let f = integer_room out at k r e h in
     (λ i. (at + sym l i, (p ∙ sym (put_fits out at k w f)) i)) ∙ piece_fits out at (le_bytes k w) (omega (arith, l))
 
--- the number after i of them, and the last
-pub numbers_turn : (xs : List Float) (i w : ℕ) → i < length xs → w ≡ bits_of (get_or xs i nan) → ((le_bytes 8 w ∷ []) ++ number_pieces (drop (i + 1) xs)) ≡ number_pieces (drop i xs)
-numbers_turn xs i w h e = ap (λ (v : ℕ). le_bytes 8 v ∷ number_pieces (drop (i + 1) xs)) e ∙ rw (add-one i) (ap number_pieces (sym (drop-cons xs i nan h)))
+-- the pieces of a list from i on: that of the next element and those behind it, and none at the end
+module _ {ℓ} {X : Type ℓ} (piece : X → List ℕ) (xs : List X) (i : ℕ) where
+  pub pieces_turn : (d : X) (text : List ℕ) → i < length xs → text ≡ piece (get_or xs i d) → ((text ∷ []) ++ map piece (drop (i + 1) xs)) ≡ map piece (drop i xs)
+  pieces_turn d text h e = ap (λ (t : List ℕ). t ∷ map piece (drop (i + 1) xs)) e ∙ rw (add-one i) (ap (map piece) (sym (drop-cons xs i d h)))
 
-pub numbers_done : (xs : List Float) (i : ℕ) → length xs ≤ i → [] ≡ number_pieces (drop i xs)
-numbers_done xs i h = ap number_pieces (sym (drop_of_length-le xs h))
+  pub pieces_done : length xs ≤ i → [] ≡ map piece (drop i xs)
+  pieces_done h = ap (map piece) (sym (drop_of_length-le xs h))
 
--- ---- a field in pieces
+-- ---- a field: its header, and its content in pieces
 
-pub field_long : (tag : ℕ) (content : List ℕ) (size : ℕ) → length content ≡ size → length (field_bytes (tag, content)) ≡ 3 + size
-field_long tag content size e = length_field (tag, content) ∙ ap (λ (n : ℕ). 3 + n) e
+module _ (a : Writer) (tag size : ℕ) (content : List ℕ) (long : length content ≡ size) (r : Bool) (e : r ≡ leb (a.at + (3 + size)) (length a.out.now)) where
+  field_long : length (field_bytes (tag, content)) ≡ 3 + size
+  field_long = length_field (tag, content) ∙ ap (λ (n : ℕ). 3 + n) long
 
-pub integer_field : (tag k w : ℕ) → joined (header tag k ∷ le_bytes k w ∷ []) ≡ field_bytes (tag, le_bytes k w)
+  pub field_not : not r ≡ true → Puts a a (field_bytes (tag, content) ∷ [])
+  field_not h = record { is = put_one _ _ _ _ (no_room a.out.now a.at _ _ field_long r e h); same = refl }
+
+  pub field_put : not r ≡ false → (pieces : List (List ℕ)) → joined pieces ≡ content → {b : Writer} → Puts a b (header tag size ∷ pieces) → Puts a b (field_bytes (tag, content) ∷ [])
+  unfolding joined
+  field_put h pieces j p =
+      let whole : joined (header tag size ∷ pieces) ≡ field_bytes (tag, content) = (λ i. header tag (sym long i) ++ j i) in
+      record { is = put_one _ _ _ _ (in_pieces a.out.now a.at _ _ field_long r e (header tag size ∷ pieces) _ h whole p.is); same = p.same }
+
+-- a content of one piece
+pub joined_one : (text : List ℕ) → joined (text ∷ []) ≡ text
 unfolding joined
-integer_field tag k w = (λ i. header tag (sym (length_bytes k w) i) ++ append-nil (le_bytes k w) i)
-
-pub numbers_field : (tag : ℕ) (xs : List Float) → joined (header tag (8 * length xs) ∷ number_pieces xs) ≡ field_bytes (tag, number_bytes xs)
-unfolding joined
-numbers_field tag xs = ap (λ (n : ℕ). header tag n ++ number_bytes xs) (sym (length_numbers xs))
+joined_one text = append-nil text

@@ -1,26 +1,26 @@
 -- What stands where in a record that was written as a list of fields, and what the walk makes of it: folds over that list. Assumes nothing.
-use Prim.Native.Nat.{ℕ, ◌+◌, ◌-◌, ◌*◌}
+use Prim.Native.Nat.{ℕ, zero, suc, ◌+◌, ◌-◌, ◌*◌, ◌≤◌, ◌<◌}
 use Rattle.std.specs.Prelude.{◌≡◌, Bool, false, ◌&&◌, leb, drop, set, Float, is_err, Err}
 use Rattle.std.proofs.Math.Path.{refl, ap}
-use Rattle.std.proofs.Common.{sym, subst, ◌∙◌, true≢false, add-zero, arith, le-leb, eq-eqb, eqb-true, length-append}
+use Rattle.std.proofs.Common.{sym, subst, ◌∙◌, true≢false, add-zero, zero-add, arith, le-leb, eq-eqb, ne_eqb, eqb-true, length-append}
 use Rattle.std.proofs.Math.Bool.{true, not}
 use mathlib.Core.List.{List, [], ◌∷◌, ◌++◌, map, append_assoc, map-append}
 use Rattle.std.proofs.lemmas.Bool.{not-true}
 use Rattle.std.proofs.Math.Dec.{eqb}
 use Rattle.std.proofs.Math.ListN.{length, length-drop}
-use Rattle.std.proofs.lemmas.List.{set-get_or}
-use Rattle.std.proofs.Math.Seq.{drop-append-add}
+use Rattle.std.proofs.lemmas.List.{set-get_or, get_or-set_same}
+use Rattle.std.proofs.Math.Seq.{drop_at}
 use Rattle.numbers.specs.Pick.{pick}
-use Rattle.numbers.specs.Bits.{le_bytes}
+use Rattle.numbers.specs.Arr.{tab}
 use Rattle.numbers.specs.laws.Pick.{is_hit, is_skip, pick_cong}
 use Rattle.numbers.specs.Refusal.{◌⨾◌, ask_at, Sound, Tests}
 use Rattle.numbers.specs.declared.refusal.Refusal.TheVariants.{Length, CutShort, ForeignTag, RepeatedTag}
 use Rattle.drivers.specs.declared.rules.Form.{Form}
 use Rattle.drivers.specs.Text.{joined}
 use Rattle.drivers.specs.laws.Text.{joined_append}
-use Rattle.drivers.specs.Record.{index_at, overruns, content_of, numbers_at, fields_of, is_met, noted, field_fault, walk_of, missing_fault, record_fault, lengths_fault, row_count, rows_of}
+use Rattle.drivers.specs.Record.{index_at, overruns, content_of, numbers_at, fields_of, place, is_met, first_place, noted, field_fault, walk_of, missing_fault, record_fault, lengths_fault, row_count, rows_of}
 use Rattle.drivers.specs.laws.Record.{fields_after, fields_start, fields_turn, fields_end}
-use Rattle.drivers.specs.Fields.{Field, header, field_bytes, record_bytes}
+use Rattle.drivers.specs.Fields.{Field, field_bytes, record_bytes}
 use Rattle.drivers.specs.Rules.{is_of, repeats, index_of, rule_length, row_place}
 use Rattle.drivers.specs.laws.OneField.{length_field, Writable, stands, not_over, content_at, index_is, after_is, numbers_are, size_row}
 
@@ -30,6 +30,21 @@ use Rattle.drivers.specs.laws.OneField.{length_field, Writable, stands, not_over
 unfoldable pub Each : (Field → Type 0) → List Field → Type 0
 Each P [] = Unit {0}
 Each P (f ∷ fs) = P f × Each P fs
+
+pub each_append : (P : Field → Type 0) (fs gs : List Field) → Each P fs → Each P gs → Each P (fs ++ gs)
+unfolding Each
+each_append P [] gs h k = k
+each_append P (f ∷ fs) gs h k = (h.0, each_append P fs gs h.1 k)
+
+pub each_mid : (P : Field → Type 0) (fs : List Field) (f : Field) (gs : List Field) → Each P (fs ++ f ∷ gs) → P f
+unfolding Each
+each_mid P [] f gs h = h.0
+each_mid P (e ∷ fs) f gs h = each_mid P fs f gs h.1
+
+pub each_tab : (P : Field → Type 0) (field : ℕ → Field) (n : ℕ) → ((i : ℕ) → i < n → P (field i)) → Each P (tab field n)
+unfolding Each tab
+each_tab P field zero h = tt
+each_tab P field (suc n) h = each_append P (tab field n) (field n ∷ []) (each_tab P field n (λ i l. h i (omega arith))) (h n (omega arith), tt)
 
 -- where the next field begins
 abbrev pub past : ℕ → Field → ℕ
@@ -79,9 +94,22 @@ unfoldable pub all_rows : ℕ → List Field → List Float
 all_rows n [] = []
 all_rows n (f ∷ fs) = pick (is_row_field f) (numbers_at f.1 0 n) [] ++ all_rows n fs
 
+-- of some fields and then others
+pub count_append : (fs gs : List Field) → count_rows (fs ++ gs) ≡ count_rows fs + count_rows gs
+unfolding count_rows
+count_append [] gs = sym (zero-add (count_rows gs))
+count_append (f ∷ fs) gs = omega (arith, count_append fs gs)
+
+pub rows_append : (n : ℕ) (fs gs : List Field) → all_rows n (fs ++ gs) ≡ all_rows n fs ++ all_rows n gs
+unfolding all_rows
+rows_append n [] gs = refl
+rows_append n (f ∷ fs) gs =
+    let row = pick (is_row_field f) (numbers_at f.1 0 n) [] in
+    ap (λ (l : List Float). row ++ l) (rows_append n fs gs) ∙ sym (append_assoc row (all_rows n fs) (all_rows n gs))
+
 -- ---- the walk over some fields and then others, and over fields of one tag that may repeat
 
-first_sound : (g : Tests) (places : List ℕ) (r : Tests × List ℕ) (places' : List ℕ) → pick (is_err g) (g, places) r ≡ (Sound, places') → is_err g ≡ false
+pub first_sound : (g : Tests) (places : List ℕ) (r : Tests × List ℕ) (places' : List ℕ) → pick (is_err g) (g, places) r ≡ (Sound, places') → is_err g ≡ false
 first_sound Sound places r places' e = refl
 first_sound (Err fault) places r places' e = absurd (true≢false (ap (λ (z : Tests × List ℕ). is_err z.0) (sym (is_hit true (Err fault, places) r refl) ∙ e)))
 
@@ -99,14 +127,16 @@ walk_on form (f ∷ fs) gs at places places' e =
 pub noted_met : (places : List ℕ) (i p : ℕ) → is_met places i ≡ true → noted places i p ≡ places
 noted_met places i p h = ap (set places i) (is_skip _ _ _ (not-true _ h)) ∙ set-get_or places i 0
 
-pub walk_many : (form : Form) (i : ℕ) (fs : List Field) (at : ℕ) (places : List ℕ) → is_of form i ≡ true → repeats i ≡ true → is_met places i ≡ true → Each (λ f. index_of f.0 ≡ i) fs
-    → walk_tags form at fs places ≡ (Sound, places)
-unfolding walk_tags Each
-walk_many form i [] at places o r m h = refl
-walk_many form i (f ∷ fs) at places o r m h =
-    let e : index_of f.0 ≡ i = h.0 in
-    is_skip _ _ _ (ap is_err (ap (tag_fault form places at) e ∙ sound))
-    ∙ ap (walk_tags form (past at f) fs) (ap (λ (k : ℕ). noted places k (at + 3)) e ∙ noted_met places i (at + 3) m) ∙ walk_many form i fs (past at f) places o r m h.1
+-- all of them have one tag
+abbrev pub AllOf : ℕ → List Field → Type 0
+AllOf i fs = Each (λ f. index_of f.0 ≡ i) fs
+
+-- one more that may repeat
+walk_repeat : (form : Form) (i : ℕ) (f : Field) (fs : List Field) (at : ℕ) (places : List ℕ) → is_of form i ≡ true → repeats i ≡ true → index_of f.0 ≡ i
+    → walk_tags form at (f ∷ fs) places ≡ walk_tags form (past at f) fs (noted places i (at + 3))
+unfolding walk_tags
+walk_repeat form i f fs at places o r e =
+    is_skip _ _ _ (ap is_err (ap (tag_fault form places at) e ∙ sound)) ∙ ap (λ (k : ℕ). walk_tags form (past at f) fs (noted places k (at + 3))) e
   where
     not_and : (b : Bool) → not (b && false) ≡ true
     not_and true = refl
@@ -114,6 +144,24 @@ walk_many form i (f ∷ fs) at places o r m h =
 
     sound : tag_fault form places at i ≡ Sound
     sound = is_skip _ _ _ (ap is_err (is_hit _ _ _ o)) ∙ is_hit _ _ _ (ap (λ (b : Bool). not (is_met places i && not b)) r ∙ not_and (is_met places i))
+
+pub walk_many : (form : Form) (i : ℕ) (fs : List Field) (at : ℕ) (places : List ℕ) → is_of form i ≡ true → repeats i ≡ true → is_met places i ≡ true → AllOf i fs
+    → walk_tags form at fs places ≡ (Sound, places)
+unfolding walk_tags Each
+walk_many form i [] at places o r m h = refl
+walk_many form i (f ∷ fs) at places o r m h =
+    walk_repeat form i f fs at places o r h.0 ∙ ap (walk_tags form (past at f) fs) (noted_met places i (at + 3) m) ∙ walk_many form i fs (past at f) places o r m h.1
+
+-- and from the first of them on
+pub walk_all : (form : Form) (i : ℕ) (fs : List Field) (at : ℕ) (places : List ℕ) → is_of form i ≡ true → repeats i ≡ true → i < length places → place places i ≡ 0 → AllOf i fs → 1 ≤ length fs
+    → walk_tags form at fs places ≡ (Sound, noted places i (at + 3))
+unfolding Each
+walk_all form i [] at places o r b z h l = absurd (omega (arith, l))
+walk_all form i (f ∷ fs) at places o r b z h l =
+    let p = noted places i (at + 3) in
+    let first : place p i ≡ at + 3 = get_or-set_same places i (first_place (place places i) (at + 3)) 0 b ∙ is_hit _ _ _ (eq-eqb (place places i) 0 z) in
+    let m : is_met p i ≡ true = ap not (ne_eqb (place p i) 0 (λ (e : place p i ≡ 0). omega (arith, first, e))) in
+    walk_repeat form i f fs at places o r h.0 ∙ walk_many form i fs (past at f) p o r m h.1
 
 -- ---- and what is read in a record whose bytes from `at` on are theirs
 
@@ -196,11 +244,25 @@ module _ (fs : List Field) (w : Each Writable fs) where
   pub rows_written : (n : ℕ) → Each (Sized n) fs → (row_count bytes (fields_of bytes) ≡ count_rows fs) × (rows_of n bytes (fields_of bytes) ≡ all_rows n fs)
   rows_written n z = subst (λ (l : List ℕ). (row_count bytes l ≡ count_rows fs) × (rows_of n bytes l ≡ all_rows n fs)) (sym fields_written) (rows_are bytes n fs 0 w z refl)
 
--- the content of a field that has others before and behind it
-pub content_written : (fs : List Field) (f : Field) (gs : List Field) → drop (length (record_bytes fs) + 3) (record_bytes (fs ++ f ∷ gs)) ≡ f.1 ++ record_bytes gs
-unfolding joined le_bytes
-content_written fs f gs =
-    ap (λ (l : List (List ℕ)). drop (length (record_bytes fs) + 3) (joined l)) (map-append field_bytes fs (f ∷ gs))
-    ∙ ap (drop (length (record_bytes fs) + 3)) (joined_append (map field_bytes fs) (map field_bytes (f ∷ gs)))
-    ∙ drop-append-add (record_bytes fs) (record_bytes (f ∷ gs)) 3
-    ∙ ap (drop 3) (append_assoc (header f.0 (length f.1)) f.1 (record_bytes gs))
+-- some fields, and then others
+pub record_append : (fs gs : List Field) → record_bytes (fs ++ gs) ≡ record_bytes fs ++ record_bytes gs
+record_append fs gs = ap joined (map-append field_bytes fs gs) ∙ joined_append (map field_bytes fs) (map field_bytes gs)
+
+-- how many bytes they have: a header each, and their contents
+unfoldable pub total : List Field → ℕ
+total [] = 0
+total (f ∷ fs) = 3 + length f.1 + total fs
+
+pub length_record : (fs : List Field) → length (record_bytes fs) ≡ total fs
+unfolding joined total
+length_record [] = refl
+length_record (f ∷ fs) = length-append (field_bytes f) (record_bytes fs) ∙ omega (arith, length_field f, length_record fs)
+
+pub total_append : (fs gs : List Field) → total (fs ++ gs) ≡ total fs + total gs
+total_append fs gs =
+    sym (length_record (fs ++ gs)) ∙ ap length (record_append fs gs) ∙ length-append (record_bytes fs) (record_bytes gs) ∙ (λ i. length_record fs i + length_record gs i)
+
+-- a field that has others before and behind it
+pub field_written : (fs : List Field) (f : Field) (gs : List Field) → drop (length (record_bytes fs)) (record_bytes (fs ++ f ∷ gs)) ≡ field_bytes f ++ record_bytes gs
+unfolding joined
+field_written fs f gs = ap (drop (length (record_bytes fs))) (record_append fs (f ∷ gs)) ∙ drop_at (record_bytes fs) (record_bytes (f ∷ gs)) (length (record_bytes fs)) refl

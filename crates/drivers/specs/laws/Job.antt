@@ -48,16 +48,26 @@ pub record JobSound (j : Job) : Type 0 where
   pub bands : bands_fit (job_oracle j) j.rows ≡ true
   pub cursors : cursors_fit (job_oracle j) ≡ true
 
--- a count of rows that a table can have
-pub sound_rows : (j : Job) → JobSound j → is_rows j.rows ≡ true
-sound_rows j h =
+-- the parts of refusal 3's test: a count of rows that a table can have, and the ends of its bands
+pub record BandParts (j : Job) : Type 0 where
+  pub rows_held : is_rows j.rows ≡ true
+  pub from : le_z (pos 0) (job_oracle j).nwpass ≡ true
+  pub between : le_z (job_oracle j).nwpass (job_oracle j).nwstop ≡ true
+  pub to : le_z (job_oracle j).nwstop (pos j.rows) ≡ true
+
+pub band_parts : (j : Job) → JobSound j → BandParts j
+band_parts j h =
     let o = job_oracle j in
     let b₃ = and_parts _ (has_band o.rr3 o.nwstop (pos j.rows)) h.bands in
     let b₂ = and_parts _ (has_band o.rr2 o.nwpass o.nwstop) b₃.0 in
     let b₁ = and_parts _ (has_band o.rr1 (pos 0) o.nwpass) b₂.0 in
     let h₃ = and_parts _ (le_z o.nwstop (pos j.rows)) b₁.0 in
     let h₂ = and_parts _ (le_z o.nwpass o.nwstop) h₃.0 in
-    (and_parts (is_rows j.rows) (le_z (pos 0) o.nwpass) h₂.0).0
+    let h₁ = and_parts (is_rows j.rows) (le_z (pos 0) o.nwpass) h₂.0 in
+    record { rows_held = h₁.0; from = h₁.1; between = h₂.1; to = h₃.1 }
+
+pub sound_rows : (j : Job) → JobSound j → is_rows j.rows ≡ true
+sound_rows j h = (band_parts j h).rows_held
 
 pub rows_from : (j : Job) → JobSound j → 1 ≤ j.rows
 rows_from j h = leb-true 1 j.rows (and_parts (leb 1 j.rows) (leb j.rows 1024) (sound_rows j h)).0

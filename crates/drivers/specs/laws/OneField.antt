@@ -1,9 +1,9 @@
 -- A field as it is written, and where it stands in a record: its bytes, its header, the numbers of its content. Assumes nothing.
 use Prim.Native.Nat.{ℕ, zero, suc, ◌+◌, ◌-◌, ◌*◌, ◌/◌, ◌%◌, ◌^◌, ◌≤◌, ◌<◌}
-use Rattle.std.specs.Prelude.{◌≡◌, refl, false, T, take, get_or, Float}
+use Rattle.std.specs.Prelude.{◌≡◌, refl, false, T, take, get_or, ℤ, Float}
 use Rattle.std.proofs.Math.Path.{sym, ap}
-use Rattle.std.proofs.Common.{◌∙◌, pow-suc, one-mul, le-ltb, take_at, drop-drop}
-use mathlib.Core.List.{List, [], ◌∷◌, ◌++◌, append_assoc}
+use Rattle.std.proofs.Common.{◌∙◌, pow-suc, one-mul, zero-mul, suc-mul, le-ltb, take_at, drop-drop}
+use mathlib.Core.List.{List, [], ◌∷◌, ◌++◌, map, append_assoc}
 use Rattle.std.proofs.Math.Nat.{pow-zero}
 use native.Mathlib.Omega.{arith}
 use Rattle.std.proofs.Math.ListN.{length, drop, length-append, length-drop}
@@ -18,7 +18,7 @@ use Rattle.numbers.specs.laws.Arr.{tab_ext, tab_cong}
 use Rattle.numbers.specs.laws.Pick.{is_skip}
 use Rattle.drivers.specs.Text.{joined}
 use Rattle.drivers.specs.Record.{byte_at, length_at, index_at, overruns, after, content_of, number_at, numbers_at}
-use Rattle.drivers.specs.Fields.{Field, header, field_bytes, number_bytes}
+use Rattle.drivers.specs.Fields.{Field, header, field_bytes, number_bytes, short_of, short_bytes}
 use Rattle.drivers.specs.Rules.{rules, rule_at, index_of, rule_length, row_place}
 
 -- every number of a list is one of the format, as each f64 is
@@ -27,10 +27,19 @@ AllF64 xs = (i : ℕ) → i < length xs → T (fits binary64 (get_or xs i nan))
 
 -- ---- numbers
 
-pub length_numbers : (xs : List Float) → length (number_bytes xs) ≡ 8 * length xs
+-- pieces of k bytes each
+length_pieces : {X : Type 0} (k : ℕ) (word : X → ℕ) (xs : List X) → length (joined (map (λ x. le_bytes k (word x)) xs)) ≡ length xs * k
 unfolding joined
-length_numbers [] = refl
-length_numbers (x ∷ xs) = length-append (le_bytes 8 (bits_of x)) (number_bytes xs) ∙ omega (arith, length_bytes 8 (bits_of x), length_numbers xs)
+length_pieces k word [] = sym (zero-mul k)
+length_pieces k word (x ∷ xs) =
+    let r = joined (map (λ x. le_bytes k (word x)) xs) in
+    length-append (le_bytes k (word x)) r ∙ omega (arith, length_bytes k (word x), length_pieces k word xs, suc-mul (length xs) k)
+
+pub length_numbers : (xs : List Float) → length (number_bytes xs) ≡ 8 * length xs
+length_numbers xs = length_pieces 8 bits_of xs ∙ omega arith
+
+pub length_shorts : (zs : List ℤ) → length (short_bytes zs) ≡ 2 * length zs
+length_shorts zs = length_pieces 2 short_of zs ∙ omega arith
 
 pub length_field : (f : Field) → length (field_bytes f) ≡ 3 + length f.1
 unfolding le_bytes
@@ -129,7 +138,13 @@ module _ (bytes : List ℕ) where
             ∙ ap (λ (b : List ℕ). float_of (le_number (take 8 b))) (drop-append-le (8 * k) f.1 rest (omega arith))
             ∙ ap (λ (b : List ℕ). float_of (le_number b)) (take-append-le 8 (drop (8 * k) f.1) rest (omega (arith, length-drop (8 * k) f.1)))
 
--- the length that the table asks of a row
+-- lengths that the table asks: of a row, which has n numbers, and of a matrix
+pub pow_one : (n : ℕ) → n ^ 1 ≡ n
+pow_one n = rw (pow-suc, pow-zero) (one-mul n)
+
+pub pow_two : (n : ℕ) → n ^ 2 ≡ n * n
+pow_two n = pow-suc n 1 ∙ ap (λ (k : ℕ). k * n) (pow_one n)
+
 pub size_row : (n : ℕ) → rule_length row_place n ≡ 8 * n
 unfolding rule_length rule_at rules
-size_row n = let e : n ^ 1 ≡ n = rw (pow-suc, pow-zero) (one-mul n) in omega arith
+size_row n = omega (arith, pow_one n)

@@ -1,10 +1,12 @@
 -- Document 01's worked job of 145 bytes, two of its refused records, and long inputs: what the definition prints for them, computed. Assumes nothing.
-use Rattle.std.specs.Prelude.{ℕ, ◌<◌, ◌≡◌, refl, List, [], ◌∷◌, length}
+use Rattle.std.specs.Prelude.{ℕ, ◌<◌, ◌≡◌, refl, List, [], ◌∷◌, length, replicate, pos, negsuc, Ok}
 use Rattle.std.proofs.Common.{sym}
 use Rattle.std.proofs.lemmas.Bool.{lt-leb}
 use Rattle.std.specs.Float.Ieee.{add, lt, sub, mul, le, of_bits, to_bits}
 use Rattle.numbers.specs.Pick.{pick, some}
-use Rattle.numbers.specs.Bits.{le_number, word_at}
+use Rattle.numbers.specs.F64.{0ᶠ, 1ᶠ}
+use Rattle.numbers.specs.Over.{over}
+use Rattle.numbers.specs.Bits.{float_of, le_number, le_bytes, word_at}
 use Rattle.numbers.specs.Arr.{tab, dot_from, dot_of, mv_of}
 use Rattle.numbers.specs.EllCalc.{made, calc_bias_cut, calc_parallel_impl, calc_parallel_bias_cut, calc_single_or_parallel_bias_cut}
 use Rattle.numbers.specs.Refusal.{◌⨾◌}
@@ -18,7 +20,8 @@ use Rattle.oracles.specs.Ell.{ell_update_of}
 use Rattle.drivers.specs.Record.{size_fault, after, number_at, fields_from, fields_of, field_fault, walk_of, missing_fault, record_fault, lengths_fault, row_count, rows_of}
 use Rattle.drivers.specs.CuttingPlaneFeas.{feas_step}
 use Rattle.drivers.specs.Text.{bytes_of, joined, digit_char, digits_of, digit_count_to, digit_count, decimal, hex}
-use Rattle.drivers.specs.Job.{signed, options_of, job_at, full_job_at, job_fault}
+use Rattle.drivers.specs.Job.{FullJob, signed, options_of, job_at, full_job_at, full_job, job_fault}
+use Rattle.drivers.specs.WriteJob.{write_job_answer}
 use Rattle.drivers.specs.Input.{input_tests}
 use Rattle.drivers.specs.Run.{run_text}
 use Rattle.drivers.specs.Trace.{step_text}
@@ -37,6 +40,39 @@ worked_job =
     ∷ 0x07 ∷ 0x08 ∷ 0 ∷ 0 ∷ 0 ∷ 0 ∷ 0 ∷ 0 ∷ 0 ∷ 0xd0 ∷ 0x3f  -- kappa 0.25
     ∷ 0x08 ∷ 0x20 ∷ 0 ∷ 0 ∷ 0 ∷ 0 ∷ 0 ∷ 0 ∷ 0 ∷ 0xf0 ∷ 0x3f ∷ 0 ∷ 0 ∷ 0 ∷ 0 ∷ 0 ∷ 0 ∷ 0 ∷ 0 ∷ 0 ∷ 0 ∷ 0 ∷ 0 ∷ 0 ∷ 0 ∷ 0 ∷ 0 ∷ 0 ∷ 0 ∷ 0 ∷ 0 ∷ 0 ∷ 0 ∷ 0xf0 ∷ 0x3f  -- identity
     ∷ 0x09 ∷ 0x0a ∷ 0 ∷ 0x0a ∷ 0 ∷ 0 ∷ 0 ∷ 0 ∷ 0 ∷ 0 ∷ 0 ∷ 0 ∷ 0 ∷ []  -- 10 steps, tolerance 0
+
+-- the same, as a job
+abbrev pub worked_full : FullJob
+worked_full =
+    let one = 1ᶠ in
+    let two = float_of 0x4000_0000_0000_0000 in record {
+      job = record {
+        n = 2;
+        rows = 1;
+        nwpass = pos 1;
+        nwstop = pos 1;
+        lp_sq = one;
+        up_sq = two;
+        sp_sq = one;
+        cur1 = negsuc 0;
+        cur2 = pos 0;
+        cur3 = pos 0;
+        kappa = float_of 0x3fd0_0000_0000_0000;
+        options = record { max_iters = 10; tolerance = 0ᶠ };
+      };
+      table = one ∷ 0ᶠ ∷ [];
+      point = 0ᶠ ∷ 0ᶠ ∷ [];
+      matrix = one ∷ 0ᶠ ∷ 0ᶠ ∷ one ∷ [];
+    }
+
+-- it is what the record says, and the record is what the writer makes of it
+pub worked_read : full_job worked_job ≡ worked_full
+unfolding of_bits pick le_number word_at tab rules rule_at index_in index_of rule_length after number_at fields_from fields_of field_fault walk_of missing_fault record_fault row_count rows_of some signed options_of job_at full_job_at
+worked_read = refl
+
+pub worked_written : write_job_answer worked_full (replicate 145 0) ≡ (Ok 145, worked_job)
+unfolding to_bits of_bits pick le_bytes tab joined over start_oracle new_range_answer write_job_answer
+worked_written = refl
 
 -- all of its output
 abbrev pub worked_text : List ℕ

@@ -109,7 +109,7 @@ optim_again o gamma n rows table x grad h x' grad' hx hg = go (is_refusal (asses
 
 -- ---- the gradient after an accepted call has n numbers
 
-row_length : (n rows : ℕ) (table : List Float) (row : ℕ) → length table ≡ rows * n → row < rows → length (row_of n table row) ≡ n
+pub row_length : (n rows : ℕ) (table : List Float) (row : ℕ) → length table ≡ rows * n → row < rows → length (row_of n table row) ≡ n
 row_length n rows table row h l = length-take-le n (drop (row * n) table) (rw (length-drop (row * n) table) (omega (arith, row_in n row rows l)))
 
 cut_length : (n rows : ℕ) (table : List Float) (row : ℕ) (over : Bool) → length table ≡ rows * n → row < rows → length (band_gradient n table row over) ≡ n
