@@ -17,6 +17,7 @@ use Rattle.drivers.specs.Trace as trace
 use Rattle.drivers.specs.Input as inputs
 use Rattle.drivers.specs.Run as runs
 use Rattle.drivers.specs.Job as jobs
+use Rattle.drivers.specs.WriteJob as writing
 use Rattle.drivers.specs.Answer as answers
 use Rattle.drivers.specs.Belongs as belonging
 use Rattle.drivers.specs.Program as filterrun
@@ -86,7 +87,11 @@ pub read_answer_place : (n : ℕ) (bytes : List ℕ) (out : List Float) (why : R
 unfolding answers.read_answer_answer
 read_answer_place n bytes out why place e = ap (λ (z : Result Answer Fault × List Float). z.0) (sym (refused_at _ _ _ (sym e) refl))
 
--- "a short buffer": the writer
+-- "slices, bands and cursors outside its limits" and "a short buffer": the writers
+pub write_job : (f : jobs.FullJob) (out : List ℕ) → Refuses (writing.write_job_tests f out) (λ r. number_of r.0) (λ r. r.1) out (writing.write_job_answer f out)
+unfolding writing.write_job_answer
+write_job f out = refuses _ _ _ _ _ _ (λ why place. refl) (λ why place. refl) (λ e. refl)
+
 pub write_answer : (n : ℕ) (a : Answer) (point : List Float) (out : List ℕ) → Refuses (answers.write_answer_tests n a point out) (λ r. number_of r.0) (λ r. r.1) out (answers.write_answer_answer n a point out)
 unfolding answers.write_answer_answer
 write_answer n a point out = refuses _ _ _ _ _ _ (λ why place. refl) (λ why place. refl) (λ e. refl)

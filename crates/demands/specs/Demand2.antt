@@ -1,6 +1,7 @@
--- Demand 2: "Every accepted call gives the Rust's bits, all NaNs counted as one, and the square root is proved to be IEEE 754's. An answer record written and read again is the same answer."
+-- Demand 2: "Every accepted call gives the Rust's bits, all NaNs counted as one, and the square root is proved to be IEEE 754's.
+-- A job record written and read again is the same job, and an answer record the same answer [a]."
 -- That the definitions have the Rust's operations, in its order, is read beside docs/src and compared (docs/LISTS.md): the Rust is not in the logic, so no theorem says it. What can be proved stands here. Assumes nothing.
-use Rattle.std.specs.Prelude.{ℕ, suc, ◌≤◌, ◌<◌, ◌≡◌, refl, Bool, true, false, List, map, T, length, take, ℤ, Float, Ok}
+use Rattle.std.specs.Prelude.{ℕ, suc, ◌≤◌, ◌<◌, ◌≡◌, refl, Bool, true, false, List, map, T, length, take, replicate, ℤ, Float, Ok}
 use Rattle.std.proofs.Common.{sym, ◌∙◌, true≢false}
 use Rattle.std.specs.Float.{nan, inf, fin, binary64}
 use Rattle.std.specs.Float.Ieee.{fits, is_nan, nan_bits, to_bits}
@@ -12,9 +13,15 @@ use Rattle.numbers.specs.Sqrt.{sqrt_of, NearestRoot}
 use Rattle.numbers.specs.laws.Nearest.{sqrt_nearest}
 use Rattle.oracles.specs.laws.Known as KnownValues
 use Rattle.drivers.specs.Record.{fronted}
+use Rattle.numbers.specs.Refusal.{Sound}
+use Rattle.numbers.specs.laws.Refusal.{held, at_next, accepts}
+use Rattle.drivers.specs.Job.{FullJob, has_room, read_tests, read_job_answer}
+use Rattle.drivers.specs.WriteJob.{write_job_answer}
 use Rattle.drivers.specs.Answer.{read_answer_answer, write_answer_answer}
 use Rattle.drivers.specs.Program.{program_text}
 use Rattle.drivers.specs.laws.RoundTrip as again
+use Rattle.drivers.specs.laws.JobAgain as jobs
+use Rattle.drivers.specs.laws.Typed.{Typed}
 use Rattle.drivers.specs.laws.OneField.{AllF64}
 use Rattle.drivers.specs.laws.Worked as worked_example
 use Rattle.drivers.specs.declared.answer.Answer.{Answer}
@@ -61,7 +68,23 @@ root_of_infinity = refl
 pub root_nearest : (x : Float) → T (fits binary64 x) → T (positive x) → NearestRoot x (sqrt_of x)
 root_nearest = sqrt_nearest
 
--- ---- "An answer record written and read again is the same answer", whatever stood in the outputs
+-- ---- "A job record written and read again is the same job": whatever stood in the outputs, the reader's fronts become the job's numbers.
+-- That these are of their types (`Typed`) is so in every program.
+pub job_again : (f : FullJob) → Typed f → (out out' : List ℕ) (k : ℕ) → write_job_answer f out ≡ (Ok k, out')
+    → (table xc mq : List Float) → has_room f.job (length table) (length xc) (length mq) ≡ true
+    → read_job_answer (take k out') table xc mq ≡ (Ok f.job, fronted f.table table, fronted f.point xc, fronted f.matrix mq)
+job_again f y out out' k e table xc mq room = jobs.job_written_again f y out out' k e table xc mq ∙ sym (accepts _ _ (read_tests f Sound table xc mq) (at_next refl (held _ _ room)) refl)
+
+-- Document 02, (a): equal jobs give equal bytes; and different jobs different ones
+pub one_record : (f g : FullJob) (out out' : List ℕ) (k : ℕ) → write_job_answer f out ≡ (Ok k, out') → (room room' : List ℕ) (m : ℕ) → write_job_answer g room ≡ (Ok m, room')
+    → (f ≡ g → take k out' ≡ take m room') × (Typed f → Typed g → take k out' ≡ take m room' → f ≡ g)
+one_record f g out out' k e room room' m d = (jobs.equal_jobs f g out out' k e room room' m d, jobs.equal_bytes f g out out' k e room room' m d)
+
+-- document 01's job of 145 bytes
+pub worked_job : write_job_answer worked_example.worked_full (replicate 145 0) ≡ (Ok 145, worked_example.worked_job)
+worked_job = worked_example.worked_written
+
+-- ---- "and an answer record the same answer", whatever stood in the outputs
 pub answer_again : (n : ℕ) (a : Answer) (x point : List Float) → a.steps < 65536 → AllF64 x → (a.found ≡ true → n ≤ length point)
     → (out out' : List ℕ) (k : ℕ) → write_answer_answer n a x out ≡ (Ok k, out')
     → read_answer_answer n (take k out') point ≡ (Ok a, pick a.found (fronted x point) point)
