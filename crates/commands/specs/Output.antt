@@ -23,7 +23,7 @@ abbrev pub nothing_written : Written
 nothing_written = (Stdout, [])
 
 abbrev pub usage_written : Written
-usage_written = (Stderr, bytes_of "usage: jobfile answer < JOB > ANSWER\n       jobfile belongs JOB ANSWER\n")
+usage_written = (Stderr, bytes_of "usage: jobfile answer < JOB > ANSWER\n       jobfile belongs JOB ANSWER\n       jobfile file < JOB > NEWJOB\n       jobfile limits LP UP SP < JOB > NEWJOB\nLP, UP, SP: the 16 hexadecimal digits of a float, or - for the job's own\n")
 
 -- handed over by a console, and nothing else
 abbrev pub Writes : {W E : Type 0} → Ghosts W → Console W E → Console W E → Written → Type 0

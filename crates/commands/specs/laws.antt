@@ -1,5 +1,9 @@
 pub mod Arguments
+pub mod Limits
 pub mod Taken
+pub mod Front
+pub mod File
+pub mod FiledAgain
 pub mod Answer
 pub mod Belongs
 pub mod Jobfile

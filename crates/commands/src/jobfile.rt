@@ -1,13 +1,13 @@
 // The program `jobfile`: its arguments, its inputs, and its commands. `JobfileRan` says what is handed over.
 ghost use Rattle.std.specs.Prelude.{◌≡◌, ◌*◌, ◌≤◌, length, take};
-ghost use Rattle.commands.specs.Arguments.{command_of};
 ghost use Rattle.commands.specs.Jobfile.{Wrote, JobfileRan};
-ghost use Rattle.commands.specs.declared.arguments.Command.TheVariants.{Answer, Belongs, Usage};
+ghost use Rattle.commands.specs.declared.arguments.Command.TheVariants.{Answer, Belongs, File, Usage};
 ghost use Rattle.commands.specs.laws.Jobfile.{Writing, Judged, JobJudged};
 
 use crate::answer::answer_job;
-use crate::arguments::{Command, command_of};
+use crate::arguments::{Command, Limits, command_of};
 use crate::belongs::judge_answer;
+use crate::file::file_job;
 use crate::sound_job::SoundJob;
 use crate::taking::take_or_refuse;
 use drivers::input::INPUT_ROOM;
@@ -24,11 +24,11 @@ fn print_usage<W: Sink, E: Write>(console: &mut Console<'_, W, E>)
 {
     console.hand(
         Stream::Stderr,
-        b"usage: jobfile answer < JOB > ANSWER\n       jobfile belongs JOB ANSWER\n",
+        b"usage: jobfile answer < JOB > ANSWER\n       jobfile belongs JOB ANSWER\n       jobfile file < JOB > NEWJOB\n       jobfile limits LP UP SP < JOB > NEWJOB\nLP, UP, SP: the 16 hexadecimal digits of a float, or - for the job's own\n",
     );
 }
 
-// Three functions read and then go on, each with other slices: one function for them would take a closure, and its contract would be longer than their bodies.
+// Four functions read and then go on, each with other slices: one function for them would take a closure, and its contract would be longer than their bodies.
 // Their inputs are in fixed memory, since there is no heap.
 fn run_answer<I: Read, W: Sink, E: Write>(input: &mut I, console: &mut Console<'_, W, E>)
     ensures { Writing W.Sink console.old console.new (Wrote Answer) }
@@ -37,6 +37,20 @@ fn run_answer<I: Read, W: Sink, E: Write>(input: &mut I, console: &mut Console<'
     let read = console.read_all(input, b"standard input", &mut bytes);
     if let Some(count) = read {
         answer_job(console, &bytes[..count]);
+    }
+}
+
+fn run_file<I: Read, W: Sink, E: Write>(
+    input: &mut I,
+    console: &mut Console<'_, W, E>,
+    limits: Limits,
+)
+    ensures { Writing W.Sink console.old console.new (Wrote (File limits)) }
+{
+    let mut bytes = [0u8; INPUT_ROOM];
+    let read = console.read_all(input, b"standard input", &mut bytes);
+    if let Some(count) = read {
+        file_job(console, &bytes[..count], limits);
     }
 }
 
@@ -88,14 +102,14 @@ fn run_command<R: Files + Env, I: Read, W: Sink, E: Write>(
     rt: &R,
     input: &mut I,
     console: &mut Console<'_, W, E>,
-    count: usize,
-    word: &[u8],
+    command: Command,
 )
-    ensures { Writing W.Sink console.old console.new (Wrote (command_of count word.now)) }
+    ensures { Writing W.Sink console.old console.new (Wrote command) }
 {
-    match command_of(count, word) {
+    match command {
         Command::Answer => run_answer(input, console),
         Command::Belongs => run_belongs(rt, console),
+        Command::File(limits) => run_file(input, console, limits),
         Command::Usage => print_usage(console),
     }
 }
@@ -111,7 +125,12 @@ fn count_arguments<R: Env>(rt: &R) -> usize {
     usize::MAX
 }
 
-// A command's name has at most 16 bytes, in fixed memory; a longer word is no command.
+// Argument i, in fixed memory; none of its bytes where it is not there or has more than 16, as a file's name may have. No word that a command is known by, and no limit, is longer.
+fn argument<'a, R: Env>(rt: &R, i: usize, room: &'a mut [u8; 16]) -> &'a [u8] {
+    let length = rt.arg(i, room).unwrap_or(0);
+    &room[..length]
+}
+
 pub fn run_arguments<R: Files + Env, I: Read, W: Sink, E: Write>(
     rt: &R,
     input: &mut I,
@@ -120,10 +139,18 @@ pub fn run_arguments<R: Files + Env, I: Read, W: Sink, E: Write>(
 ) -> Handed
     ensures { JobfileRan W.Sink output.old output.new result }
 {
-    let mut word = [0u8; 16];
-    let length = rt.arg(1, &mut word).unwrap_or(0);
-    let count = count_arguments(rt);
+    let mut first = [0u8; 16];
+    let mut second = [0u8; 16];
+    let mut third = [0u8; 16];
+    let mut fourth = [0u8; 16];
+    let command = command_of(
+        count_arguments(rt),
+        argument(rt, 1, &mut first),
+        argument(rt, 2, &mut second),
+        argument(rt, 3, &mut third),
+        argument(rt, 4, &mut fourth),
+    );
     let mut console = Console::new(output, errors);
-    run_command(rt, input, &mut console, count, &word[..length]);
+    run_command(rt, input, &mut console, command);
     console.end()
 }

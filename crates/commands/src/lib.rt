@@ -4,6 +4,7 @@
 pub mod answer;
 pub mod arguments;
 pub mod belongs;
+pub mod file;
 pub mod jobfile;
 mod sound_job;
 mod taking;

@@ -3,9 +3,6 @@ use Rattle.drivers.specs.Trace.{Text}
 use Rattle.std.specs.Prelude.{ℕ, ◌*◌, ◌≤◌, ◌≡◌, true, List, [], length, take, replicate, Float, Err, Ok, Result}
 use Rattle.std.proofs.Common.{sym, ap, ◌∙◌, take_all, arith}
 use Rattle.numbers.specs.F64.{0ᶠ}
-use Rattle.numbers.specs.Arr.{is_dimension}
-use Rattle.numbers.specs.Over.{over}
-use Rattle.numbers.specs.laws.Over.{front_over}
 use Rattle.numbers.specs.declared.refusal.Refusal.{Refusal}
 use Rattle.oracles.specs.Ell.{EllBuffers, ell_buffers, fresh_ell, new_ell_answer}
 use Rattle.oracles.specs.laws.EllCalls.{ell_makes}
@@ -18,12 +15,12 @@ use Rattle.drivers.specs.Record.{fronted}
 use Rattle.drivers.specs.Job.{FullJob, job_oracle, full_job_at, job_walk, full_job}
 use Rattle.drivers.specs.Input.{take_job_answer}
 use Rattle.drivers.specs.laws.Trace.{text_in}
-use Rattle.drivers.specs.Answer.{answer_bytes, write_answer_answer}
+use Rattle.drivers.specs.Answer.{answer_bytes}
 use Rattle.drivers.specs.Program.{first_state}
 use Rattle.drivers.specs.laws.Job.{JobSound}
 use Rattle.drivers.specs.laws.JobRuns.{JobSlices, FullLong, full_long, job_state, front_is}
 use Rattle.drivers.specs.laws.FoundFeasible.{job_call, found_point}
-use Rattle.drivers.specs.laws.AnswerBytes.{same_bytes, write_answer_front}
+use Rattle.drivers.specs.laws.AnswerBytes.{same_bytes}
 use Rattle.drivers.specs.declared.answer.Answer.{Answer}
 use Rattle.drivers.specs.declared.job.Job.{Job}
 use Rattle.drivers.specs.declared.trace.Source.TheVariants.{Only}
@@ -106,25 +103,5 @@ module _ (j : Job) (h : JobSound j) (r : (Result Ell Refusal)) (r_is : r ≡ new
   pub made_always : (why : Refusal) → r ≡ Err why → ⊥
   made_always why k =
       let m = made_is in
-      let z : ◌≡◌ {A = ℕ} 0 1 = cc in
-      omega arith
-
--- ---- the record that is handed over
-
-module _ (n : ℕ) (a : Answer) (point : List Float) (out : List ℕ) (d : is_dimension n ≡ true) (h : n ≤ 32) (l : length point ≡ n) (long : 268 ≤ length out) where
-  -- it is what was written to the front
-  pub record_front : (w : (Result ℕ Refusal)) (out' : List ℕ) (count : ℕ) → (w, out') ≡ write_answer_answer n a point out → w ≡ Ok count → take count out' ≡ answer_bytes a point
-  record_front w out' count e k =
-      let bytes = answer_bytes a point in
-      let f = e ∙ write_answer_front a point n out d h l long in
-      let w_is : w ≡ Ok (length bytes) = ap (λ z. z.0) f in
-      let count_is : count ≡ length bytes = cc in
-      let out_is : out' ≡ over out 0 bytes = ap (λ z. z.1) f in
-      (λ i. take (count_is i) (out_is i)) ∙ front_over out bytes
-
-  -- and it is never refused
-  pub record_made : (w : (Result ℕ Refusal)) (out' : List ℕ) (why : Refusal) → (w, out') ≡ write_answer_answer n a point out → w ≡ Err why → ⊥
-  record_made w out' why e k =
-      let w_is : w ≡ Ok (length (answer_bytes a point)) = ap (λ z. z.0) (e ∙ write_answer_front a point n out d h l long) in
       let z : ◌≡◌ {A = ℕ} 0 1 = cc in
       omega arith

@@ -1,12 +1,15 @@
--- Laws of Arguments: two words compared byte by byte. Assumes nothing.
-use Rattle.std.specs.Prelude.{ℕ, suc, ◌+◌, ◌<◌, ◌≤◌, ◌≡◌, refl, Bool, true, false, ◌&&◌, List, [], ◌∷◌, eqb, length, get_or, drop}
-use Rattle.std.proofs.Common.{sym, ap, ◌∙◌, true≢false, add-one, eq-eqb, ne_eqb, drop_of_length-le, drop-cons}
+-- Laws of Arguments: two words compared byte by byte, and digits. Assumes nothing.
+use Rattle.std.specs.Prelude.{ℕ, suc, ◌+◌, ◌*◌, ◌^◌, ◌<◌, ◌≤◌, ◌≡◌, refl, Bool, true, false, ◌&&◌, List, [], ◌∷◌, eqb, length, get_or, drop, Option, Some, None, Ok, SomeIff, option_and_then}
+use Rattle.std.specs.Char.{digit_value}
+use Rattle.std.proofs.Common.{sym, ap, ◌∙◌, true≢false, add-one, arith, eq-eqb, ne_eqb, drop_of_length-le, drop-cons}
+use Rattle.std.proofs.Math.Nat.{pow-succ', pow-le-pow_right}
+use Rattle.std.proofs.lemmas.Bool.{false_from_ne_true}
+use Rattle.std.proofs.lemmas.Grind.{common_steps}
 use Rattle.numbers.specs.Pick.{pick}
 use Rattle.numbers.specs.laws.Pick.{and_parts, hit, skip}
 use Rattle.drivers.specs.Text.{bytes_of}
 use lib.Pointwise.{pointwise}
-use Rattle.commands.specs.Arguments.{same_word, command_of}
-use Rattle.commands.specs.declared.arguments.Command.TheVariants.{Answer, Belongs, Usage}
+use Rattle.commands.specs.Arguments.{same_word, hex_digit, hex_on, hex_value, limit_read, limit_of, asks}
 
 -- words of other lengths are not the same
 same_length : (a b : List ℕ) → same_word a b ≡ true → length a ≡ length b
@@ -16,28 +19,8 @@ same_length [] (y ∷ b) e = absurd (true≢false (sym e))
 same_length (x ∷ a) [] e = absurd (true≢false (sym e))
 same_length (x ∷ a) (y ∷ b) e = ap suc (same_length a b (and_parts (eqb x y) (same_word a b) e).1)
 
-not_so : (t : Bool) → (t ≡ true → ⊥) → false ≡ t
-not_so true h = absurd (h refl)
-not_so false h = refl
-
-pub other_length : (a b : List ℕ) → (length a ≡ length b → ⊥) → false ≡ same_word a b
-other_length a b h = not_so (same_word a b) (λ e. h (same_length a b e))
-
--- what is left of two words begins with a byte of each
-heads : (a b : List ℕ) (i : ℕ) → i < length a → i < length b → same_word (drop i a) (drop i b) ≡ (eqb (get_or a i 0) (get_or b i 0) && same_word (drop (i + 1) a) (drop (i + 1) b))
-unfolding same_word
-heads a b i h k = rw (add-one i) (λ t. same_word (drop-cons a i 0 h t) (drop-cons b i 0 k t))
-
-pub word_turn : (a b : List ℕ) (i : ℕ) → i < length a → i < length b → get_or a i 0 ≡ get_or b i 0 → same_word (drop i a) (drop i b) ≡ same_word (drop (i + 1) a) (drop (i + 1) b)
-word_turn a b i h k e = heads a b i h k ∙ ap (λ (t : Bool). t && same_word (drop (i + 1) a) (drop (i + 1) b)) (eq-eqb (get_or a i 0) (get_or b i 0) e)
-
-pub word_parts : (a b : List ℕ) (i : ℕ) → i < length a → i < length b → (get_or a i 0 ≡ get_or b i 0 → ⊥) → false ≡ same_word (drop i a) (drop i b)
-word_parts a b i h k e = sym (heads a b i h k ∙ ap (λ (t : Bool). t && same_word (drop (i + 1) a) (drop (i + 1) b)) (ne_eqb (get_or a i 0) (get_or b i 0) e))
-
--- nothing is left of either
-pub word_done : (a b : List ℕ) (i : ℕ) → length a ≤ i → length b ≤ i → true ≡ same_word (drop i a) (drop i b)
-unfolding same_word
-word_done a b i h k = sym (λ t. same_word (drop_of_length-le a h t) (drop_of_length-le b k t))
+pub other_length : (a b : List ℕ) → (length a ≡ length b → ⊥) → same_word a b ≡ false
+other_length a b h = false_from_ne_true (same_word a b) (λ e. h (same_length a b e))
 
 -- the library compares slices likewise
 pub pointwise_same : (a b : List ℕ) → pointwise eqb a b ≡ same_word a b
@@ -47,24 +30,73 @@ pointwise_same [] (y ∷ b) = refl
 pointwise_same (x ∷ a) [] = refl
 pointwise_same (x ∷ a) (y ∷ b) = ap (λ (t : Bool). eqb x y && t) (pointwise_same a b)
 
-pub asks : (n m : ℕ) (a b c : List ℕ) (r : Bool) → r ≡ pointwise eqb a b → b ≡ c → (eqb n m && same_word a c) ≡ (eqb n m && r)
-asks n m a b c r h k = ap (λ (u : Bool). eqb n m && u) (ap (same_word a) (sym k) ∙ sym (pointwise_same a b) ∙ sym h)
+pub word_is : (a b c : List ℕ) (r : Bool) → r ≡ pointwise eqb a b → b ≡ c → same_word a c ≡ r
+word_is a b c r h k = sym (h ∙ pointwise_same a b ∙ ap (same_word a) k)
 
-module _ (count : ℕ) (word : List ℕ) where
-  abbrev answer_asked : Bool
-  answer_asked = eqb count 2 && same_word word (bytes_of "answer")
+pub asked : (count arguments : ℕ) (word name : List ℕ) (r : Bool) → r ≡ pointwise eqb word name → (eqb count arguments && r) ≡ asks count word arguments name
+asked count arguments word name r h = ap (λ (t : Bool). eqb count arguments && t) (h ∙ pointwise_same word name)
 
-  abbrev belongs_asked : Bool
-  belongs_asked = eqb count 4 && same_word word (bytes_of "belongs")
+-- ---- hexadecimal digits
 
-  pub by_answer : answer_asked ≡ true → Answer ≡ command_of count word
-  unfolding command_of
-  by_answer h = hit answer_asked Answer (pick belongs_asked Belongs Usage) Answer h refl
+digit_some : (c : ℕ) → digit_value c < 16 → Some (digit_value c) ≡ hex_digit c
+unfolding hex_digit pick
+digit_some c h = grind (arith, common_steps)
 
-  pub by_belongs : answer_asked ≡ false → belongs_asked ≡ true → Belongs ≡ command_of count word
-  unfolding command_of
-  by_belongs n h = skip answer_asked Answer (pick belongs_asked Belongs Usage) Belongs n (hit belongs_asked Belongs Usage Belongs h refl)
+digit_none : (c : ℕ) → 16 ≤ digit_value c → None ≡ hex_digit c
+unfolding hex_digit pick
+digit_none c h = grind (arith, common_steps)
 
-  pub by_usage : answer_asked ≡ false → belongs_asked ≡ false → Usage ≡ command_of count word
-  unfolding command_of
-  by_usage n h = skip answer_asked Answer (pick belongs_asked Belongs Usage) Usage n (skip belongs_asked Belongs Usage Usage h refl)
+-- `to_digit` answers likewise
+pub digit_is : (c : ℕ) (r : Option ℕ) → SomeIff r (digit_value c < 16) (digit_value c) → r ≡ hex_digit c
+digit_is c (Some x) h = ap Some h.1 ∙ digit_some c h.0
+digit_is c None h = digit_none c (omega (arith, h))
+
+-- the number of a word's first digits, and it is theirs
+pub record HexRead (word : List ℕ) (value i : ℕ) : Type 0 where
+  pub is : hex_on 0 word ≡ hex_on value (drop i word)
+  pub small : value < 16 ^ i
+
+module _ (word : List ℕ) where
+  pub hex_none : HexRead word 0 0
+  hex_none = record { is = refl; small = omega arith }
+
+  module _ (value i : ℕ) (read : HexRead word value i) where
+    -- it fits 64 bits with a digit more
+    pub hex_fits : (d : ℕ) → i < 16 → d < 16 → value * 16 + d < 2 ^ 64
+    hex_fits d h k =
+        let p : 16 ^ i ≤ 16 ^ 15 = pow-le-pow_right {n = 16} (omega arith) {j = 15} (omega arith) in
+        omega (arith, read.small, p)
+
+    next : i < length word → hex_on value (drop i word) ≡ option_and_then (λ d. hex_on (value * 16 + d) (drop (i + 1) word)) (hex_digit (get_or word i 0))
+    unfolding hex_on
+    next h = rw (add-one i) (ap (hex_on value) (drop-cons word i 0 h))
+
+    pub hex_turn : (d : ℕ) → i < length word → d < 16 → Some d ≡ hex_digit (get_or word i 0) → HexRead word (value * 16 + d) (i + 1)
+    hex_turn d h k e = record {
+      is = read.is ∙ next h ∙ ap (option_and_then (λ d. hex_on (value * 16 + d) (drop (i + 1) word))) (sym e);
+      small = let p : 16 ^ (i + 1) ≡ 16 * 16 ^ i = ap (λ j. 16 ^ j) (add-one i) ∙ pow-succ' 16 i in omega (arith, read.small, p);
+    }
+
+    pub hex_stop : i < length word → length word ≡ 16 → None ≡ hex_digit (get_or word i 0) → None ≡ hex_value word
+    unfolding hex_value
+    hex_stop h l e =
+        hit _ _ _ _ (eq-eqb (length word) 16 l) (ap (option_and_then (λ d. hex_on (value * 16 + d) (drop (i + 1) word))) e ∙ sym (read.is ∙ next h))
+
+    pub hex_done : 16 ≤ i → length word ≡ 16 → Some value ≡ hex_value word
+    unfolding hex_value hex_on
+    hex_done h l = hit _ _ _ _ (eq-eqb (length word) 16 l) (sym (read.is ∙ ap (hex_on value) (drop_of_length-le word (omega (arith, h, l)))))
+
+  pub hex_short : (length word ≡ 16 → ⊥) → None ≡ hex_value word
+  unfolding hex_value
+  hex_short h = skip _ _ _ _ (ne_eqb (length word) 16 h) refl
+
+-- ---- limits
+
+module _ (word : List ℕ) where
+  pub own_taken : same_word word (bytes_of "-") ≡ true → Ok None ≡ limit_of word
+  unfolding limit_of
+  own_taken h = hit _ _ _ _ h refl
+
+  pub digits_taken : (bits : Option ℕ) → same_word word (bytes_of "-") ≡ false → bits ≡ hex_value word → limit_read bits ≡ limit_of word
+  unfolding limit_of
+  digits_taken bits h e = skip _ _ _ _ h (ap limit_read e)
