@@ -36,7 +36,7 @@ pub const LAYERS: &[Layer] = &[
         ops: drivers::OPS,
         fill: drivers::fill,
         fixed: drivers::fixed,
-        gate: (20261116, 5_001),
+        gate: (20261116, 5_601),
     },
 ];
 

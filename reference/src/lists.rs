@@ -32,6 +32,11 @@ impl Case {
         self.input.extend(xs.iter().map(|&x| word(x)));
     }
 
+    /// The bits as they are, also those of NaNs.
+    pub fn take_bits(&mut self, xs: &[f64]) {
+        self.input.extend(xs.iter().map(|x| x.to_bits()));
+    }
+
     pub fn take_signed(&mut self, i: i32) {
         self.input.push(signed(i));
     }

@@ -28,7 +28,8 @@ const USAGE: &str = "usage:
   reference show                                              print a list as text
   reference filterrun                                         run a job as the program does
   reference compare-runs --program PATH --seed S --count N    compare a program's texts with the Rust's
-  reference compare-jobfile --program PATH --seed S --count N compare what the program jobfile says
+  reference compare-jobfile --program PATH --seed S --count N [--only COMMAND]
+                                                              compare what the program jobfile says
   reference job-to-text                                       a job or answer record as plain text
   reference job-from-text                                     and back
   reference example lowpass --n N [--rows R] ..               a real filter's job, see examples/README.md
@@ -50,10 +51,10 @@ fn main() -> ExitCode {
         ["job-from-text"] => drivers::plain::from_text(&mut input(), &mut output()),
         ["example", "lowpass", ref rest @ ..] => drivers::example::write(rest, &mut output()),
         ["compare-runs", "--program", program, "--seed", seed, "--count", count] => {
-            compare(drivers::compare::compare, program, seed, count)
+            compare_runs(program, seed, count)
         }
-        ["compare-jobfile", "--program", program, "--seed", seed, "--count", count] => {
-            compare(drivers::jobfile::compare::compare, program, seed, count)
+        ["compare-jobfile", "--program", program, ref calls @ ..] => {
+            compare_jobfile(program, calls)
         }
         _ => Err(wrong(USAGE)),
     };
@@ -129,10 +130,18 @@ fn gen(name: &str, args: &[&str]) -> io::Result<bool> {
     Ok(true)
 }
 
-type Compare = fn(&str, u64, u64, &mut Output) -> io::Result<bool>;
+fn compare_runs(program: &str, seed: &str, count: &str) -> io::Result<bool> {
+    drivers::compare::compare(program, whole(seed)?, whole(count)?, &mut output())
+}
 
-fn compare(by: Compare, program: &str, seed: &str, count: &str) -> io::Result<bool> {
-    by(program, whole(seed)?, whole(count)?, &mut output())
+fn compare_jobfile(program: &str, calls: &[&str]) -> io::Result<bool> {
+    let (seed, count, only) = match *calls {
+        ["--seed", seed, "--count", count] => (seed, count, None),
+        ["--seed", seed, "--count", count, "--only", name] => (seed, count, Some(name)),
+        _ => return Err(wrong(USAGE)),
+    };
+    let drawn = (whole(seed)?, whole(count)?);
+    drivers::jobfile::compare::compare(program, drawn, only, &mut output())
 }
 
 fn whole(text: &str) -> io::Result<u64> {

@@ -55,7 +55,7 @@ pub fn count(from: &mut impl Read, to: &mut impl Write) -> io::Result<bool> {
 
 /// Whether the first output word is a status, a refusal or a kind of answer.
 fn tells(op: u64) -> bool {
-    matches!(op, 20..=28 | 42 | 43 | 50 | 53 | 60 | 61 | 70 | 71 | 100..=129 | 140..=153)
+    matches!(op, 20..=28 | 42 | 43 | 50 | 53 | 60 | 61 | 70 | 71 | 100..=129 | 140..=155 | 162)
 }
 
 fn name(op: u64) -> &'static str {

@@ -2,6 +2,7 @@
 #![tactic(auto)]
 
 mod belonging;
+mod filing;
 mod packed;
 mod places;
 mod records;
@@ -10,6 +11,7 @@ mod runs;
 mod texts;
 
 use crate::belonging::replay_belongs;
+use crate::filing::{replay_rewrite_job, replay_write_job};
 use crate::records::{replay_default, replay_read_answer, replay_read_job, replay_write_answer};
 use crate::runs::replay_run;
 use crate::texts::replay_text;
@@ -38,7 +40,9 @@ impl Replay for Drivers {
             151 => replay_read_answer(inputs, rooms, got),
             152 => replay_write_answer(inputs, got),
             153 => replay_belongs(inputs, rooms, got),
+            155 => replay_write_job(inputs, got),
             160 => replay_text(inputs, rooms, got),
+            162 => replay_rewrite_job(inputs, rooms, got),
             _ => Err(Unreplayed::Unknown),
         }
     }

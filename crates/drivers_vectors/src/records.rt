@@ -1,5 +1,5 @@
 // Operations 142 and 150 to 152: the values of `Options`, the readers and the writer.
-use crate::packed::{bytes_at, pad, put_bytes, words_of};
+use crate::packed::{bytes_at, put_output, put_written, words_of};
 use crate::places::half_of;
 use drivers::answer::{Answer, read_answer, write_answer};
 use drivers::cutting_plane::Options;
@@ -12,7 +12,7 @@ use lists::tally::Unreplayed;
 use numbers::refusal::Fault;
 
 // The number and the place of a refusal.
-fn put_fault(got: &mut Got, fault: Fault) {
+pub(crate) fn put_fault(got: &mut Got, fault: Fault) {
     got.word(u8::from(fault.why) as u64);
     got.word(fault.place as u64);
 }
@@ -96,7 +96,7 @@ pub(crate) fn replay_read_answer(
     Ok(())
 }
 
-// The record stands in the answer from its third word on, over the bytes that the case gives.
+// The record stands in the answer from its third word on.
 pub(crate) fn replay_write_answer(inputs: &Inputs<'_>, got: &mut Got) -> Result<(), Unreplayed> {
     let found = inputs.word(1);
     let steps = half_of(inputs.word(2))?;
@@ -107,16 +107,14 @@ pub(crate) fn replay_write_answer(inputs: &Inputs<'_>, got: &mut Got) -> Result<
     };
     let out = point.then(words_of(len));
     fit((out.end() == inputs.count) & (found < 2))?;
-    let end = put_bytes(got, 16, bytes_at(inputs, out.at, len));
-    pad(got, end);
+    put_output(got, 16, inputs, out.at, len);
     let answer = Answer {
         found: found == 1,
         steps,
     };
     let room = part_mut(&mut got.bytes, 16, len);
     let written = write_answer(inputs.size(0), answer, inputs.part(point), room);
-    got.refusal(true, &written)?;
-    got.word(written.unwrap_or(0) as u64);
+    put_written(got, written)?;
     got.len = plus(got.len, out.len);
     Ok(())
 }

@@ -11,7 +11,7 @@ use std::io::{Read, Write};
 
 // A layer's calls. A trait and no closure, of which a caller would have to show that it may be called.
 pub trait Replay {
-    // Makes the case's call, and gives its answer's words. What is read, what is scratch and what is written stay three: of 93 functions below it 15 take them all, the others one or two.
+    // Makes the case's call, and gives its answer's words. What is read, what is scratch and what is written stay three: most functions below it take one or two of them.
     fn replay(
         &self,
         inputs: &Inputs<'_>,

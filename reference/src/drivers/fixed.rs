@@ -8,6 +8,7 @@ use super::cutting::{default_options, feas_of, optim_of};
 use super::cutting_any::{any_of, AnyRun};
 use super::damage::{faults, put, Fault};
 use super::filterrun::{text_case, LONGEST};
+use super::fixed_writes::fixed_writes;
 use super::job::{read_of as read_job_of, rows_in, Job};
 use super::lively::lowpass;
 use super::record::{Record, Rule, ANSWER, JOB};
@@ -28,11 +29,12 @@ pub fn fixed() -> Vec<Case> {
     long_files(&mut cases);
     pairs_of_job(&mut cases);
     pairs_of_answer(&mut cases);
+    fixed_writes(&mut cases);
     push(&mut cases, 142, default_options);
     cases
 }
 
-fn push(cases: &mut Vec<Case>, op: u64, fill: impl FnOnce(&mut Case)) {
+pub fn push(cases: &mut Vec<Case>, op: u64, fill: impl FnOnce(&mut Case)) {
     let mut case = Case::default();
     case.start(op);
     fill(&mut case);
@@ -77,7 +79,7 @@ fn filters(cases: &mut Vec<Case>) {
 
 /// A small run; rows have a one each, and limits and bands are those of the scope's known values.
 /// n need not be legal.
-fn plain(n: usize, rows: usize, bands: (i32, i32)) -> Run {
+pub fn plain(n: usize, rows: usize, bands: (i32, i32)) -> Run {
     let table = (0..rows * n).map(|k| (k % n == k / n % n) as u64 as f64);
     let mut filter = Filter {
         n,

@@ -9,7 +9,7 @@ use crate::oracles::cursor::{Cursor, MOST_ROWS};
 use crate::oracles::filter::{Filter, State};
 use crate::oracles::lowpass::{give_bands, give_state};
 use crate::oracles::spaces::Space;
-use crate::words::Source;
+use crate::words::{word, Source};
 
 #[derive(Clone)]
 pub struct Job {
@@ -92,23 +92,58 @@ impl Job {
         run
     }
 
-    /// Rising tags.
+    /// Rising tags, and the bits of NaNs as they are.
     pub fn record(&self) -> Record {
+        self.record_with(f64::to_bits)
+    }
+
+    /// As the writer of jobs has it, which writes every NaN as one.
+    pub fn filed(&self) -> Record {
+        self.record_with(word)
+    }
+
+    fn record_with(&self, bits: fn(f64) -> u64) -> Record {
+        let content = |xs: &[f64]| xs.iter().flat_map(|&x| bits(x).to_le_bytes()).collect();
         let mut record = Record::default();
         record.push(0x01, shorts(&[self.n as u16]));
         record.push(0x02, shorts(&[self.nwpass, self.nwstop]));
-        record.push_floats(0x03, &self.limits);
+        record.push(0x03, content(&self.limits));
         for row in self.table.chunks(self.n) {
-            record.push_floats(ROW, row);
+            record.push(ROW, content(row));
         }
-        record.push_floats(0x05, &self.x);
+        record.push(0x05, content(&self.x));
         record.push(0x06, shorts(&self.cur.map(|cur| cur as u16)));
-        record.push_floats(0x07, &[self.kappa]);
-        record.push_floats(0x08, &self.mq);
+        record.push(0x07, content(&[self.kappa]));
+        record.push(0x08, content(&self.mq));
         let mut end = shorts(&[self.limit]);
-        end.extend(self.tolerance.to_le_bytes());
+        end.extend(bits(self.tolerance).to_le_bytes());
         record.push(0x09, end);
         record
+    }
+
+    /// All its floats.
+    pub fn numbers_mut(&mut self) -> Vec<&mut f64> {
+        let others = [&mut self.kappa, &mut self.tolerance];
+        let slices = [
+            &mut self.limits[..],
+            &mut self.table,
+            &mut self.x,
+            &mut self.mq,
+        ];
+        let of_slices = slices.into_iter().flatten();
+        of_slices.chain(others).collect()
+    }
+
+    /// Everything that it says, all NaNs as one.
+    pub fn words(&self) -> Vec<u64> {
+        let counts = [self.n, self.rows(), self.limit as usize];
+        let borders = [self.nwpass, self.nwstop].map(u64::from);
+        let cur = self.cur.map(|cur| cur as u64);
+        let others = [self.kappa, self.tolerance];
+        let floats = [&self.limits[..], &self.table, &self.x, &self.mq, &others];
+        let floats = floats.into_iter().flatten().map(|&x| word(x));
+        let counts = counts.map(|count| count as u64).into_iter();
+        counts.chain(borders).chain(cur).chain(floats).collect()
     }
 }
 

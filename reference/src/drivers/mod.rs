@@ -10,6 +10,7 @@ mod every_byte;
 pub mod example;
 pub mod filterrun;
 mod fixed;
+mod fixed_writes;
 pub mod job;
 pub mod jobfile;
 mod lively;
@@ -20,6 +21,7 @@ mod run;
 #[cfg(test)]
 mod tests;
 mod walk;
+mod write_job;
 
 use crate::lists::Case;
 use crate::words::Source;
@@ -38,7 +40,9 @@ pub const OPS: &[(u64, &str, usize)] = &[
     (151, "read_answer", 4),
     (152, "write_answer", 3),
     (153, "belongs", 4),
+    (155, "write_job", 3),
     (160, "text of a run", 5),
+    (162, "read_job, then write_job", 2),
 ];
 
 /// Fills one case of the operation.
@@ -54,7 +58,9 @@ pub fn fill(op: u64, src: &mut Source, case: &mut Case) {
         151 => answer::read_any(src, case),
         152 => answer::write_any(src, case),
         153 => belongs::belongs(src, case),
+        155 => write_job::write_any(src, case),
         160 => filterrun::text_any(src, case),
+        162 => write_job::rewrite_any(src, case),
         _ => panic!("no such operation: {op}"),
     }
 }

@@ -170,11 +170,6 @@ impl Record {
         self.fields.push(Field::new(tag, content));
     }
 
-    pub fn push_floats(&mut self, tag: u8, xs: &[f64]) {
-        let content = xs.iter().flat_map(|x| x.to_le_bytes());
-        self.push(tag, content.collect());
-    }
-
     pub fn bytes(&self) -> Vec<u8> {
         let mut bytes = Vec::new();
         for field in &self.fields {

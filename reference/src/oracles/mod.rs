@@ -13,7 +13,7 @@ mod matrices;
 mod positions;
 mod scan;
 pub mod spaces;
-mod tables;
+pub mod tables;
 #[cfg(test)]
 mod tests;
 

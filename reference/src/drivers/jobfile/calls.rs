@@ -1,9 +1,12 @@
 //! The calls of a comparison, in the order in which they are made.
 
+use super::limit_words::{right, wrong};
 use super::pairs::Pairs;
+use super::records::Records;
 use super::{By, Call, Held};
 use crate::drivers::compare::Questions;
 use crate::words::Source;
+use std::io::{self, ErrorKind};
 
 /// Names for a job and its answer.
 const NAMES: [[&[u8]; 2]; 7] = [
@@ -16,51 +19,99 @@ const NAMES: [[&[u8]; 2]; 7] = [
     [&[b'j'; 255], &[b'a'; 255]],
 ];
 
+type Draw = fn(&mut Calls) -> Call;
+
+/// The commands, how many of a hundred calls each has, and what draws one.
+const COMMANDS: [(&str, u64, Draw); 5] = [
+    ("usage", 3, Calls::usage),
+    ("answer", 30, Calls::answer),
+    ("belongs", 32, Calls::belongs),
+    ("file", 20, Calls::file),
+    ("limits", 15, Calls::limits),
+];
+
+/// What draws a command's calls.
+pub fn draw_of(name: &str) -> io::Result<Draw> {
+    let known = COMMANDS.iter().find(|command| command.0 == name);
+    known.map(|command| command.2).ok_or_else(|| {
+        let names = COMMANDS.map(|command| command.0).join(" ");
+        let what = format!("--only {name}: no such command, there are {names}");
+        io::Error::new(ErrorKind::InvalidInput, what)
+    })
+}
+
+const LONG: &[u8] = &[b'a'; 100_000];
+
+/// Words that no command has.
+const WRONG: [&[&[u8]]; 28] = [
+    &[],
+    &[b""],
+    &[b"", b"answer"],
+    &[b"Answer"],
+    &[b"answer "],
+    &[b"answers"],
+    &[b"answe"],
+    &[b"answer", b"x"],
+    &[b"answer", b""],
+    &[b"belongs"],
+    &[b"belongs", b"a"],
+    &[b"belongs", b"a", b"b", b"c"],
+    &[b"Belongs", b"a", b"b"],
+    &[b"file", b"x"],
+    &[b"file", b""],
+    &[b"file", b"-", b"-", b"-"],
+    &[b"File"],
+    &[b"files"],
+    &[b"limits"],
+    &[b"Limits", b"-", b"-", b"-"],
+    &[b"limit", b"-", b"-", b"-"],
+    &[b"limits ", b"-", b"-", b"-"],
+    &[b"answer", b"-", b"-", b"-"],
+    &[b"-", b"-", b"-"],
+    &[b"--help"],
+    &[b"\xFF"],
+    &[LONG],
+    &[LONG, b"a", b"b"],
+];
+
 pub struct Calls {
     src: Source,
     questions: Questions,
     pairs: Pairs,
+    records: Records,
+    /// Draws all calls, if they are of one command.
+    only: Option<Draw>,
 }
 
 impl Calls {
-    pub fn new(seed: u64) -> Self {
+    pub fn new(seed: u64, only: Option<Draw>) -> Self {
         Calls {
             src: Source::new(!seed),
             questions: Questions::new(seed),
             pairs: Pairs::new(seed),
+            records: Records::new(seed),
+            only,
         }
     }
 
     pub fn next(&mut self) -> Call {
-        match self.src.rng.below(100) {
-            0..=2 => self.usage(),
-            3..=51 => self.answer(),
-            _ => self.belongs(),
+        let draw = self.only.unwrap_or_else(|| self.any_command());
+        draw(self)
+    }
+
+    fn any_command(&mut self) -> Draw {
+        let mut left = self.src.rng.below(100);
+        for (_, share, draw) in COMMANDS {
+            if left < share {
+                return draw;
+            }
+            left -= share;
         }
+        unreachable!("the shares add up to a hundred")
     }
 
     fn usage(&mut self) -> Call {
-        let long = [b'a'; 100_000];
-        let wrong: [&[&[u8]]; 17] = [
-            &[],
-            &[b""],
-            &[b"", b"answer"],
-            &[b"Answer"],
-            &[b"answer "],
-            &[b"answers"],
-            &[b"answe"],
-            &[b"answer", b"x"],
-            &[b"answer", b""],
-            &[b"belongs"],
-            &[b"belongs", b"a"],
-            &[b"belongs", b"a", b"b", b"c"],
-            &[b"Belongs", b"a", b"b"],
-            &[b"--help"],
-            &[b"\xFF"],
-            &[&long],
-            &[&long, b"a", b"b"],
-        ];
-        let words = self.src.rng.pick(&wrong);
+        let words = self.src.rng.pick(&WRONG);
         Call {
             kind: "usage".into(),
             words: words.iter().map(|word| word.to_vec()).collect(),
@@ -88,8 +139,12 @@ impl Calls {
 
     fn answer(&mut self) -> Call {
         let question = self.questions.next();
-        let mut kind = question.kind;
-        let mut input = Held::Bytes(question.bytes);
+        self.fed("answer", question.kind, question.bytes)
+    }
+
+    /// A command that reads a job from standard input.
+    fn fed(&mut self, command: &str, mut kind: &str, bytes: Vec<u8>) -> Call {
+        let mut input = Held::Bytes(bytes);
         let full = self.src.rng.once_in(40);
         if full {
             kind = "no space left";
@@ -97,8 +152,8 @@ impl Calls {
             (input, kind) = (Held::Directory, "standard input is a directory");
         }
         Call {
-            kind: format!("answer, {kind}"),
-            words: vec![b"answer".to_vec()],
+            kind: format!("{command}, {kind}"),
+            words: vec![command.into()],
             input,
             by: match self.src.rng.below(40) {
                 0 => By::SlowPipe,
@@ -108,6 +163,24 @@ impl Calls {
             full,
             ..self.quiet()
         }
+    }
+
+    fn file(&mut self) -> Call {
+        let (kind, bytes) = self.records.next();
+        self.fed("file", kind, bytes)
+    }
+
+    /// Where the words are wrong, what standard input is should not matter.
+    fn limits(&mut self) -> Call {
+        let (kind, bytes) = self.records.next();
+        let mut call = self.fed("limits", kind, bytes);
+        let src = &mut self.src;
+        call.words.extend((0..3).map(|_| right(src)));
+        if src.rng.once_in(5) {
+            call.kind = "limits, wrong words".into();
+            spoil_words(src, &mut call.words);
+        }
+        call
     }
 
     fn belongs(&mut self) -> Call {
@@ -144,5 +217,15 @@ impl Calls {
             Held::LongName => &[&[b'n'; 256], &[b'/'; 4096], &[b'/'; 4097]],
         };
         *name = self.src.rng.pick(names).to_vec();
+    }
+}
+
+/// One of the three is wrong, or there are fewer or more.
+fn spoil_words(src: &mut Source, words: &mut Vec<Vec<u8>>) {
+    match src.rng.below(6) {
+        0 => words.truncate(src.rng.range(1, 3) as usize),
+        1 => words.push(right(src)),
+        2 => words.push(Vec::new()),
+        _ => words[src.rng.range(1, 3) as usize] = wrong(src),
     }
 }

@@ -1,17 +1,24 @@
-//! What the program `jobfile` says to a call: from document 01, apart from the port.
+//! What the program `jobfile` says to a call: from documents 01 and 02, apart from the port.
 
 pub mod ask;
 pub mod calls;
 pub mod compare;
+mod limit_words;
 mod pairs;
+mod records;
 
 use super::answer::{read_answer, Answer};
 use super::belongs::is_of;
 use super::filterrun::{accepted, answer_of, LONGEST};
+use super::job::Job;
 use super::record::{no, No};
+use super::write_job::{write_job, Given};
 
 const USAGE: &str = "usage: jobfile answer < JOB > ANSWER
        jobfile belongs JOB ANSWER
+       jobfile file < JOB > NEWJOB
+       jobfile limits LP UP SP < JOB > NEWJOB
+LP, UP, SP: the 16 hexadecimal digits of a float, or - for the job's own
 ";
 
 /// What stands behind a name, or is standard input.
@@ -68,9 +75,10 @@ pub struct Said {
 
 pub fn expected(call: &Call) -> Said {
     let words: Vec<&[u8]> = call.words.iter().map(Vec::as_slice).collect();
-    let made = match words[..] {
-        [b"answer"] => answer(&call.input),
-        [b"belongs", job, answer] => belongs(call.file(job), call.file(answer)),
+    let made = match (&words[..], limits_of(&words)) {
+        ([b"answer"], _) => answer(&call.input),
+        ([b"belongs", job, answer], _) => belongs(call.file(job), call.file(answer)),
+        (_, Some(limits)) => filed(&call.input, limits),
         _ => Err(USAGE.into()),
     };
     let (out, err) = match made {
@@ -93,10 +101,56 @@ impl Call {
         let known = self.files.iter().find(|file| file.0 == name);
         (name, known.map_or(&Held::Missing, |file| &file.1))
     }
+
+    /// The job that it files, if it does.
+    fn job(&self) -> Option<Job> {
+        let words: Vec<&[u8]> = self.words.iter().map(Vec::as_slice).collect();
+        job_of(&self.input, limits_of(&words)?).ok()
+    }
 }
 
 /// What goes to standard output or, if nothing does, to standard error.
 type Made = Result<Vec<u8>, Vec<u8>>;
+
+/// lp_sq, up_sq and sp_sq, or none for the job's own.
+type Limits = [Option<f64>; 3];
+
+/// The limits with which a job is filed, if it is.
+fn limits_of(words: &[&[u8]]) -> Option<Limits> {
+    match words {
+        [b"file"] => Some([None; 3]),
+        [b"limits", lp, up, sp] => Some([limit_of(lp)?, limit_of(up)?, limit_of(sp)?]),
+        _ => None,
+    }
+}
+
+/// `-`, or 16 hexadecimal digits of either case.
+fn limit_of(word: &[u8]) -> Option<Option<f64>> {
+    if word == b"-" {
+        return Some(None);
+    }
+    if word.len() != 16 {
+        return None;
+    }
+    let mut digits = word.iter().map(|&b| char::from(b).to_digit(16));
+    let bits = digits.try_fold(0, |bits, digit| Some(bits << 4 | digit? as u64));
+    bits.map(|bits| Some(f64::from_bits(bits)))
+}
+
+/// The job of the input, with these limits.
+fn job_of(input: &Held, limits: Limits) -> Result<Job, Vec<u8>> {
+    let bytes = read((b"standard input", input))?;
+    let mut job = accepted(bytes).map_err(|no| refused(no, ""))?;
+    for (limit, new) in job.limits.iter_mut().zip(limits) {
+        *limit = new.unwrap_or(*limit);
+    }
+    Ok(job)
+}
+
+fn filed(input: &Held, limits: Limits) -> Made {
+    let job = job_of(input, limits)?;
+    Ok(write_job(&Given::of(&job), usize::MAX).expect("what was read is a job"))
+}
 
 fn answer(input: &Held) -> Made {
     let bytes = read((b"standard input", input))?;

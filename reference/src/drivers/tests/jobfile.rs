@@ -8,14 +8,26 @@ use std::collections::BTreeMap;
 use std::fs;
 use std::path::Path;
 
-const WORKED: &[u8] = include_bytes!("../../../../examples/worked.job");
-const N16: &[u8] = include_bytes!("../../../../examples/n16.job");
-const N32: &[u8] = include_bytes!("../../../../examples/n32.job");
+pub const WORKED: &[u8] = include_bytes!("../../../../examples/worked.job");
+pub const N16: &[u8] = include_bytes!("../../../../examples/n16.job");
+pub const N32: &[u8] = include_bytes!("../../../../examples/n32.job");
 const ANSWER: &[u8] = include_bytes!("../../../../examples/n32.answer");
 const NONE: &[u8] = &[0x20, 1, 0, 0, 0x21, 2, 0, 0, 0];
-const USAGE: &str = "usage: jobfile answer < JOB > ANSWER\n       jobfile belongs JOB ANSWER\n";
+pub const USAGE: &str = "usage: jobfile answer < JOB > ANSWER
+       jobfile belongs JOB ANSWER
+       jobfile file < JOB > NEWJOB
+       jobfile limits LP UP SP < JOB > NEWJOB
+LP, UP, SP: the 16 hexadecimal digits of a float, or - for the job's own
+";
+/// What a command that reads a job says to these inputs.
+const NOT_READ: [(&[u8], &str); 4] = [
+    (&[], "refused 10 0\n"),
+    (WORKED.split_at(144).0, "refused 7 132\n"),
+    (&[0x7F; 65_536], "refused 8 0\n"),
+    (&[0x7F; 65_537], "refused 11 65536\n"),
+];
 
-fn call(words: &[&str], input: Held, files: &[(&str, Held)]) -> Call {
+pub fn call(words: &[&str], input: Held, files: &[(&str, Held)]) -> Call {
     let file = |(name, held): &(&str, Held)| (name.as_bytes().to_vec(), held.clone());
     Call {
         kind: "fixed".into(),
@@ -27,11 +39,11 @@ fn call(words: &[&str], input: Held, files: &[(&str, Held)]) -> Call {
     }
 }
 
-fn bytes(bytes: &[u8]) -> Held {
+pub fn bytes(bytes: &[u8]) -> Held {
     Held::Bytes(bytes.to_vec())
 }
 
-fn said(out: &[u8], err: &str) -> Said {
+pub fn said(out: &[u8], err: &str) -> Said {
     Said {
         out: out.to_vec(),
         err: err.as_bytes().to_vec(),
@@ -44,15 +56,15 @@ fn answers() {
     let answer = |input| expected(&call(&["answer"], input, &[]));
     assert_eq!(answer(bytes(WORKED)), said(NONE, ""));
     assert_eq!(answer(bytes(N32)), said(ANSWER, ""));
-    for (input, err) in [
-        (bytes(&[]), "refused 10 0\n"),
-        (bytes(&WORKED[..144]), "refused 7 132\n"),
-        (bytes(&[0x7F; 65_536]), "refused 8 0\n"),
-        (bytes(&[0x7F; 65_537]), "refused 11 65536\n"),
-        (Held::Directory, "standard input: Is a directory\n"),
-    ] {
-        assert_eq!(answer(input), said(b"", err));
+    are_refused(answer);
+}
+
+pub fn are_refused(say: impl Fn(Held) -> Said) {
+    for (input, err) in NOT_READ {
+        assert_eq!(say(bytes(input)), said(b"", err));
     }
+    let directory = said(b"", "standard input: Is a directory\n");
+    assert_eq!(say(Held::Directory), directory);
 }
 
 fn belongs(job: Held, answer: Held) -> Said {
@@ -121,6 +133,15 @@ fn wrong_words_have_the_usage() {
         &["belongs"],
         &["belongs", "a"],
         &["belongs", "a", "b", "c"],
+        &["file", ""],
+        &["file", "-"],
+        &["file", "-", "-", "-"],
+        &["File"],
+        &["limits"],
+        &["limits", "-"],
+        &["limits", "-", "-"],
+        &["limits", "-", "-", "-", "-"],
+        &["Limits", "-", "-", "-"],
     ] {
         assert_eq!(expected(&call(words, bytes(WORKED), &[])), said(b"", USAGE));
     }
@@ -138,6 +159,9 @@ fn no_space_is_left() {
     };
     let failed = said(b"", "standard output: No space left on device\n");
     assert_eq!(full(&["answer"], bytes(WORKED)), failed);
+    assert_eq!(full(&["file"], bytes(WORKED)), failed);
+    assert_eq!(full(&["limits", "-", "-", "-"], bytes(WORKED)), failed);
+    assert_eq!(full(&["file"], bytes(&[])), said(b"", "refused 10 0\n"));
     assert_eq!(full(&["belongs", "job", "b"], bytes(&[])), failed);
     assert_eq!(full(&["answer"], bytes(&[])), said(b"", "refused 10 0\n"));
     assert_eq!(full(&["b"], bytes(&[])), said(b"", USAGE));
@@ -146,7 +170,7 @@ fn no_space_is_left() {
 /// Each refusal that a file can meet, each reason and each answer is to be said in a comparison.
 #[test]
 fn calls_meet_everything() {
-    let mut calls = Calls::new(7);
+    let mut calls = Calls::new(7, None);
     let mut met: BTreeMap<String, u64> = BTreeMap::new();
     for _ in 0..20_000 {
         *met.entry(in_short(&expected(&calls.next()))).or_default() += 1;
@@ -162,6 +186,7 @@ fn calls_meet_everything() {
     );
     right.extend((0..2).map(|found| format!("an answer record, outcome {found}")));
     for text in [
+        "a job record",
         "yes",
         "no",
         "usage",
@@ -198,7 +223,8 @@ fn differences_are_found() {
             Ok(said)
         };
         let mut text = Vec::new();
-        let same = compare_with(&ask, (3, 60), &kept, &mut text).unwrap();
+        let calls = Calls::new(3, None);
+        let same = compare_with(&ask, calls, (3, 60), &kept, &mut text).unwrap();
         (same, String::from_utf8(text).unwrap())
     };
     let (same, text) = differs(|_| {});

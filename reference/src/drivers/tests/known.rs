@@ -25,7 +25,7 @@ fn numbers(op: u64) -> Vec<u64> {
 
 #[test]
 fn fixed_cases_have_every_refusal() {
-    assert_eq!(fixed().len(), 446); // as docs/LISTS.md says
+    assert_eq!(fixed().len(), 586); // as docs/LISTS.md says
     assert_eq!(numbers(71), [0, 6]);
     assert_eq!(numbers(140), [0, 1, 2, 3, 4, 11]);
     assert_eq!(numbers(141), [0, 1, 2, 3, 4, 6, 11]);
@@ -33,6 +33,8 @@ fn fixed_cases_have_every_refusal() {
     assert_eq!(numbers(151), [0, 1, 2, 7, 8, 9, 10, 11, 12]);
     assert_eq!(numbers(152), [0, 1, 2, 11]);
     assert_eq!(numbers(153), [0, 1, 2, 3, 4]);
+    assert_eq!(numbers(155), [0, 1, 2, 3, 4, 11]);
+    assert_eq!(numbers(162), [0, 1, 2, 3, 4, 7, 8, 9, 10]);
 }
 
 #[test]

@@ -4,7 +4,9 @@
 mod any_lengths;
 mod example;
 mod jobfile;
+mod jobfile_file;
 mod known;
 mod plain;
 mod records;
 mod runs;
+mod write_job;
