@@ -3,6 +3,7 @@ pub mod FloatOrder
 pub mod ScanRows
 pub mod Scan
 pub mod ScanRun
+pub mod Bands
 pub mod Assess
 pub mod Start
 pub mod Judge

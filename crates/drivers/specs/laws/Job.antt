@@ -1,7 +1,6 @@
 -- Laws of jobs: what a record without a fault has. Assumes nothing.
 use Rattle.std.specs.Prelude.{◌≡◌, true, false, ◌&&◌, List, ℕ, ◌≤◌, leb, eqb, ℤ, pos, ◌-ℤ◌, is_err}
 use Rattle.std.proofs.Common.{sym, subst, ◌∙◌, leb-true}
-use Rattle.std.specs.Int.Signed.{le_z}
 use Rattle.numbers.specs.Arr.{is_dimension}
 use Rattle.numbers.specs.laws.Arr.{dimension_most}
 use Rattle.numbers.specs.declared.refusal.Refusal.TheVariants.{Dimension, Length, Band, Cursor}
@@ -9,8 +8,8 @@ use Rattle.numbers.specs.laws.Pick.{is_hit, and_parts}
 use Rattle.numbers.specs.Refusal.{◌⨾◌, ask_at, Sound, Tests}
 use Rattle.numbers.specs.laws.Refusal.{no_fault, both_sound, ask_sound}
 use Rattle.oracles.specs.Scan.{none}
-use Rattle.oracles.specs.Table.{is_rows}
-use Rattle.oracles.specs.LowpassOracle.{start_oracle, has_band, bands_fit, cursors_fit}
+use Rattle.oracles.specs.LowpassOracle.{start_oracle, bands_fit, cursors_fit}
+use Rattle.oracles.specs.laws.Bands.{BandParts, band_parts}
 use Rattle.oracles.specs.laws.Start.{start_before}
 use Rattle.oracles.specs.declared.lowpass_oracle.LowpassOracle.{LowpassOracle}
 use Rattle.drivers.specs.Record.{size_fault, length_at, start_of, half_at, fields_of, lengths_fault, place}
@@ -48,38 +47,24 @@ pub record JobSound (j : Job) : Type 0 where
   pub bands : bands_fit (job_oracle j) j.rows ≡ true
   pub cursors : cursors_fit (job_oracle j) ≡ true
 
--- the parts of refusal 3's test: a count of rows that a table can have, and the ends of its bands
-pub record BandParts (j : Job) : Type 0 where
-  pub rows_held : is_rows j.rows ≡ true
-  pub from : le_z (pos 0) (job_oracle j).nwpass ≡ true
-  pub between : le_z (job_oracle j).nwpass (job_oracle j).nwstop ≡ true
-  pub to : le_z (job_oracle j).nwstop (pos j.rows) ≡ true
-
-pub band_parts : (j : Job) → JobSound j → BandParts j
-band_parts j h =
-    let o = job_oracle j in
-    let b₃ = and_parts _ (has_band o.rr3 o.nwstop (pos j.rows)) h.bands in
-    let b₂ = and_parts _ (has_band o.rr2 o.nwpass o.nwstop) b₃.0 in
-    let b₁ = and_parts _ (has_band o.rr1 (pos 0) o.nwpass) b₂.0 in
-    let h₃ = and_parts _ (le_z o.nwstop (pos j.rows)) b₁.0 in
-    let h₂ = and_parts _ (le_z o.nwpass o.nwstop) h₃.0 in
-    let h₁ = and_parts (is_rows j.rows) (le_z (pos 0) o.nwpass) h₂.0 in
-    record { rows_held = h₁.0; from = h₁.1; between = h₂.1; to = h₃.1 }
-
-pub sound_rows : (j : Job) → JobSound j → is_rows j.rows ≡ true
-sound_rows j h = (band_parts j h).rows_held
+-- the parts of refusal 3's test
+pub job_bands : (j : Job) → JobSound j → BandParts (job_oracle j) j.rows
+job_bands j h = band_parts (job_oracle j) j.rows h.bands
 
 pub rows_from : (j : Job) → JobSound j → 1 ≤ j.rows
-rows_from j h = leb-true 1 j.rows (and_parts (leb 1 j.rows) (leb j.rows 1024) (sound_rows j h)).0
+rows_from j h = (job_bands j h).least
 
 pub rows_to : (j : Job) → JobSound j → j.rows ≤ 1024
-rows_to j h = leb-true j.rows 1024 (and_parts (leb 1 j.rows) (leb j.rows 1024) (sound_rows j h)).1
+rows_to j h = (job_bands j h).most
+
+-- its last band ends after the last row
+pub row_end_is : (j : Job) → JobSound j → row_end j.rows ≡ pos j.rows
+row_end_is j h = is_hit _ _ _ (job_bands j h).rows_held
 
 -- Document 01: each idx of its oracle starts at its band's lo − 1.
 pub job_starts : (j : Job) → JobSound j → ((job_oracle j).idx1 ≡ none) × ((job_oracle j).idx2 ≡ j.nwpass -ℤ pos 1) × ((job_oracle j).idx3 ≡ j.nwstop -ℤ pos 1)
 job_starts j h =
-    let end : row_end j.rows ≡ pos j.rows = is_hit _ _ _ (sound_rows j h) in
-    subst (λ (z : ℤ). let o = oracle_to z in bands_fit o j.rows ≡ true → (o.idx1 ≡ none) × (o.idx2 ≡ j.nwpass -ℤ pos 1) × (o.idx3 ≡ j.nwstop -ℤ pos 1)) (sym end)
+    subst (λ (z : ℤ). let o = oracle_to z in bands_fit o j.rows ≡ true → (o.idx1 ≡ none) × (o.idx2 ≡ j.nwpass -ℤ pos 1) × (o.idx3 ≡ j.nwstop -ℤ pos 1)) (sym (row_end_is j h))
     (start_before j.nwpass j.nwstop j.cur1 j.cur2 j.cur3 j.lp_sq j.up_sq j.sp_sq j.rows) h.bands
   where
     oracle_to : ℤ → LowpassOracle

@@ -12,7 +12,7 @@ use Rattle.numbers.specs.Arr.{is_dimension, tab, row_of}
 use Rattle.numbers.specs.Refusal.{◌⨾◌, ask, Sound, Tests}
 use Rattle.numbers.specs.laws.Arr.{row_in}
 use Rattle.numbers.specs.laws.Bits.{word_low}
-use Rattle.numbers.specs.laws.Pick.{is_hit, and_parts}
+use Rattle.numbers.specs.laws.Pick.{and_parts}
 use Rattle.numbers.specs.laws.Refusal.{held, at_next, both_sound}
 use Rattle.numbers.specs.Over.{over}
 use Rattle.numbers.specs.declared.refusal.Refusal.TheVariants.{Room}
@@ -28,12 +28,13 @@ use Rattle.drivers.specs.laws.Written.{wrote, start_is, content_there, walk_take
 use Rattle.drivers.specs.laws.Typed.{Typed}
 use Rattle.drivers.specs.laws.JobBytes.{job_long, numbers_long}
 use Rattle.drivers.specs.laws.JobFields.{job_places, Found, AllFound, writable, sized, all_found, taken}
-use Rattle.drivers.specs.laws.Shorts.{two_read, three_read, Short, Count, count_of, ends, count_short, short_cur}
-use Rattle.drivers.specs.laws.Job.{oracle_fault, JobSound, band_parts, n_to, sound_rows, rows_to}
+use Rattle.drivers.specs.laws.Shorts.{two_read, three_read, Short, Count, count_of, count_between, count_short, short_cur}
+use Rattle.drivers.specs.laws.Job.{oracle_fault, JobSound, job_bands, n_to, row_end_is}
 use Rattle.drivers.specs.laws.JobRuns.{FullLong}
 use Rattle.drivers.specs.declared.job.Job.{Job}
 use Rattle.oracles.specs.RoundRobin.{is_at}
 use Rattle.oracles.specs.LowpassOracle.{start_oracle, bands_fit, cursors_fit, oracle_tests}
+use Rattle.oracles.specs.laws.Bands.{three_bands}
 use Rattle.oracles.specs.laws.ScanRows.{all_hold}
 use Rattle.oracles.specs.laws.OracleAfter.{row_length}
 
@@ -63,17 +64,19 @@ module _ (f : FullJob) (h : JobSound f.job) (l : FullLong f) where
   shorts =
       let j = f.job in
       let o = job_oracle j in
-      let p = band_parts j h in
-      let e = ends j.nwpass j.nwstop j.rows (rows_to j h) p.from p.between p.to in
-      let end : Count (row_end j.rows) = subst Count (sym (is_hit _ _ _ (sound_rows j h))) (count_of j.rows (rows_to j h)) in
+      let p = job_bands j h in
+      let t = three_bands j.nwpass j.nwstop j.rows p.most p.from p.between p.to in
+      let pass : Count j.nwpass = count_between (pos 0) j.nwpass j.nwstop t.0 t.1 in
+      let stop : Count j.nwstop = count_between j.nwpass j.nwstop (pos j.rows) t.1 t.2 in
+      let end : Count (row_end j.rows) = subst Count (sym (row_end_is j h)) (count_of j.rows p.most) in
       let c₃ = and_parts _ (is_at o.rr3) h.cursors in
       let c₂ = and_parts (is_at o.rr1) (is_at o.rr2) c₃.0 in
       record {
-        nwpass_count = e.0;
-        nwstop_count = e.1;
-        cur1_short = short_cur j.cur1 (pos 0) j.nwpass (count_of 0 (omega arith)) e.0 c₂.0;
-        cur2_short = short_cur j.cur2 j.nwpass j.nwstop e.0 e.1 c₂.1;
-        cur3_short = short_cur j.cur3 j.nwstop (row_end j.rows) e.1 end c₃.1;
+        nwpass_count = pass;
+        nwstop_count = stop;
+        cur1_short = short_cur j.cur1 (pos 0) j.nwpass (count_of 0 (omega arith)) pass c₂.0;
+        cur2_short = short_cur j.cur2 j.nwpass j.nwstop pass stop c₂.1;
+        cur3_short = short_cur j.cur3 j.nwstop (row_end j.rows) stop end c₃.1;
       }
 
   -- how many rows

@@ -8,6 +8,7 @@ use Rattle.numbers.specs.Pick.{pick}
 use Rattle.numbers.specs.Bits.{le_bytes, word_at}
 use Rattle.numbers.specs.laws.Bits.{word_low}
 use Rattle.numbers.specs.laws.Pick.{is_hit, is_skip, and_parts}
+use Rattle.oracles.specs.RoundRobin.{is_band}
 use Rattle.drivers.specs.Text.{joined}
 use Rattle.drivers.specs.Fields.{short_of, short_bytes}
 use Rattle.drivers.specs.Job.{part_of, signed}
@@ -73,11 +74,11 @@ pub record Count (z : ℤ) : Type 0 where
 pub count_of : (n : ℕ) → n ≤ 1024 → Count (pos n)
 count_of n h = record { from = le-leb 0 n (omega arith); to = le-leb n 1024 h }
 
--- the bands' ends
-pub ends : (p s : ℤ) (rows : ℕ) → rows ≤ 1024 → le_z (pos 0) p ≡ true → le_z p s ≡ true → le_z s (pos rows) ≡ true → Count p × Count s
-ends (negsuc p) s rows m a b d = absurd (true≢false (sym a))
-ends (pos p) (negsuc s) rows m a b d = absurd (true≢false (sym b))
-ends (pos p) (pos s) rows m a b d = let u = leb-true p s b in let w = leb-true s rows d in (count_of p (omega arith), count_of s (omega arith))
+-- where one band ends and the next begins
+pub count_between : (lo z hi : ℤ) → is_band lo z ≡ true → is_band z hi ≡ true → Count z
+count_between lo z hi a b =
+    let low = and_parts _ (le_z hi (pos 1024)) b in
+    record { from = (and_parts (le_z (pos 0) z) (le_z z hi) low.0).0; to = (and_parts _ (le_z z (pos 1024)) a).1 }
 
 pub count_short : (z : ℤ) → Count z → (short_of z < 65536) × (pos (short_of z) ≡ z)
 count_short (negsuc n) h = absurd (true≢false (sym h.from))

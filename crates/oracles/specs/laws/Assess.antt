@@ -1,6 +1,6 @@
 -- Laws of an assessment: what its tests say, and the ways it can go. Assumes nothing.
 use Rattle.numbers.specs.Refusal.{Sound, Tests}
-use Rattle.std.specs.Prelude.{◌≡◌, refl, Bool, true, false, not, ◌&&◌, List, ℕ, ◌*◌, ◌≤◌, leb, eqb, length, get_or, set, replicate, ℤ, pos, negsuc, nat_abs, Float, is_err, Ok, Some, None, Option}
+use Rattle.std.specs.Prelude.{◌≡◌, refl, Bool, true, false, not, ◌&&◌, List, ℕ, ◌*◌, ◌≤◌, eqb, length, get_or, set, replicate, ℤ, pos, negsuc, nat_abs, Float, is_err, Ok, Some, None, Option}
 use Rattle.std.proofs.Common.{sym, ap, true≢false, mul-le-mul_right, le_refl, arith, leb-true, le-leb, eqb-true}
 use Rattle.std.specs.Int.Signed.{le_z}
 use Rattle.std.specs.Float.{nan}
@@ -14,7 +14,8 @@ use Rattle.numbers.specs.laws.Arr.{dimension_least, dimension_most}
 use Rattle.oracles.specs.RoundRobin.{is_at, with_cur}
 use Rattle.oracles.specs.laws.RoundRobin.{eq_z_true, legal_of, Legal}
 use Rattle.oracles.specs.Scan.{−∞, none, scan_of, violated, band_beta, band_gradient, broken_at}
-use Rattle.oracles.specs.Table.{is_rows, table_fits}
+use Rattle.oracles.specs.Table.{table_fits}
+use Rattle.oracles.specs.laws.Bands.{band_parts}
 use Rattle.oracles.specs.laws.ScanRows.{Ready, all_hold}
 use Rattle.oracles.specs.LowpassOracle.{−1ᶠ, has_band, bands_fit, cursors_fit, after_pass, after_stop, after_middle, assess_sign, assess_middle, assess_stop, assess_of, oracle_tests, assess_tests, assess_feas_answer, cut}
 use Rattle.oracles.specs.Verdict.{is_accepted}
@@ -54,16 +55,10 @@ pub record Fit (o : LowpassOracle) (rows : ℕ) : Type 0 where
 
 pub fit_of : (o : LowpassOracle) (rows : ℕ) → bands_fit o rows ≡ true → cursors_fit o ≡ true → Fit o rows
 fit_of o rows b a =
-    let b₃ = and_parts _ (has_band o.rr3 o.nwstop (pos rows)) b in
-    let b₂ = and_parts _ (has_band o.rr2 o.nwpass o.nwstop) b₃.0 in
-    let b₁ = and_parts _ (has_band o.rr1 (pos 0) o.nwpass) b₂.0 in
-    let h₃ = and_parts _ (le_z o.nwstop (pos rows)) b₁.0 in
-    let h₂ = and_parts _ (le_z o.nwpass o.nwstop) h₃.0 in
-    let h₁ = and_parts (is_rows rows) (le_z (pos 0) o.nwpass) h₂.0 in
-    let small = leb-true rows 1024 (and_parts (leb 1 rows) (leb rows 1024) h₁.0).1 in
+    let p = band_parts o rows b in
     let a₃ = and_parts _ (is_at o.rr3) a in
     let a₂ = and_parts (is_at o.rr1) (is_at o.rr2) a₃.0 in
-    let r = go o.nwpass o.nwstop small h₁.1 h₂.1 h₃.1 b₁.1 b₂.1 b₃.1 a₂.0 a₂.1 a₃.1 in
+    let r = go o.nwpass o.nwstop p.most p.from p.between p.to p.pass_cursor p.middle_cursor p.stop_cursor a₂.0 a₂.1 a₃.1 in
     record { pass_rows = r.0; stop_rows = r.1; middle_rows = r.2; pass_high = r.3; middle_high = r.4 }
   where
     go : (p s : ℤ) → rows ≤ 1024 → le_z (pos 0) p ≡ true → le_z p s ≡ true → le_z s (pos rows) ≡ true
