@@ -67,12 +67,14 @@ pub(crate) fn check(
     ask(needed <= room, Refusal::Room)
 }
 
-// Copies the centre to the front of x_best, if there is room.
+// Copies the centre to the front of x_best, if there is room. By the entry: std's `copy_from_slice` is C's `memmove`, a name that the static library would need from outside for it alone.
 pub(crate) fn keep(xc: &[f64], x_best: &mut [f64])
     ensures { x_best.new ≡ kept true xc.now x_best.old }
 {
     if xc.len() <= x_best.len() {
-        x_best[..xc.len()].copy_from_slice(xc);
+        for i in 0..xc.len() {
+            x_best[i] = xc[i];
+        }
     }
 }
 
