@@ -53,6 +53,6 @@ pub fn take_answer(
     // By hand, as in run.rt's `open_job`.
     match read {
         Ok(answer) => Ok(answer),
-        Err(fault) => Err(refused_line(source, fault.why, fault.place, out)),
+        Err(flaw) => Err(refused_line(source, flaw.why, flaw.place, out)),
     }
 }

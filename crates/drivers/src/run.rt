@@ -205,5 +205,9 @@ pub fn open(
         ≡ open_answer bytes.now table.old xc.old mq.old out.old }
 {
     let taken = take_job(Source::Only, bytes, table, xc, mq, out);
-    open_job(taken?, out)
+    // By hand: a text that is lost on the way is then a line that the prover refuses for what it says, and not for a step more.
+    match taken {
+        Ok(job) => open_job(job, out),
+        Err(text) => Err(text),
+    }
 }

@@ -4,10 +4,9 @@ use Rattle.drivers.specs.Trace.{Text}
 use Rattle.drivers.specs.declared.job.Job.{Job}
 use Rattle.std.specs.Prelude.{Result}
 use Prim.Native.Nat.{ℕ}
-use mathlib.Core.Path.{◌≡◌, refl, sym, ap, ◌∙◌}
+use mathlib.Core.Path.{◌≡◌, sym, ap, ◌∙◌}
 use mathlib.Core.List.{List}
 use lib.Ieee.{Float}
-use Rattle.numbers.specs.laws.Refusal.{gone}
 use Rattle.drivers.specs.Input.{with_slices}
 use Rattle.drivers.specs.Run.{opened_taken, open_answer}
 use Rattle.drivers.proofs.run.open.Goals as goal
@@ -19,14 +18,12 @@ from_taken t q r e f =
     ap (with_slices t.1 t.2 t.3) e
     ∙ ap (λ (p : Result Job Text × List Float × List Float × List Float × List ℕ). with_slices p.1 p.2 p.3 (opened_taken p.4 p.0)) f
 
-pub returns-in_err-taken : goal.returns-in_err-taken
+pub returns-in-Ok : goal.returns-in-Ok
 unfolding open_answer
-returns-in_err-taken c =
-    let n = c.take_job-taken.new in
-    from_taken (c.take_job-taken.result, n.table, n.xc, n.mq, n.out) _ _ (ap (λ (r : Result Run Text). (r, n.out)) (gone c.from_residual.ensures.1 refl) ∙ ap (opened_taken n.out) (sym c.in_err-taken.was))
-    c.take_job-taken.ensures
+returns-in-Ok c =
+    from_taken _ _ _ (c.open_job.ensures ∙ ap (opened_taken _) (sym c.in-Ok.is)) c.take_job-taken.ensures
 
-pub returns : goal.returns
+pub returns-in-Err : goal.returns-in-Err
 unfolding open_answer
-returns c =
-    from_taken _ _ _ (c.open_job.ensures ∙ ap (opened_taken _) (sym c.in_ok-taken.was)) c.take_job-taken.ensures
+returns-in-Err c =
+    from_taken _ _ _ (ap (opened_taken _) (sym c.in-Err.is)) c.take_job-taken.ensures
