@@ -70,9 +70,8 @@ pub fn assess_feas(
     dimension(n)?;
     let size = m * m;
     let matrices = (mat_b.len() == size) & (mat_f.len() == n * size);
-    lengths(
-        matrices & (xc.len() == n) & (storage.len() == size) & (wit.len() == m) & (grad.len() == n),
-    )?;
+    let fit = matrices & (xc.len() == n) & (storage.len() == size);
+    lengths(fit & (wit.len() == m) & (grad.len() == n))?;
     let lmi = Lmi {
         m,
         mat_b,
