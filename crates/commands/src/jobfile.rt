@@ -1,8 +1,13 @@
 // The program `jobfile`: its arguments, its inputs, and its commands. `JobfileRan` says what is handed over.
 ghost use Rattle.std.specs.Prelude.{◌≡◌, ◌*◌, ◌≤◌, length, take};
+ghost use Rattle.streams.specs.Input.{Within, of_read};
+ghost use Rattle.commands.specs.Output.{nothing_written, Writes};
+ghost use Rattle.commands.specs.Answer.{answer_written};
+ghost use Rattle.commands.specs.Belongs.{judged_written};
+ghost use Rattle.commands.specs.File.{file_written};
 ghost use Rattle.commands.specs.Jobfile.{Wrote, JobfileRan};
 ghost use Rattle.commands.specs.declared.arguments.Command.TheVariants.{Answer, Belongs, File, Usage};
-ghost use Rattle.commands.specs.laws.Jobfile.{Writing, Judged, JobJudged};
+ghost use Rattle.commands.specs.laws.Jobfile.{Writing, Judged, JobJudged, FileJudged};
 
 use crate::answer::answer_job;
 use crate::arguments::{Command, Limits, command_of};
@@ -30,13 +35,40 @@ fn print_usage<W: Sink, E: Write>(console: &mut Console<'_, W, E>)
 
 // Four functions read and then go on, each with other slices: one function for them would take a closure, and its contract would be longer than their bodies.
 // Their inputs are in fixed memory, since there is no heap.
+// What each makes of what was read, if it could be read, is a function of its own (`answer_read` and its like), to which the bytes and the read's answer are handed: its contract speaks of just these, where
+// that of the one which reads can say only that there are some. The two go side by side, with the fact that the count lies within: a struct of them would be made and opened at each.
+fn answer_read<W: Sink, E: Write>(
+    console: &mut Console<'_, W, E>,
+    bytes: &[u8],
+    read: Option<usize>,
+)
+    requires { Within read (length bytes.now) }
+    ensures { Writes W.Sink console.old console.new (of_read read bytes.now answer_written nothing_written) }
+{
+    if let Some(count) = read {
+        answer_job(console, &bytes[..count]);
+    }
+}
+
 fn run_answer<I: Read, W: Sink, E: Write>(input: &mut I, console: &mut Console<'_, W, E>)
     ensures { Writing W.Sink console.old console.new (Wrote Answer) }
 {
     let mut bytes = [0u8; INPUT_ROOM];
     let read = console.read_all(input, b"standard input", &mut bytes);
+    answer_read(console, &bytes, read);
+}
+
+fn file_read<W: Sink, E: Write>(
+    console: &mut Console<'_, W, E>,
+    bytes: &[u8],
+    read: Option<usize>,
+    limits: Limits,
+)
+    requires { Within read (length bytes.now) }
+    ensures { Writes W.Sink console.old console.new (of_read read bytes.now (file_written limits) nothing_written) }
+{
     if let Some(count) = read {
-        answer_job(console, &bytes[..count]);
+        file_job(console, &bytes[..count], limits);
     }
 }
 
@@ -49,12 +81,26 @@ fn run_file<I: Read, W: Sink, E: Write>(
 {
     let mut bytes = [0u8; INPUT_ROOM];
     let read = console.read_all(input, b"standard input", &mut bytes);
-    if let Some(count) = read {
-        file_job(console, &bytes[..count], limits);
-    }
+    file_read(console, &bytes, read, limits);
 }
 
 // ---- belongs
+
+fn judge_read<W: Sink, E: Write>(
+    console: &mut Console<'_, W, E>,
+    taken: SoundJob,
+    buffers: &mut Buffers,
+    bytes: &[u8],
+    read: Option<usize>,
+)
+    requires { Within read (length bytes.now) }
+    ensures { Writes W.Sink console.old console.new (let job = taken.job in of_read read bytes.now
+        (judged_written job (take (job.rows * job.n) buffers.old.table) (take job.n buffers.old.xc)) nothing_written) }
+{
+    if let Some(count) = read {
+        judge_answer(console, taken, buffers, &bytes[..count]);
+    }
+}
 
 // The answer's file is looked at when the job has been taken.
 fn judge_file<R: Files + Env, W: Sink, E: Write>(
@@ -67,9 +113,7 @@ fn judge_file<R: Files + Env, W: Sink, E: Write>(
 {
     let mut bytes = [0u8; INPUT_ROOM];
     let read = console.read_argument(rt, 3, &mut bytes);
-    if let Some(count) = read {
-        judge_answer(console, taken, buffers, &bytes[..count]);
-    }
+    judge_read(console, taken, buffers, &bytes, read);
 }
 
 fn belongs_job<R: Files + Env, W: Sink, E: Write>(
@@ -86,14 +130,26 @@ fn belongs_job<R: Files + Env, W: Sink, E: Write>(
     }
 }
 
+fn belongs_read<R: Files + Env, W: Sink, E: Write>(
+    rt: &R,
+    console: &mut Console<'_, W, E>,
+    bytes: &[u8],
+    read: Option<usize>,
+)
+    requires { Within read (length bytes.now) }
+    ensures { Writing W.Sink console.old console.new (FileJudged read bytes.now) }
+{
+    if let Some(count) = read {
+        belongs_job(rt, console, &bytes[..count]);
+    }
+}
+
 fn run_belongs<R: Files + Env, W: Sink, E: Write>(rt: &R, console: &mut Console<'_, W, E>)
     ensures { Writing W.Sink console.old console.new (Wrote Belongs) }
 {
     let mut bytes = [0u8; INPUT_ROOM];
     let read = console.read_argument(rt, 2, &mut bytes);
-    if let Some(count) = read {
-        belongs_job(rt, console, &bytes[..count]);
-    }
+    belongs_read(rt, console, &bytes, read);
 }
 
 // ---- the program

@@ -1,5 +1,5 @@
 -- The text of a run (document 01, "The program `filterrun`"): a line for each cut, then the answer, or one line that refuses the job. Definitions only.
-use Rattle.std.specs.Prelude.{ℕ, Bool, true, false, List, [], ◌∷◌, ◌++◌, length, Some, None, Result, Ok, Err}
+use Rattle.std.specs.Prelude.{ℕ, Bool, true, false, List, [], ◌∷◌, ◌++◌, length, take, Some, None, Result, Ok, Err}
 use Rattle.numbers.specs.Pick.{pick}
 use Rattle.numbers.specs.Bits.{bits_of}
 use Rattle.numbers.specs.Refusal.{refusal_number, unless, Tests}
@@ -96,6 +96,11 @@ Text = Result ℕ Refusal
 -- a text at the front of `out`, and its length
 unfoldable pub printed : List ℕ → List ℕ → Text × List ℕ
 printed text out = unless (text_room out) (λ why place. (Err why, out)) (Ok (length text), over out 0 text)
+
+-- the text that a call has put at the front of `out`
+abbrev pub text_in : Text → List ℕ → List ℕ
+text_in (Ok n) out = take n out
+text_in (Err why) out = []
 
 -- `refused_line`
 abbrev pub refused_line_answer : Source → Refusal → ℕ → List ℕ → Text × List ℕ

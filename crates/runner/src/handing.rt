@@ -1,5 +1,5 @@
 // Texts at the front of a slice, handed over.
-ghost use Rattle.drivers.specs.laws.Trace.{text_in};
+ghost use Rattle.drivers.specs.Trace.{text_in};
 ghost use Rattle.std.specs.Prelude.{take};
 ghost use Rattle.streams.specs.Output.{Hands};
 

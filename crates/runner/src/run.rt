@@ -1,12 +1,13 @@
 // A job from standard input is run by the steps of `cutting_plane_feas` (`Run::next`), and the text of each is handed to standard output as it comes.
-ghost use Rattle.std.specs.Prelude.{◌≡◌, ◌*◌, take, replicate};
+ghost use Rattle.std.specs.Prelude.{◌≡◌, [], ◌*◌, length, take, replicate};
 ghost use Rattle.oracles.specs.Ell.{ell_buffers};
 ghost use Rattle.numbers.specs.F64.{0ᶠ};
 ghost use Rattle.drivers.specs.Run.{next_answer};
+ghost use Rattle.drivers.specs.Trace.{text_in};
 ghost use Rattle.drivers.specs.Program.{program_text};
 ghost use Rattle.drivers.specs.laws.Program.{RunHeld};
-ghost use Rattle.drivers.specs.laws.Trace.{text_in};
 ghost use Rattle.drivers.specs.laws.Calls.{run_all_answer, run_all_text};
+ghost use Rattle.streams.specs.Input.{Within, of_read};
 ghost use Rattle.streams.specs.Output.{Hands, HandedOver};
 ghost use Rattle.streams.specs.declared.output.Stream.TheVariants.{Stdout};
 ghost use Rattle.runner.specs.Run.{Ran};
@@ -117,6 +118,17 @@ pub fn run_input<W: Sink, E: Write>(output: &mut W, errors: &mut E, bytes: &[u8]
     console.end()
 }
 
+// Runs the job that was read, if the input could be read. The contract speaks of just these bytes and this answer of the read, where `Ran` can say only that there are some. `answer_read` of commands has
+// this frame too: one function for both would take the work as a closure, whose contract would be longer than these lines.
+fn run_read<W: Sink, E: Write>(console: &mut Console<'_, W, E>, bytes: &[u8], read: Option<usize>)
+    requires { Within read (length bytes.now) }
+    ensures { Hands W.Sink console.old console.new Stdout (of_read read bytes.now program_text []) }
+{
+    if let Some(count) = read {
+        run_bytes(console, &bytes[..count]);
+    }
+}
+
 // Runs the job that stands on standard input.
 pub fn run_stdin<R: Read, W: Sink, E: Write>(
     input: &mut R,
@@ -125,12 +137,10 @@ pub fn run_stdin<R: Read, W: Sink, E: Write>(
 ) -> Handed
     ensures { Ran W.Sink output.old output.new result }
 {
-    let mut console = Console::new(output, errors);
+    let mut writers = Console::new(output, errors);
     // fixed memory (buffers.rt)
     let mut bytes = [0u8; INPUT_ROOM];
-    let read = console.read_all(input, b"standard input", &mut bytes);
-    if let Some(count) = read {
-        run_bytes(&mut console, &bytes[..count]);
-    }
-    console.end()
+    let read = writers.read_all(input, b"standard input", &mut bytes);
+    run_read(&mut writers, &bytes, read);
+    writers.end()
 }

@@ -1,5 +1,5 @@
 -- Laws of Answer: the driver's answer over a job's slices is the record that the command writes. Assumes nothing.
-use Rattle.drivers.specs.Trace.{Text}
+use Rattle.drivers.specs.Trace.{Text, text_in}
 use Rattle.std.specs.Prelude.{ℕ, ◌*◌, ◌≤◌, ◌≡◌, true, List, [], length, take, replicate, Float, Err, Ok, Result}
 use Rattle.std.proofs.Common.{sym, ap, ◌∙◌, take_all, arith}
 use Rattle.numbers.specs.F64.{0ᶠ}
@@ -14,7 +14,6 @@ use Rattle.drivers.specs.CuttingPlaneFeas.{feas_run, is_found, feas_answer}
 use Rattle.drivers.specs.Record.{fronted}
 use Rattle.drivers.specs.Job.{FullJob, job_oracle, full_job_at, job_walk, full_job}
 use Rattle.drivers.specs.Input.{take_job_answer}
-use Rattle.drivers.specs.laws.Trace.{text_in}
 use Rattle.drivers.specs.Answer.{answer_bytes}
 use Rattle.drivers.specs.Program.{first_state}
 use Rattle.drivers.specs.laws.Job.{JobSound}

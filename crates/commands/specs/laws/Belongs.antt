@@ -1,6 +1,6 @@
 -- Laws of Belongs: what `belongs` answers of the slices is what the definition says of the bytes. Assumes nothing.
 use Rattle.numbers.specs.declared.refusal.Refusal.{Refusal}
-use Rattle.drivers.specs.Trace.{Text}
+use Rattle.drivers.specs.Trace.{Text, text_in}
 use Rattle.std.specs.Prelude.{ℕ, ◌*◌, ◌≤◌, ◌≡◌, refl, Bool, false, ◌&&◌, length, take, Float, Err, Ok, Result}
 use Rattle.std.proofs.Common.{sym, ◌∙◌}
 use Rattle.std.proofs.Math.Path.{ap}
@@ -22,7 +22,6 @@ use Rattle.drivers.specs.Job.{job_oracle}
 use Rattle.drivers.specs.Answer.{has_point, answer_at, point_at, answer_walk}
 use Rattle.drivers.specs.Belongs.{feasible_for, is_of, belongs_tests, belongs_answer}
 use Rattle.drivers.specs.Input.{take_answer_answer}
-use Rattle.drivers.specs.laws.Trace.{text_in}
 use Rattle.drivers.specs.laws.Job.{JobSound}
 use Rattle.drivers.specs.laws.JobRuns.{front_is}
 use Rattle.drivers.specs.declared.answer.Answer.{Answer}

@@ -25,18 +25,23 @@ pub record Writing {W E : Type 0} (sink : Ghosts W) (before after : Console W E)
 pub data Judged (j : Job) (table x : List Float) : Written → Type 0 where
   of_answer : (read : Option ℕ) (bytes : List ℕ) → ReadInto read bytes → Judged j table x (of_read read bytes (judged_written j table x) nothing_written)
 
--- .. and of its bytes
+-- .. of its bytes ..
 pub data JobJudged (job : List ℕ) : Written → Type 0 where
   of_both : (read : Option ℕ) (bytes : List ℕ) → ReadInto read bytes → JobJudged job (belongs_written job read bytes)
 
--- .. and then of its file
-module _ (read : Option ℕ) (bytes : List ℕ) (i : ReadInto read bytes) where
-  pub of_job_file : (count : ℕ) → read ≡ Some count → (w : Written) → JobJudged (take count bytes) w → Wrote Belongs w
-  of_job_file count e w (of_both read' bytes' i') =
-      subst (λ (z : Option ℕ). Wrote Belongs (of_read z bytes (λ job. belongs_written job read' bytes') nothing_written)) e (judged read bytes i read' bytes' i')
+-- .. and of what was read of its file
+pub data FileJudged (read : Option ℕ) (bytes : List ℕ) : Written → Type 0 where
+  of_files : (read' : Option ℕ) (bytes' : List ℕ) → ReadInto read' bytes' → FileJudged read bytes (of_read read bytes (λ job. belongs_written job read' bytes') nothing_written)
 
-  pub unread_file : read ≡ None → Wrote Belongs nothing_written
-  unread_file e = subst (λ (z : Option ℕ). Wrote Belongs (of_read z bytes (λ job. belongs_written job None input_room) nothing_written)) e (judged read bytes i None input_room read_none)
+pub of_file : (read : Option ℕ) (bytes : List ℕ) → ReadInto read bytes → (w : Written) → FileJudged read bytes w → Wrote Belongs w
+of_file read bytes i w (of_files read' bytes' i') = judged read bytes i read' bytes' i'
+
+pub of_job_file : (read : Option ℕ) (bytes : List ℕ) (count : ℕ) → read ≡ Some count → (w : Written) → JobJudged (take count bytes) w → FileJudged read bytes w
+of_job_file read bytes count e w (of_both read' bytes' i) =
+    subst (λ (z : Option ℕ). FileJudged z bytes (belongs_written (take count bytes) read' bytes')) (sym e) (of_files read' bytes' i)
+
+pub unread_file : (read : Option ℕ) (bytes : List ℕ) → read ≡ None → FileJudged read bytes nothing_written
+unread_file read bytes e = subst (λ (z : Option ℕ). FileJudged z bytes nothing_written) (sym e) (of_files None input_room read_none)
 
 pub of_judged : (job : List ℕ) (j : Job) (table x : List Float) → ((read : Option ℕ) (bytes : List ℕ) → of_read read bytes (judged_written j table x) nothing_written ≡ belongs_written job read bytes)
     → (w : Written) → Judged j table x w → JobJudged job w

@@ -18,12 +18,11 @@ use Rattle.drivers.specs.Record.{fronted, numbers_at, number_at, place}
 use Rattle.drivers.specs.Rules.{found_place}
 use Rattle.drivers.specs.Job.{full_job, job_fault}
 use Rattle.drivers.specs.Answer.{answer_at, point_at, has_point, answer_walk, answer_fault, point_room}
-use Rattle.drivers.specs.Trace.{refused_text, printed, refused_line_answer, Text}
+use Rattle.drivers.specs.Trace.{refused_text, printed, refused_line_answer, Text, text_in}
 use Rattle.drivers.specs.Input.{input_tests, with_slices, job_refused, take_job_tests, take_job_answer, answer_refused, take_answer_tests, take_answer_answer}
 use Rattle.drivers.specs.laws.Input.{own_faults, last_held}
 use Rattle.drivers.specs.laws.Job.{JobSound, n_to, rows_to}
 use Rattle.drivers.specs.laws.JobRuns.{JobHeld, tests_held}
-use Rattle.drivers.specs.laws.Trace.{text_in}
 use Rattle.drivers.specs.laws.Program.{printed_front}
 use Rattle.drivers.specs.declared.answer.Answer.{Answer}
 use Rattle.drivers.specs.declared.job.Job.{Job}

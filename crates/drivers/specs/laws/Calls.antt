@@ -13,7 +13,8 @@ use Rattle.oracles.specs.Ell.{EllBuffers}
 use Rattle.drivers.specs.Run.{step_printed, limit_printed, next_tests, next_answer}
 use Rattle.drivers.specs.declared.run.Run.{Run}
 use Rattle.drivers.specs.declared.run.Printed.{Printed}
-use Rattle.drivers.specs.laws.Trace.{text_in, printed_by}
+use Rattle.drivers.specs.Trace.{text_in}
+use Rattle.drivers.specs.laws.Trace.{printed_by}
 
 -- what a call leaves: its answer, the slices and the text
 abbrev pub CallEnd : Type 0

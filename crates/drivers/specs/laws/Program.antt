@@ -15,11 +15,11 @@ use Rattle.drivers.specs.Record.{fronted}
 use Rattle.drivers.specs.Job.{FullJob, job_oracle, options_of, job_at, full_job_at, job_walk, full_job, job_fault}
 use Rattle.drivers.specs.laws.Job.{JobSound, sound_job}
 use Rattle.drivers.specs.laws.Input.{room_for_all, own_faults}
-use Rattle.drivers.specs.Trace.{refused_text, text_room, printed, Text}
+use Rattle.drivers.specs.Trace.{refused_text, text_room, printed, Text, text_in}
 use Rattle.drivers.specs.Input.{input_tests, with_slices, take_job_tests, take_job_answer}
 use Rattle.drivers.specs.Run.{new_run_answer, opened_run, opened_taken, run_text, open_answer}
 use Rattle.numbers.specs.laws.Over.{front_over}
-use Rattle.drivers.specs.laws.Trace.{calls_print, text_in, printed_by}
+use Rattle.drivers.specs.laws.Trace.{calls_print, printed_by}
 use Rattle.drivers.specs.laws.Calls.{calls_enough, run_all_text}
 use Rattle.drivers.specs.laws.JobRuns.{JobHeld, FullLong, full_long, room_held, tests_held, held_slices, job_run, job_run_sound, run_made, front_is}
 use Rattle.drivers.specs.Program.{first_state, job_text, program_text}

@@ -26,7 +26,7 @@ use Rattle.oracles.specs.declared.lowpass_oracle.Group.{Group}
 use Rattle.oracles.specs.declared.lowpass_oracle.Group.TheVariants.{Pass, Stop, Middle, Sign}
 use Rattle.drivers.specs.Text.{joined, hex}
 use Rattle.drivers.specs.laws.Text.{length_decimal, length_hex, most_more, most_on, most_none, put_front, joined_append, joined_none, put_all}
-use Rattle.drivers.specs.Trace.{group_word, row_text, side_word, beta_pieces, status_word, answer_pieces, outcome_word, last_pieces, ended_pieces, source_word, refused_text, text_room, printed, step_text, Text}
+use Rattle.drivers.specs.Trace.{group_word, row_text, side_word, beta_pieces, status_word, answer_pieces, outcome_word, last_pieces, ended_pieces, source_word, refused_text, text_room, printed, step_text, text_in}
 use Rattle.drivers.specs.declared.trace.Source.{Source}
 use Rattle.drivers.specs.declared.trace.Source.TheVariants.{Only, Job, Answer as OfAnswer}
 use Rattle.drivers.specs.Run.{run_state, run_at, step_printed, limit_printed, next_tests, next_answer, run_text}
@@ -49,11 +49,6 @@ cut_lines rows table tolerance (suc left) k s =
 -- what a run has still to print
 abbrev pub text_left : Run → List Float → EllBuffers → List Float → List ℕ
 text_left run table b grad = run_text run.rows table run.options.tolerance (run.options.max_iters - run.niter) run.niter (run_state run b grad)
-
--- the text that a call has put at the front of `out`
-abbrev pub text_in : Text → List ℕ → List ℕ
-text_in (Ok n) out = take n out
-text_in (Err why) out = []
 
 -- what so many calls of `next` print, one after the other, while there is more
 unfoldable pub printed_by : ℕ → Run → List Float → EllBuffers → List Float → List ℕ → List ℕ
