@@ -27,6 +27,12 @@ struct Drivers;
 
 // The operations are numbers here as in docs/LISTS.md, so that the match reads as its table.
 impl Replay for Drivers {
+    type Rooms = Rooms;
+
+    fn rooms() -> Rooms {
+        Rooms::new()
+    }
+
     fn replay(
         &self,
         inputs: &Inputs<'_>,

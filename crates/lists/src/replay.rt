@@ -5,29 +5,33 @@ ghost use Rattle.lists.specs.Tally.{none_differ};
 use crate::inputs::Inputs;
 use crate::pushes::Got;
 use crate::report::Report;
-use crate::rooms::{Room, Rooms, fill};
+use crate::rooms::{Room, fill};
 use crate::tally::Unreplayed;
 use std::io::{Read, Write};
 
 // A layer's calls. A trait and no closure, of which a caller would have to show that it may be called.
 pub trait Replay {
+    // As many rooms as its calls write, since each is half a mebibyte of the stack. The type is the layer's, so that the trait does not say what is in them at first.
+    type Rooms: Drop;
+
+    fn rooms() -> Self::Rooms;
+
     // Makes the case's call, and gives its answer's words. What is read, what is scratch and what is written stay three: most functions below it take one or two of them.
     fn replay(
         &self,
         inputs: &Inputs<'_>,
-        rooms: &mut Rooms,
+        rooms: &mut Self::Rooms,
         got: &mut Got,
     ) -> Result<(), Unreplayed>;
 }
 
-// The rooms of a replay: the words of a case, the same as floats, what is expected, and what came.
+// The rooms of a replay, beside those of its layer: the words of a case, the same as floats, what is expected, and what came.
 #[derive(Drop)]
 struct Buffers {
     inputs: [u8; 524288],
     floats: Room,
     expected: [u8; 524288],
     got: Got,
-    rooms: Rooms,
 }
 
 // Replays the next case; whether there was one.
@@ -35,6 +39,7 @@ fn replay_next<R: Read, W: Write, L: Replay>(
     report: &mut Report<W>,
     input: &mut R,
     buffers: &mut Buffers,
+    rooms: &mut L::Rooms,
     layer: &L,
 ) -> bool {
     let next = report.take_case(input, &mut buffers.inputs, &mut buffers.expected);
@@ -49,7 +54,7 @@ fn replay_next<R: Read, W: Write, L: Replay>(
         bytes: &buffers.inputs,
         floats: &buffers.floats,
     };
-    let replayed = layer.replay(&inputs, &mut buffers.rooms, &mut buffers.got);
+    let replayed = layer.replay(&inputs, rooms, &mut buffers.got);
     let len = buffers.got.len;
     report.judge(
         case,
@@ -76,18 +81,11 @@ pub fn replay_list<R: Read, W: Write, L: Replay>(
             bytes: [0; 524288],
             len: 0,
         },
-        rooms: Rooms {
-            a: [0.0; 65536],
-            b: [0.0; 65536],
-            c: [0.0; 65536],
-            d: [0.0; 65536],
-            e: [0.0; 65536],
-            f: [0.0; 65536],
-        },
     };
+    let mut rooms = L::rooms();
     for position in 1..u64::MAX {
         report.position = position;
-        if !replay_next(report, input, &mut buffers, layer) {
+        if !replay_next(report, input, &mut buffers, &mut rooms, layer) {
             break;
         }
     }

@@ -2,7 +2,7 @@
 // before the call, and the answer begins with the refusal's number, 0 for none.
 use lists::inputs::{Inputs, Span, fit};
 use lists::pushes::Got;
-use lists::rooms::{Rooms, front};
+use lists::rooms::{Room, front};
 use lists::tally::Unreplayed;
 use numbers::arr::{copy_from, dot, dot_mv_into, eye, from_diag};
 use numbers::refusal::Refusal;
@@ -72,7 +72,7 @@ fn call_written(inputs: &Inputs<'_>, p: Places, out: &mut [f64]) -> Result<(), R
 
 pub(crate) fn replay_array(
     inputs: &Inputs<'_>,
-    rooms: &mut Rooms,
+    room: &mut Room,
     got: &mut Got,
 ) -> Result<(), Unreplayed> {
     let p = places_of(inputs);
@@ -81,10 +81,10 @@ pub(crate) fn replay_array(
     if (inputs.op == 2) | (inputs.op == 100) {
         return call_dot(inputs, p, got);
     }
-    inputs.fill(&mut rooms.a, any, p.out);
-    let out = front(&mut rooms.a, p.out.len);
+    inputs.fill(room, any, p.out);
+    let out = front(room, p.out.len);
     let answer = call_written(inputs, p, out);
     got.refusal(any, &answer)?;
-    got.floats(front(&mut rooms.a, p.out.len));
+    got.floats(front(room, p.out.len));
     Ok(())
 }

@@ -10,7 +10,7 @@ use lists::inputs::Inputs;
 use lists::pushes::Got;
 use lists::replay::{Replay, replay_list};
 use lists::report::Report;
-use lists::rooms::Rooms;
+use lists::rooms::Room;
 use lists::tally::Unreplayed;
 
 // The calls of this layer.
@@ -18,15 +18,22 @@ struct Numbers;
 
 // The operations are numbers here as in docs/LISTS.md, so that the match reads as its table.
 impl Replay for Numbers {
+    // None of its calls writes more than one slice.
+    type Rooms = Room;
+
+    fn rooms() -> Room {
+        [0.0; 65536]
+    }
+
     fn replay(
         &self,
         inputs: &Inputs<'_>,
-        rooms: &mut Rooms,
+        room: &mut Room,
         got: &mut Got,
     ) -> Result<(), Unreplayed> {
         match inputs.op {
             1 => replay_root(inputs, got),
-            2..=5 | 100..=104 => replay_array(inputs, rooms, got),
+            2..=5 | 100..=104 => replay_array(inputs, room, got),
             10..=16 => replay_core(inputs, got),
             20..=28 => replay_calc(inputs, got),
             105 => replay_new(inputs, got),

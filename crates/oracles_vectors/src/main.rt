@@ -30,6 +30,12 @@ struct Oracles;
 
 // The operations are numbers here as in docs/LISTS.md, so that the match reads as its table.
 impl Replay for Oracles {
+    type Rooms = Rooms;
+
+    fn rooms() -> Rooms {
+        Rooms::new()
+    }
+
     fn replay(
         &self,
         inputs: &Inputs<'_>,
