@@ -29,10 +29,6 @@ struct Drivers;
 impl Replay for Drivers {
     type Rooms = Rooms;
 
-    fn rooms() -> Rooms {
-        Rooms::new()
-    }
-
     fn replay(
         &self,
         inputs: &Inputs<'_>,
@@ -57,5 +53,13 @@ impl Replay for Drivers {
 // Each program is a crate, whose main names its layer; `replay_list` is all that they do.
 fn main(rt: HostRuntime) {
     let mut report = Report::new(rt.stdout());
-    replay_list(&mut rt.stdin(), &mut report, &Drivers);
+    let mut rooms = Rooms {
+        a: [0.0; 65536],
+        b: [0.0; 65536],
+        c: [0.0; 65536],
+        d: [0.0; 65536],
+        e: [0.0; 65536],
+        f: [0.0; 65536],
+    };
+    replay_list(&mut rt.stdin(), &mut report, &Drivers, &mut rooms);
 }

@@ -11,10 +11,8 @@ use std::io::{Read, Write};
 
 // A layer's calls. A trait and no closure, of which a caller would have to show that it may be called.
 pub trait Replay {
-    // As many rooms as its calls write, since each is half a mebibyte of the stack. The type is the layer's, so that the trait does not say what is in them at first.
+    // As many rooms as its calls write, since each is half a mebibyte of the stack.
     type Rooms: Drop;
-
-    fn rooms() -> Self::Rooms;
 
     // Makes the case's call, and gives its answer's words. What is read, what is scratch and what is written stay three: most functions below it take one or two of them.
     fn replay(
@@ -66,10 +64,12 @@ fn replay_next<R: Read, W: Write, L: Replay>(
 }
 
 // Replays a list to its end, and prints the counts; whether no case differs. A proved loop has to end, so the position bounds it.
+// The rooms are lent, since what is handed back by value is copied on the way where nothing optimizes it.
 pub fn replay_list<R: Read, W: Write, L: Replay>(
     input: &mut R,
     report: &mut Report<W>,
     layer: &L,
+    rooms: &mut L::Rooms,
 ) -> bool
     ensures { result ≡ none_differ report.new.tally }
 {
@@ -82,10 +82,9 @@ pub fn replay_list<R: Read, W: Write, L: Replay>(
             len: 0,
         },
     };
-    let mut rooms = L::rooms();
     for position in 1..u64::MAX {
         report.position = position;
-        if !replay_next(report, input, &mut buffers, &mut rooms, layer) {
+        if !replay_next(report, input, &mut buffers, rooms, layer) {
             break;
         }
     }

@@ -1,7 +1,6 @@
 // Slices by their lengths, the ones that a call writes at the front of a room.
 // What does not fit is an empty slice, so that no index needs a proof; a call is made only where all slices of its case fit.
-ghost use Rattle.std.specs.Prelude.{◌≡◌, replicate};
-ghost use Rattle.numbers.specs.F64.{0ᶠ};
+ghost use Rattle.std.specs.Prelude.{◌≡◌};
 ghost use Rattle.lists.specs.Rooms.{plus_of, times_of, part_of, filled_of};
 
 use crate::words::floats;
@@ -18,28 +17,6 @@ pub struct Rooms {
     pub d: Room,
     pub e: Room,
     pub f: Room,
-}
-
-impl Rooms {
-    pub fn new() -> Rooms
-        ensures { result ≡ record {
-          a = replicate 65536 0ᶠ;
-          b = replicate 65536 0ᶠ;
-          c = replicate 65536 0ᶠ;
-          d = replicate 65536 0ᶠ;
-          e = replicate 65536 0ᶠ;
-          f = replicate 65536 0ᶠ;
-        } }
-    {
-        Rooms {
-            a: [0.0; 65536],
-            b: [0.0; 65536],
-            c: [0.0; 65536],
-            d: [0.0; 65536],
-            e: [0.0; 65536],
-            f: [0.0; 65536],
-        }
-    }
 }
 
 // The sum, at most what 64 bits hold: too long for a case.

@@ -21,10 +21,6 @@ impl Replay for Numbers {
     // None of its calls writes more than one slice.
     type Rooms = Room;
 
-    fn rooms() -> Room {
-        [0.0; 65536]
-    }
-
     fn replay(
         &self,
         inputs: &Inputs<'_>,
@@ -45,5 +41,6 @@ impl Replay for Numbers {
 // Each program is a crate, whose main names its layer; `replay_list` is all that they do.
 fn main(rt: HostRuntime) {
     let mut report = Report::new(rt.stdout());
-    replay_list(&mut rt.stdin(), &mut report, &Numbers);
+    let mut room = [0.0; 65536];
+    replay_list(&mut rt.stdin(), &mut report, &Numbers, &mut room);
 }

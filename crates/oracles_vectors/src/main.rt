@@ -32,10 +32,6 @@ struct Oracles;
 impl Replay for Oracles {
     type Rooms = Rooms;
 
-    fn rooms() -> Rooms {
-        Rooms::new()
-    }
-
     fn replay(
         &self,
         inputs: &Inputs<'_>,
@@ -60,5 +56,13 @@ impl Replay for Oracles {
 // Each program is a crate, whose main names its layer; `replay_list` is all that they do.
 fn main(rt: HostRuntime) {
     let mut report = Report::new(rt.stdout());
-    replay_list(&mut rt.stdin(), &mut report, &Oracles);
+    let mut rooms = Rooms {
+        a: [0.0; 65536],
+        b: [0.0; 65536],
+        c: [0.0; 65536],
+        d: [0.0; 65536],
+        e: [0.0; 65536],
+        f: [0.0; 65536],
+    };
+    replay_list(&mut rt.stdin(), &mut report, &Oracles, &mut rooms);
 }
