@@ -17,7 +17,7 @@ use crate::runs::replay_run;
 use crate::texts::replay_text;
 use lists::inputs::Inputs;
 use lists::pushes::Got;
-use lists::replay::{Replay, replay_list};
+use lists::replay::{ReplayIn, replay_list_in};
 use lists::report::Report;
 use lists::rooms::Rooms;
 use lists::tally::Unreplayed;
@@ -26,7 +26,7 @@ use lists::tally::Unreplayed;
 struct Drivers;
 
 // The operations are numbers here as in docs/LISTS.md, so that the match reads as its table.
-impl Replay for Drivers {
+impl ReplayIn for Drivers {
     type Rooms = Rooms;
 
     fn replay(
@@ -50,7 +50,7 @@ impl Replay for Drivers {
     }
 }
 
-// Each program is a crate, whose main names its layer; `replay_list` is all that they do.
+// Each program is a crate, whose main names its layer; `replay_list_in` is all that they do.
 fn main(rt: HostRuntime) {
     let mut report = Report::new(rt.stdout());
     let mut rooms = Rooms {
@@ -61,5 +61,5 @@ fn main(rt: HostRuntime) {
         e: [0.0; 65536],
         f: [0.0; 65536],
     };
-    replay_list(&mut rt.stdin(), &mut report, &Drivers, &mut rooms);
+    replay_list_in(&mut rt.stdin(), &mut report, &Drivers, &mut rooms);
 }

@@ -5,12 +5,12 @@ ghost use Rattle.lists.specs.Tally.{none_differ};
 use crate::inputs::Inputs;
 use crate::pushes::Got;
 use crate::report::Report;
-use crate::rooms::{Room, fill};
+use crate::rooms::{Room, Rooms, fill};
 use crate::tally::Unreplayed;
 use std::io::{Read, Write};
 
-// A layer's calls. A trait and no closure, of which a caller would have to show that it may be called.
-pub trait Replay {
+// A layer's calls, with the rooms that they write. A trait and no closure, of which a caller would have to show that it may be called.
+pub trait ReplayIn {
     // As many rooms as its calls write, since each is half a mebibyte of the stack.
     type Rooms: Drop;
 
@@ -33,7 +33,7 @@ struct Buffers {
 }
 
 // Replays the next case; whether there was one.
-fn replay_next<R: Read, W: Write, L: Replay>(
+fn replay_next<R: Read, W: Write, L: ReplayIn>(
     report: &mut Report<W>,
     input: &mut R,
     buffers: &mut Buffers,
@@ -65,7 +65,7 @@ fn replay_next<R: Read, W: Write, L: Replay>(
 
 // Replays a list to its end, and prints the counts; whether no case differs. A proved loop has to end, so the position bounds it.
 // The rooms are lent, since what is handed back by value is copied on the way where nothing optimizes it.
-pub fn replay_list<R: Read, W: Write, L: Replay>(
+pub fn replay_list_in<R: Read, W: Write, L: ReplayIn>(
     input: &mut R,
     report: &mut Report<W>,
     layer: &L,
@@ -90,3 +90,55 @@ pub fn replay_list<R: Read, W: Write, L: Replay>(
     }
     report.print_totals()
 }
+
+// A layer's calls, where `Rooms` are what they write. A layer that writes less says so by `ReplayIn`.
+pub trait Replay {
+    // As `ReplayIn::replay`.
+    fn replay(
+        &self,
+        inputs: &Inputs<'_>,
+        rooms: &mut Rooms,
+        got: &mut Got,
+    ) -> Result<(), Unreplayed>;
+}
+
+// Its calls, over such rooms.
+#[derive(Drop)]
+struct InRooms<'a, L> {
+    layer: &'a L,
+}
+
+impl<L: Replay> ReplayIn for InRooms<'_, L> {
+    type Rooms = Rooms;
+
+    fn replay(
+        &self,
+        inputs: &Inputs<'_>,
+        rooms: &mut Rooms,
+        got: &mut Got,
+    ) -> Result<(), Unreplayed> {
+        self.layer.replay(inputs, rooms, got)
+    }
+}
+
+// Replays a list of such a layer. The rooms are made here, 3 MiB of the stack.
+pub fn replay_list<R: Read, W: Write, L: Replay>(
+    input: &mut R,
+    report: &mut Report<W>,
+    layer: &L,
+) -> bool
+    ensures { result ≡ none_differ report.new.tally }
+{
+    let mut rooms = Rooms {
+        a: [0.0; 65536],
+        b: [0.0; 65536],
+        c: [0.0; 65536],
+        d: [0.0; 65536],
+        e: [0.0; 65536],
+        f: [0.0; 65536],
+    };
+    replay_list_in(input, report, &InRooms { layer }, &mut rooms)
+}
+
+#[cfg(test)]
+mod tests;

@@ -8,7 +8,7 @@ use crate::arrays::replay_array;
 use crate::cuts::{replay_calc, replay_core, replay_new, replay_root};
 use lists::inputs::Inputs;
 use lists::pushes::Got;
-use lists::replay::{Replay, replay_list};
+use lists::replay::{ReplayIn, replay_list_in};
 use lists::report::Report;
 use lists::rooms::Room;
 use lists::tally::Unreplayed;
@@ -17,7 +17,7 @@ use lists::tally::Unreplayed;
 struct Numbers;
 
 // The operations are numbers here as in docs/LISTS.md, so that the match reads as its table.
-impl Replay for Numbers {
+impl ReplayIn for Numbers {
     // None of its calls writes more than one slice.
     type Rooms = Room;
 
@@ -38,9 +38,9 @@ impl Replay for Numbers {
     }
 }
 
-// Each program is a crate, whose main names its layer; `replay_list` is all that they do.
+// Each program is a crate, whose main names its layer; `replay_list_in` is all that they do.
 fn main(rt: HostRuntime) {
     let mut report = Report::new(rt.stdout());
     let mut room = [0.0; 65536];
-    replay_list(&mut rt.stdin(), &mut report, &Numbers, &mut room);
+    replay_list_in(&mut rt.stdin(), &mut report, &Numbers, &mut room);
 }

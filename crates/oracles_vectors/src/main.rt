@@ -20,7 +20,7 @@ use crate::scans::replay_scan;
 use crate::verdicts::replay_verdicts;
 use lists::inputs::Inputs;
 use lists::pushes::Got;
-use lists::replay::{Replay, replay_list};
+use lists::replay::{ReplayIn, replay_list_in};
 use lists::report::Report;
 use lists::rooms::Rooms;
 use lists::tally::Unreplayed;
@@ -29,7 +29,7 @@ use lists::tally::Unreplayed;
 struct Oracles;
 
 // The operations are numbers here as in docs/LISTS.md, so that the match reads as its table.
-impl Replay for Oracles {
+impl ReplayIn for Oracles {
     type Rooms = Rooms;
 
     fn replay(
@@ -53,7 +53,7 @@ impl Replay for Oracles {
     }
 }
 
-// Each program is a crate, whose main names its layer; `replay_list` is all that they do.
+// Each program is a crate, whose main names its layer; `replay_list_in` is all that they do.
 fn main(rt: HostRuntime) {
     let mut report = Report::new(rt.stdout());
     let mut rooms = Rooms {
@@ -64,5 +64,5 @@ fn main(rt: HostRuntime) {
         e: [0.0; 65536],
         f: [0.0; 65536],
     };
-    replay_list(&mut rt.stdin(), &mut report, &Oracles, &mut rooms);
+    replay_list_in(&mut rt.stdin(), &mut report, &Oracles, &mut rooms);
 }
