@@ -102,7 +102,7 @@ pub trait Replay {
     ) -> Result<(), Unreplayed>;
 }
 
-// Its calls, over such rooms.
+// A `Replay` as a `ReplayIn`.
 #[derive(Drop)]
 struct InRooms<'a, L> {
     layer: &'a L,

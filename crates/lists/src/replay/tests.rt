@@ -1,12 +1,20 @@
-// A list through `replay_list`, as another crate would call it: what is printed, which no contract says, that the rooms are six and begin as zeros, and that the layer's calls are made over them.
+// A list through `replay_list`, as another crate would call it: what is printed, which no contract says, and that the layer's calls are made over six rooms of zeros.
 use super::*;
 use crate::words::put;
+use numbers::bits::to_bits;
+use std::process::Abort;
 
-// Its one operation answers, for each room, what stands at its end, and what does once an input is put there.
+// Its one operation puts each of six inputs at the end of a room, and answers for each how many numbers of the room were not plus zero, and what then stands at its end.
 struct Six;
 
 fn put_last(room: &mut Room, x: f64, got: &mut Got) {
-    got.float(room[65535]);
+    let mut others = 0u64;
+    for y in room.iter() {
+        if to_bits(*y) != 0 {
+            others = others.wrapping_add(1);
+        }
+    }
+    got.word(others);
     room[65535] = x;
     got.float(room[65535]);
 }
@@ -31,8 +39,8 @@ impl Replay for Six {
     }
 }
 
-// A list of one case, of operation `op`, whose last answer is said to be `last`: how much is printed, and whether no case differs.
-fn replayed(op: u64, last: u64, printed: &mut [u8]) -> (usize, bool) {
+// Replays a list of one case, of operation `op`, whose last answer is said to be `last`: whether none differs, and what is printed.
+fn replays(rt: &impl Abort, op: u64, last: u64, none_differ: bool, text: &[u8]) {
     let mut list = [0u8; 168];
     // the operation; six inputs; twelve answers
     let words = [
@@ -41,45 +49,38 @@ fn replayed(op: u64, last: u64, printed: &mut [u8]) -> (usize, bool) {
     for (k, w) in words.iter().enumerate() {
         put(&mut list, k, *w);
     }
-    let room = printed.len();
+    let mut printed = [0u8; 200];
     let mut input = list.as_slice();
-    let mut report = Report::new(printed);
-    let agrees = replay_list(&mut input, &mut report, &Six);
-    (room.saturating_sub(report.output.len()), agrees)
+    let mut report = Report::new(printed.as_mut_slice());
+    assert_eq!(rt; replay_list(&mut input, &mut report, &Six), none_differ);
+    let left = report.output.len();
+    assert!(rt; left <= 200);
+    assert_eq!(rt; &printed[..200 - left], text);
 }
 
 #[test]
 fn case_agrees(rt: HostRuntime) {
-    let mut printed = [0u8; 100];
-    let (end, agrees) = replayed(1, 16, &mut printed);
-    assert!(rt; agrees);
-    assert!(rt; end <= 100);
-    assert_eq!(rt;
-        &printed[..end],
-        b"1: 1 agree, 0 differ\n1 agree, 0 differ\n".as_slice()
+    replays(
+        &rt,
+        1,
+        16,
+        true,
+        b"1: 1 agree, 0 differ\n1 agree, 0 differ\n",
     );
 }
 
 #[test]
 fn case_differs(rt: HostRuntime) {
-    let mut printed = [0u8; 200];
-    let (end, agrees) = replayed(1, 17, &mut printed);
-    assert!(rt; !agrees);
-    assert!(rt; end <= 200);
-    assert_eq!(rt;
-        &printed[..end],
-        b"case 1, operation 1, word 12: expected 0000000000000011, got 0000000000000010\n1: 0 agree, 1 differ\n0 agree, 1 differ\n".as_slice()
+    replays(
+        &rt,
+        1,
+        17,
+        false,
+        b"case 1, operation 1, word 12: expected 0000000000000011, got 0000000000000010\n1: 0 agree, 1 differ\n0 agree, 1 differ\n",
     );
 }
 
 #[test]
 fn case_unknown(rt: HostRuntime) {
-    let mut printed = [0u8; 100];
-    let (end, agrees) = replayed(2, 16, &mut printed);
-    assert!(rt; agrees);
-    assert!(rt; end <= 100);
-    assert_eq!(rt;
-        &printed[..end],
-        b"unknown: 1\n0 agree, 0 differ\n".as_slice()
-    );
+    replays(&rt, 2, 16, true, b"unknown: 1\n0 agree, 0 differ\n");
 }
